@@ -44,7 +44,8 @@ below_first true one other low first = first
 below_first false one other low first = first
 
 -- an empty block, where no bound rises
-pub rises_here : (sizes : List (ℕ × ℕ)) (any free next_any next_free : ℕ → ℕ) (x : ℕ) → next_any x ≤ any x → next_any x ≤ free x → next_free x ≤ free x → RisesTo sizes any free next_any next_free x x
+pub rises_here : (sizes : List (ℕ × ℕ)) (any free next_any next_free : ℕ → ℕ) (x : ℕ) → next_any x ≤ any x → next_any x ≤ free x
+    → next_free x ≤ free x → RisesTo sizes any free next_any next_free x x
 rises_here sizes any free next_any next_free x any_here kept_here free_here =
     record {
       of_any = λ pe.
@@ -56,7 +57,8 @@ rises_here sizes any free next_any next_free x any_here kept_here free_here =
     }
 
 -- and where one rises it is by more than an empty block brings
-pub none_rises_here : (sizes : List (ℕ × ℕ)) (any free next_any next_free : ℕ → ℕ) (x : ℕ) → RisesTo sizes any free next_any next_free x x → (next_any x ≤ any x) × (next_any x ≤ free x) × (next_free x ≤ free x)
+pub none_rises_here : (sizes : List (ℕ × ℕ)) (any free next_any next_free : ℕ → ℕ) (x : ℕ) → RisesTo sizes any free next_any next_free x x
+    → (next_any x ≤ any x) × (next_any x ≤ free x) × (next_free x ≤ free x)
 none_rises_here sizes any free next_any next_free x rises =
     let own : ℕ = home sizes x in
     let none : (pe : ℕ) → brought sizes x x pe ≡ 0 = λ pe. omega (arith, sum_after (λ size. moved_bytes size pe) sizes x x (omega arith)) in
@@ -71,7 +73,8 @@ none_rises_here sizes any free next_any next_free x rises =
     either false one other low more h = h
 
 -- a block that begins on a level
-rises_before : (sizes : List (ℕ × ℕ)) (any free next_any next_free : ℕ → ℕ) (y x : ℕ) → y + 1 ≤ x → IsLevel sizes any free y → RisesTo sizes any free next_any next_free (y + 1) x → RisesTo sizes any free next_any next_free y x
+rises_before : (sizes : List (ℕ × ℕ)) (any free next_any next_free : ℕ → ℕ) (y x : ℕ) → y + 1 ≤ x → IsLevel sizes any free y
+    → RisesTo sizes any free next_any next_free (y + 1) x → RisesTo sizes any free next_any next_free y x
 rises_before sizes any free next_any next_free y x inside level after =
     record {
       of_any = λ pe.
@@ -85,7 +88,8 @@ rises_before sizes any free next_any next_free y x inside level after =
     }
 
 -- a block that ends on a level
-rises_behind : (sizes : List (ℕ × ℕ)) (any free next_any next_free : ℕ → ℕ) (y x : ℕ) → y ≤ x → IsLevel sizes next_any next_free x → RisesTo sizes any free next_any next_free y x → RisesTo sizes any free next_any next_free y (x + 1)
+rises_behind : (sizes : List (ℕ × ℕ)) (any free next_any next_free : ℕ → ℕ) (y x : ℕ) → y ≤ x → IsLevel sizes next_any next_free x
+    → RisesTo sizes any free next_any next_free y x → RisesTo sizes any free next_any next_free y (x + 1)
 rises_behind sizes any free next_any next_free y x inside level before =
     record {
       of_any = λ pe.
@@ -98,14 +102,20 @@ rises_behind sizes any free next_any next_free y x inside level before =
     }
 
 -- a block that is not empty
-rises_by_test : (sizes : List (ℕ × ℕ)) (any free next_any next_free : ℕ → ℕ) (y x : ℕ) (low high : Bool) → is_level sizes any free y ≡ low → is_level sizes next_any next_free x ≡ high → y ≤ x → RisesTo sizes any free next_any next_free (y + 1) (x + 1) → RisesTo sizes any free next_any next_free y x → (is_level sizes any free y ≡ false → is_level sizes next_any next_free x ≡ false → RisesTo sizes any free next_any next_free y (x + 1)) → RisesTo sizes any free next_any next_free y (x + 1)
+rises_by_test : (sizes : List (ℕ × ℕ)) (any free next_any next_free : ℕ → ℕ) (y x : ℕ) (low high : Bool) → is_level sizes any free y ≡ low
+    → is_level sizes next_any next_free x ≡ high → y ≤ x → RisesTo sizes any free next_any next_free (y + 1) (x + 1)
+    → RisesTo sizes any free next_any next_free y x
+    → (is_level sizes any free y ≡ false → is_level sizes next_any next_free x ≡ false → RisesTo sizes any free next_any next_free y (x + 1))
+    → RisesTo sizes any free next_any next_free y (x + 1)
 rises_by_test sizes any free next_any next_free y x true high low_is high_is inside later earlier ends =
     rises_before sizes any free next_any next_free y (x + 1) (omega arith) (level_is sizes any free y low_is) later
 rises_by_test sizes any free next_any next_free y x false true low_is high_is inside later earlier ends =
     rises_behind sizes any free next_any next_free y x inside (level_is sizes next_any next_free x high_is) earlier
 rises_by_test sizes any free next_any next_free y x false false low_is high_is inside later earlier ends = ends low_is high_is
 
-few : (loads : List ℕ) (sizes : List (ℕ × ℕ)) (limit : ℕ) (any free next_any next_free : ℕ → ℕ) → IsRiseAtCorners loads sizes limit any free next_any next_free → (d y : ℕ) → y + d ≤ length loads → load loads y (y + d) ≤ limit → RisesTo sizes any free next_any next_free y (y + d)
+few : (loads : List ℕ) (sizes : List (ℕ × ℕ)) (limit : ℕ) (any free next_any next_free : ℕ → ℕ)
+    → IsRiseAtCorners loads sizes limit any free next_any next_free → (d y : ℕ) → y + d ≤ length loads → load loads y (y + d) ≤ limit
+    → RisesTo sizes any free next_any next_free y (y + d)
 few loads sizes limit any free next_any next_free looked zero y inside light = subst (λ x. RisesTo sizes any free next_any next_free y x) (sym (add-zero y)) (looked y y (omega arith) (omega arith) (omega (arith, empty_load loads y)) (inl refl))
 few loads sizes limit any free next_any next_free looked (suc d) y inside light =
     let more : y + d + 1 ≡ y + suc d = omega arith in
@@ -120,7 +130,8 @@ few loads sizes limit any free next_any next_free looked (suc d) y inside light 
     (λ low high. looked y (y + d + 1) (omega arith) (omega arith) wide (inr (low, subst (λ x. is_level sizes next_any next_free x ≡ false) (sym before) high))) in
     subst (λ x. RisesTo sizes any free next_any next_free y x) more done
 
-pub few_places : (loads : List ℕ) (sizes : List (ℕ × ℕ)) (limit : ℕ) (any free next_any next_free : ℕ → ℕ) → IsRiseAtCorners loads sizes limit any free next_any next_free → IsRise loads sizes limit any free next_any next_free
+pub few_places : (loads : List ℕ) (sizes : List (ℕ × ℕ)) (limit : ℕ) (any free next_any next_free : ℕ → ℕ)
+    → IsRiseAtCorners loads sizes limit any free next_any next_free → IsRise loads sizes limit any free next_any next_free
 few_places loads sizes limit any free next_any next_free looked y x inside within light =
     let same : y + (x - y) ≡ x = omega arith in
     subst (λ z. RisesTo sizes any free next_any next_free y z) same (few loads sizes limit any free next_any next_free looked (x - y) y (omega arith) (subst (λ z. load loads y z ≤ limit) (sym same) light))

@@ -40,7 +40,8 @@ pub record AreRightBefore {A : Type 0} (loads : List ℕ) (sizes : List (ℕ × 
   pub risen : 29 < n → RisesUpTo (bounded_of loads sizes r) pes
 
 -- so none of the flaws with a lower number applies
-nothing_before : {A : Type 0} (loads : List ℕ) (sizes : List (ℕ × ℕ)) (pes : ℕ) (r : Reordered A) (n : ℕ) → AreRightBefore loads sizes pes r n → n ≤ 30 → (other : ReorderedFlaw) → reordered_flaw_number other < n → ¬ (HasReorderedFlaw loads sizes pes r other)
+nothing_before : {A : Type 0} (loads : List ℕ) (sizes : List (ℕ × ℕ)) (pes : ℕ) (r : Reordered A) (n : ℕ) → AreRightBefore loads sizes pes r n
+    → n ≤ 30 → (other : ReorderedFlaw) → reordered_flaw_number other < n → ¬ (HasReorderedFlaw loads sizes pes r other)
 nothing_before loads sizes pes r n right few (Least flaw) h flawed = flawless loads pes r.least right.least flaw flawed
 nothing_before loads sizes pes r n right few PeCount h (inl none) = absurd (omega (arith, none, right.some_pe h))
 nothing_before loads sizes pes r n right few PeCount h (inr many) = absurd (omega (arith, many, right.few_pes h))
@@ -61,7 +62,8 @@ nothing_before loads sizes pes r n right few (Steep b y x) h (inside, flawed) =
 nothing_before loads sizes pes r n right few Low h flawed = absurd (omega (arith, h, few))
 
 -- a flaw that names no place is the first where none of a lower number applies
-first_by_number : (applies : ReorderedFlaw → Type 0) (flaw : ReorderedFlaw) → reordered_flaw_place flaw ≡ (0, 0, 0) → applies flaw → ((other : ReorderedFlaw) → reordered_flaw_number other < reordered_flaw_number flaw → ¬ (applies other)) → IsFirstReorderedFlaw applies flaw
+first_by_number : (applies : ReorderedFlaw → Type 0) (flaw : ReorderedFlaw) → reordered_flaw_place flaw ≡ (0, 0, 0) → applies flaw
+    → ((other : ReorderedFlaw) → reordered_flaw_number other < reordered_flaw_number flaw → ¬ (applies other)) → IsFirstReorderedFlaw applies flaw
 first_by_number applies flaw e flawed lower =
     record {
       applies_itself = flawed;
@@ -75,7 +77,8 @@ first_by_number applies flaw e flawed lower =
     not_before place (inr (tied, inr (level, lower))) = absurd (omega (arith, lower))
 
 -- the first flaw of the division is the first of all
-pub least_is_first : {A : Type 0} (loads : List ℕ) (sizes : List (ℕ × ℕ)) (pes : ℕ) (r : Reordered A) (flaw : Flaw) → IsFirst (HasFlaw loads pes r.least) flaw → IsFirstReorderedFlaw (HasReorderedFlaw loads sizes pes r) (Least flaw)
+pub least_is_first : {A : Type 0} (loads : List ℕ) (sizes : List (ℕ × ℕ)) (pes : ℕ) (r : Reordered A) (flaw : Flaw)
+    → IsFirst (HasFlaw loads pes r.least) flaw → IsFirstReorderedFlaw (HasReorderedFlaw loads sizes pes r) (Least flaw)
 least_is_first {A} loads sizes pes r flaw first =
     record { applies_itself = first.applies_itself; no_lower_number = lower; no_lower_place = earlier }
   where
@@ -83,14 +86,16 @@ least_is_first {A} loads sizes pes r flaw first =
     lower (Least other) h flawed = first.no_lower_number other h flawed
     lower _ h flawed = absurd (omega (arith, h, division_flaw flaw))
 
-    earlier : (other : ReorderedFlaw) → reordered_flaw_number other ≡ flaw_number flaw → ComesFirst (reordered_flaw_place other) ((flaw_place flaw).0, (flaw_place flaw).1, 0) → ¬ (HasReorderedFlaw loads sizes pes r other)
+    earlier : (other : ReorderedFlaw) → reordered_flaw_number other ≡ flaw_number flaw
+        → ComesFirst (reordered_flaw_place other) ((flaw_place flaw).0, (flaw_place flaw).1, 0) → ¬ (HasReorderedFlaw loads sizes pes r other)
     earlier (Least other) same (inl lower) flawed = first.no_lower_place other same (inl lower) flawed
     earlier (Least other) same (inr (tied, inl lower)) flawed = first.no_lower_place other same (inr (tied, lower)) flawed
     earlier (Least other) same (inr (tied, inr (level, lower))) flawed = absurd (omega (arith, lower))
     earlier _ same before flawed = absurd (omega (arith, same, division_flaw flaw))
 
 -- each flaw of the order is the first, where all that is looked at before it is right
-pub pe_count_is_first : {A : Type 0} (loads : List ℕ) (sizes : List (ℕ × ℕ)) (pes : ℕ) (r : Reordered A) → IsCertified loads pes r.least → (pes ≡ 0) ⊎ (PES < pes) → IsFirstReorderedFlaw (HasReorderedFlaw loads sizes pes r) PeCount
+pub pe_count_is_first : {A : Type 0} (loads : List ℕ) (sizes : List (ℕ × ℕ)) (pes : ℕ) (r : Reordered A) → IsCertified loads pes r.least
+    → (pes ≡ 0) ⊎ (PES < pes) → IsFirstReorderedFlaw (HasReorderedFlaw loads sizes pes r) PeCount
 pe_count_is_first loads sizes pes r least wrong =
     first_by_number (HasReorderedFlaw loads sizes pes r) PeCount refl wrong (nothing_before loads sizes pes r 20 (record {
       least = least;
@@ -107,7 +112,9 @@ pe_count_is_first loads sizes pes r least wrong =
       risen = λ h. absurd (omega (arith, h));
     }) (omega arith))
 
-right_to_names : {A : Type 0} (loads : List ℕ) (sizes : List (ℕ × ℕ)) (pes : ℕ) (r : Reordered A) (n : ℕ) → n ≤ 23 → IsCertified loads pes r.least → 0 < pes → pes ≤ PES → (21 < n → length r.names ≡ pes) → (22 < n → (b : ℕ) → b < length r.names → slice_index r.names b < pes) → AreRightBefore loads sizes pes r n
+right_to_names : {A : Type 0} (loads : List ℕ) (sizes : List (ℕ × ℕ)) (pes : ℕ) (r : Reordered A) (n : ℕ) → n ≤ 23 → IsCertified loads pes r.least
+    → 0 < pes → pes ≤ PES → (21 < n → length r.names ≡ pes) → (22 < n → (b : ℕ) → b < length r.names → slice_index r.names b < pes)
+    → AreRightBefore loads sizes pes r n
 right_to_names loads sizes pes r n few least some_pe few_pes named below =
     record {
       least = least;
@@ -124,22 +131,29 @@ right_to_names loads sizes pes r n few least some_pe few_pes named below =
       risen = λ h. absurd (omega (arith, h));
     }
 
-pub name_count_is_first : {A : Type 0} (loads : List ℕ) (sizes : List (ℕ × ℕ)) (pes : ℕ) (r : Reordered A) → IsCertified loads pes r.least → 0 < pes → pes ≤ PES → length r.names ≢ pes → IsFirstReorderedFlaw (HasReorderedFlaw loads sizes pes r) NameCount
+pub name_count_is_first : {A : Type 0} (loads : List ℕ) (sizes : List (ℕ × ℕ)) (pes : ℕ) (r : Reordered A) → IsCertified loads pes r.least → 0 < pes
+    → pes ≤ PES → length r.names ≢ pes → IsFirstReorderedFlaw (HasReorderedFlaw loads sizes pes r) NameCount
 name_count_is_first loads sizes pes r least some few wrong =
     let right = right_to_names loads sizes pes r 21 (omega arith) least some few (λ h. absurd (omega (arith, h))) (λ h. absurd (omega (arith, h))) in
     first_by_number (HasReorderedFlaw loads sizes pes r) NameCount refl wrong (nothing_before loads sizes pes r 21 right (omega arith))
 
-pub name_range_is_first : {A : Type 0} (loads : List ℕ) (sizes : List (ℕ × ℕ)) (pes : ℕ) (r : Reordered A) → IsCertified loads pes r.least → 0 < pes → pes ≤ PES → length r.names ≡ pes → (b : ℕ) × (b < length r.names) × (pes ≤ slice_index r.names b) → IsFirstReorderedFlaw (HasReorderedFlaw loads sizes pes r) NameRange
+pub name_range_is_first : {A : Type 0} (loads : List ℕ) (sizes : List (ℕ × ℕ)) (pes : ℕ) (r : Reordered A) → IsCertified loads pes r.least → 0 < pes
+    → pes ≤ PES → length r.names ≡ pes → (b : ℕ) × (b < length r.names) × (pes ≤ slice_index r.names b)
+    → IsFirstReorderedFlaw (HasReorderedFlaw loads sizes pes r) NameRange
 name_range_is_first loads sizes pes r least some few named wrong =
     let right = right_to_names loads sizes pes r 22 (omega arith) least some few (λ _. named) (λ h. absurd (omega (arith, h))) in
     first_by_number (HasReorderedFlaw loads sizes pes r) NameRange refl wrong (nothing_before loads sizes pes r 22 right (omega arith))
 
-pub name_twice_is_first : {A : Type 0} (loads : List ℕ) (sizes : List (ℕ × ℕ)) (pes : ℕ) (r : Reordered A) → IsCertified loads pes r.least → 0 < pes → pes ≤ PES → length r.names ≡ pes → ((b : ℕ) → b < length r.names → slice_index r.names b < pes) → Repeats r.names → IsFirstReorderedFlaw (HasReorderedFlaw loads sizes pes r) NameTwice
+pub name_twice_is_first : {A : Type 0} (loads : List ℕ) (sizes : List (ℕ × ℕ)) (pes : ℕ) (r : Reordered A) → IsCertified loads pes r.least → 0 < pes
+    → pes ≤ PES → length r.names ≡ pes → ((b : ℕ) → b < length r.names → slice_index r.names b < pes) → Repeats r.names
+    → IsFirstReorderedFlaw (HasReorderedFlaw loads sizes pes r) NameTwice
 name_twice_is_first loads sizes pes r least some few named below wrong =
     let right = right_to_names loads sizes pes r 23 (omega arith) least some few (λ _. named) (λ _. below) in
     first_by_number (HasReorderedFlaw loads sizes pes r) NameTwice refl wrong (nothing_before loads sizes pes r 23 right (omega arith))
 
-right_to_cuts : {A : Type 0} (loads : List ℕ) (sizes : List (ℕ × ℕ)) (pes : ℕ) (r : Reordered A) (n : ℕ) → n ≤ 26 → IsCertified loads pes r.least → AreOrdered pes r.names → (24 < n → length r.cuts ≡ pes + 1) → (25 < n → IsDivision 0 (length loads) pes r.cuts) → AreRightBefore loads sizes pes r n
+right_to_cuts : {A : Type 0} (loads : List ℕ) (sizes : List (ℕ × ℕ)) (pes : ℕ) (r : Reordered A) (n : ℕ) → n ≤ 26 → IsCertified loads pes r.least
+    → AreOrdered pes r.names → (24 < n → length r.cuts ≡ pes + 1) → (25 < n → IsDivision 0 (length loads) pes r.cuts)
+    → AreRightBefore loads sizes pes r n
 right_to_cuts loads sizes pes r n few least order cut divides =
     record {
       least = least;
@@ -157,17 +171,22 @@ right_to_cuts loads sizes pes r n few least order cut divides =
     }
 
 -- each flaw of the cuts
-pub cut_count_is_first : {A : Type 0} (loads : List ℕ) (sizes : List (ℕ × ℕ)) (pes : ℕ) (r : Reordered A) → IsCertified loads pes r.least → AreOrdered pes r.names → length r.cuts ≢ pes + 1 → IsFirstReorderedFlaw (HasReorderedFlaw loads sizes pes r) CutCount
+pub cut_count_is_first : {A : Type 0} (loads : List ℕ) (sizes : List (ℕ × ℕ)) (pes : ℕ) (r : Reordered A) → IsCertified loads pes r.least
+    → AreOrdered pes r.names → length r.cuts ≢ pes + 1 → IsFirstReorderedFlaw (HasReorderedFlaw loads sizes pes r) CutCount
 cut_count_is_first loads sizes pes r least order wrong =
     let right = right_to_cuts loads sizes pes r 24 (omega arith) least order (λ h. absurd (omega (arith, h))) (λ h. absurd (omega (arith, h))) in
     first_by_number (HasReorderedFlaw loads sizes pes r) CutCount refl wrong (nothing_before loads sizes pes r 24 right (omega arith))
 
-pub no_division_is_first : {A : Type 0} (loads : List ℕ) (sizes : List (ℕ × ℕ)) (pes : ℕ) (r : Reordered A) → IsCertified loads pes r.least → AreOrdered pes r.names → length r.cuts ≡ pes + 1 → ¬ (IsDivision 0 (length loads) pes r.cuts) → IsFirstReorderedFlaw (HasReorderedFlaw loads sizes pes r) NoDivision
+pub no_division_is_first : {A : Type 0} (loads : List ℕ) (sizes : List (ℕ × ℕ)) (pes : ℕ) (r : Reordered A) → IsCertified loads pes r.least
+    → AreOrdered pes r.names → length r.cuts ≡ pes + 1 → ¬ (IsDivision 0 (length loads) pes r.cuts)
+    → IsFirstReorderedFlaw (HasReorderedFlaw loads sizes pes r) NoDivision
 no_division_is_first loads sizes pes r least order cut wrong =
     let right = right_to_cuts loads sizes pes r 25 (omega arith) least order (λ _. cut) (λ h. absurd (omega (arith, h))) in
     first_by_number (HasReorderedFlaw loads sizes pes r) NoDivision refl wrong (nothing_before loads sizes pes r 25 right (omega arith))
 
-pub heavy_is_first : {A : Type 0} (loads : List ℕ) (sizes : List (ℕ × ℕ)) (pes : ℕ) (r : Reordered A) (b : ℕ) → IsCertified loads pes r.least → AreOrdered pes r.names → IsDivision 0 (length loads) pes r.cuts → IsFirstHeavy loads pes (reordered_limit r) r.cuts b → IsFirstReorderedFlaw (HasReorderedFlaw loads sizes pes r) (Heavy b)
+pub heavy_is_first : {A : Type 0} (loads : List ℕ) (sizes : List (ℕ × ℕ)) (pes : ℕ) (r : Reordered A) (b : ℕ) → IsCertified loads pes r.least
+    → AreOrdered pes r.names → IsDivision 0 (length loads) pes r.cuts → IsFirstHeavy loads pes (reordered_limit r) r.cuts b
+    → IsFirstReorderedFlaw (HasReorderedFlaw loads sizes pes r) (Heavy b)
 heavy_is_first {A} loads sizes pes r b least order divides first =
     let right = right_to_cuts loads sizes pes r 26 (omega arith) least order (λ _. divides.counted) (λ _. divides) in
     record {
@@ -183,7 +202,9 @@ heavy_is_first {A} loads sizes pes r b least order divides first =
     earlier (Least flaw) same before flawed = absurd (omega (arith, same, division_flaw flaw))
     earlier _ same before flawed = absurd (omega (arith, same))
 
-right_to_rows : {A : Type 0} (loads : List ℕ) (sizes : List (ℕ × ℕ)) (pes : ℕ) (r : Reordered A) (n : ℕ) → n ≤ 30 → IsCertified loads pes r.least → AreOrdered pes r.names → IsPlan loads pes (reordered_limit r) r.cuts r.names → (27 < n → AreRows pes r) → (28 < n → AreStarted r) → (29 < n → RisesUpTo (bounded_of loads sizes r) pes) → AreRightBefore loads sizes pes r n
+right_to_rows : {A : Type 0} (loads : List ℕ) (sizes : List (ℕ × ℕ)) (pes : ℕ) (r : Reordered A) (n : ℕ) → n ≤ 30 → IsCertified loads pes r.least
+    → AreOrdered pes r.names → IsPlan loads pes (reordered_limit r) r.cuts r.names → (27 < n → AreRows pes r) → (28 < n → AreStarted r)
+    → (29 < n → RisesUpTo (bounded_of loads sizes r) pes) → AreRightBefore loads sizes pes r n
 right_to_rows loads sizes pes r n few least order plan rows started risen =
     record {
       least = least;
@@ -201,17 +222,23 @@ right_to_rows loads sizes pes r n few least order plan rows started risen =
     }
 
 -- each flaw of the bounds
-pub row_count_is_first : {A : Type 0} (loads : List ℕ) (sizes : List (ℕ × ℕ)) (pes : ℕ) (r : Reordered A) → IsCertified loads pes r.least → AreOrdered pes r.names → IsPlan loads pes (reordered_limit r) r.cuts r.names → (length r.any ≢ pes + 1) ⊎ (length r.free ≢ pes + 1) → IsFirstReorderedFlaw (HasReorderedFlaw loads sizes pes r) RowCount
+pub row_count_is_first : {A : Type 0} (loads : List ℕ) (sizes : List (ℕ × ℕ)) (pes : ℕ) (r : Reordered A) → IsCertified loads pes r.least
+    → AreOrdered pes r.names → IsPlan loads pes (reordered_limit r) r.cuts r.names → (length r.any ≢ pes + 1) ⊎ (length r.free ≢ pes + 1)
+    → IsFirstReorderedFlaw (HasReorderedFlaw loads sizes pes r) RowCount
 row_count_is_first loads sizes pes r least order plan wrong =
     let right = right_to_rows loads sizes pes r 27 (omega arith) least order plan (λ h. absurd (omega (arith, h))) (λ h. absurd (omega (arith, h))) (λ h. absurd (omega (arith, h))) in
     first_by_number (HasReorderedFlaw loads sizes pes r) RowCount refl wrong (nothing_before loads sizes pes r 27 right (omega arith))
 
-pub start_is_first : {A : Type 0} (loads : List ℕ) (sizes : List (ℕ × ℕ)) (pes : ℕ) (r : Reordered A) → IsCertified loads pes r.least → AreOrdered pes r.names → IsPlan loads pes (reordered_limit r) r.cuts r.names → AreRows pes r → (bound_at r.any 0 0 ≢ 0) ⊎ (bound_at r.free 0 0 ≢ 0) → IsFirstReorderedFlaw (HasReorderedFlaw loads sizes pes r) Start
+pub start_is_first : {A : Type 0} (loads : List ℕ) (sizes : List (ℕ × ℕ)) (pes : ℕ) (r : Reordered A) → IsCertified loads pes r.least
+    → AreOrdered pes r.names → IsPlan loads pes (reordered_limit r) r.cuts r.names → AreRows pes r
+    → (bound_at r.any 0 0 ≢ 0) ⊎ (bound_at r.free 0 0 ≢ 0) → IsFirstReorderedFlaw (HasReorderedFlaw loads sizes pes r) Start
 start_is_first loads sizes pes r least order plan rows wrong =
     let right = right_to_rows loads sizes pes r 28 (omega arith) least order plan (λ _. rows) (λ h. absurd (omega (arith, h))) (λ h. absurd (omega (arith, h))) in
     first_by_number (HasReorderedFlaw loads sizes pes r) Start refl wrong (nothing_before loads sizes pes r 28 right (omega arith))
 
-pub steep_is_first : {A : Type 0} (loads : List ℕ) (sizes : List (ℕ × ℕ)) (pes : ℕ) (r : Reordered A) (b y x : ℕ) → IsCertified loads pes r.least → AreOrdered pes r.names → IsPlan loads pes (reordered_limit r) r.cuts r.names → AreRows pes r → AreStarted r → IsFirstSteep (bounded_of loads sizes r) pes (b, y, x) → IsFirstReorderedFlaw (HasReorderedFlaw loads sizes pes r) (Steep b y x)
+pub steep_is_first : {A : Type 0} (loads : List ℕ) (sizes : List (ℕ × ℕ)) (pes : ℕ) (r : Reordered A) (b y x : ℕ) → IsCertified loads pes r.least
+    → AreOrdered pes r.names → IsPlan loads pes (reordered_limit r) r.cuts r.names → AreRows pes r → AreStarted r
+    → IsFirstSteep (bounded_of loads sizes r) pes (b, y, x) → IsFirstReorderedFlaw (HasReorderedFlaw loads sizes pes r) (Steep b y x)
 steep_is_first {A} loads sizes pes r b y x least order plan rows started first =
     let right = right_to_rows loads sizes pes r 29 (omega arith) least order plan (λ _. rows) (λ _. started) (λ h. absurd (omega (arith, h))) in
     record {
@@ -230,13 +257,17 @@ steep_is_first {A} loads sizes pes r b y x least order plan rows started first =
     earlier (Least flaw) same before flawed = absurd (omega (arith, same, division_flaw flaw))
     earlier _ same before flawed = absurd (omega (arith, same))
 
-pub low_is_first : {A : Type 0} (loads : List ℕ) (sizes : List (ℕ × ℕ)) (pes : ℕ) (r : Reordered A) → IsCertified loads pes r.least → AreOrdered pes r.names → IsPlan loads pes (reordered_limit r) r.cuts r.names → AreRows pes r → AreStarted r → RisesUpTo (bounded_of loads sizes r) pes → bound_at r.any pes (length loads) < bytes_moved sizes r.cuts r.names → IsFirstReorderedFlaw (HasReorderedFlaw loads sizes pes r) Low
+pub low_is_first : {A : Type 0} (loads : List ℕ) (sizes : List (ℕ × ℕ)) (pes : ℕ) (r : Reordered A) → IsCertified loads pes r.least
+    → AreOrdered pes r.names → IsPlan loads pes (reordered_limit r) r.cuts r.names → AreRows pes r → AreStarted r
+    → RisesUpTo (bounded_of loads sizes r) pes → bound_at r.any pes (length loads) < bytes_moved sizes r.cuts r.names
+    → IsFirstReorderedFlaw (HasReorderedFlaw loads sizes pes r) Low
 low_is_first loads sizes pes r least order plan rows started risen wrong =
     let right = right_to_rows loads sizes pes r 30 (omega arith) least order plan (λ _. rows) (λ _. started) (λ _. risen) in
     first_by_number (HasReorderedFlaw loads sizes pes r) Low refl wrong (nothing_before loads sizes pes r 30 right (omega arith))
 
 -- a reordered division that is right has no flaw
-pub right_is_flawless : {A : Type 0} (loads : List ℕ) (sizes : List (ℕ × ℕ)) (pes : ℕ) (r : Reordered A) → IsReordered loads sizes pes r → (flaw : ReorderedFlaw) → ¬ (HasReorderedFlaw loads sizes pes r flaw)
+pub right_is_flawless : {A : Type 0} (loads : List ℕ) (sizes : List (ℕ × ℕ)) (pes : ℕ) (r : Reordered A) → IsReordered loads sizes pes r
+    → (flaw : ReorderedFlaw) → ¬ (HasReorderedFlaw loads sizes pes r flaw)
 right_is_flawless {A} loads sizes pes r right flaw =
     none flaw
   where

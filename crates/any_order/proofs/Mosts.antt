@@ -9,7 +9,8 @@ use Rattle.any_order.specs.Internal.{held_between, IsMost}
 use Rattle.any_order.specs.declared.most.Most.{Most}
 
 -- without elements
-pub nothing_held : (sizes : List (ℕ × ℕ)) (y own : ℕ) → own < PES → ((pe : ℕ) → held_between sizes y y pe ≡ 0) → IsMost (held_between sizes y y) own (record { pe = PES; bytes = 0; others = 0 })
+pub nothing_held : (sizes : List (ℕ × ℕ)) (y own : ℕ) → own < PES → ((pe : ℕ) → held_between sizes y y pe ≡ 0)
+    → IsMost (held_between sizes y y) own (record { pe = PES; bytes = 0; others = 0 })
 nothing_held sizes y own low none =
     record {
       apart = λ same. absurd (omega (arith, same, low));
@@ -19,7 +20,9 @@ nothing_held sizes y own low none =
       others_above = λ pe apart away. omega (arith, none pe);
     }
 
-pub more_on_most : (held next : ℕ → ℕ) (own pe bytes : ℕ) (most : Most) → IsMost held own most → pe ≢ own → next pe ≡ bytes → ((other : ℕ) → other ≢ pe → next other ≡ held other) → held pe ≤ bytes → pe ≡ most.pe → IsMost next own (record { pe = pe; bytes = bytes; others = most.others })
+pub more_on_most : (held next : ℕ → ℕ) (own pe bytes : ℕ) (most : Most) → IsMost held own most → pe ≢ own → next pe ≡ bytes
+    → ((other : ℕ) → other ≢ pe → next other ≡ held other) → held pe ≤ bytes → pe ≡ most.pe
+    → IsMost next own (record { pe = pe; bytes = bytes; others = most.others })
 more_on_most held next own pe bytes most before foreign here same more top =
     let most_more : most.bytes ≤ bytes = omega (arith, before.reached, subst (λ p. held p ≤ bytes) top more) in
     let (other, away, below, there) = before.others_reached in
@@ -35,7 +38,9 @@ more_on_most held next own pe bytes most before foreign here same more top =
       others_above = λ other apart away. omega (arith, same other away, before.others_above other apart (λ e. away (e ∙ sym top)));
     }
 
-pub more_than_most : (held next : ℕ → ℕ) (own pe bytes : ℕ) (most : Most) → IsMost held own most → pe ≢ own → next pe ≡ bytes → ((other : ℕ) → other ≢ pe → next other ≡ held other) → held pe ≤ bytes → pe ≢ most.pe → most.bytes < bytes → IsMost next own (record { pe = pe; bytes = bytes; others = most.bytes })
+pub more_than_most : (held next : ℕ → ℕ) (own pe bytes : ℕ) (most : Most) → IsMost held own most → pe ≢ own → next pe ≡ bytes
+    → ((other : ℕ) → other ≢ pe → next other ≡ held other) → held pe ≤ bytes → pe ≢ most.pe → most.bytes < bytes
+    → IsMost next own (record { pe = pe; bytes = bytes; others = most.bytes })
 more_than_most held next own pe bytes most before foreign here same more apart_top higher =
     let away : most.pe ≢ pe = λ e. apart_top (sym e) in
     record {
@@ -50,7 +55,9 @@ more_than_most held next own pe bytes most before foreign here same more apart_t
     }
 
 -- one of the others reaches what they hold at most
-others_there : (held next : ℕ → ℕ) (own pe bytes : ℕ) (most : Most) → IsMost held own most → pe ≢ own → next pe ≡ bytes → ((other : ℕ) → other ≢ pe → next other ≡ held other) → held pe ≤ bytes → pe ≢ most.pe → (other : ℕ) × (other ≢ own) × (other ≢ most.pe) × (max most.others bytes ≤ next other)
+others_there : (held next : ℕ → ℕ) (own pe bytes : ℕ) (most : Most) → IsMost held own most → pe ≢ own → next pe ≡ bytes
+    → ((other : ℕ) → other ≢ pe → next other ≡ held other) → held pe ≤ bytes → pe ≢ most.pe
+    → (other : ℕ) × (other ≢ own) × (other ≢ most.pe) × (max most.others bytes ≤ next other)
 others_there held next own pe bytes most before foreign here same more apart_top =
     let (other, away, below, there) = before.others_reached in
     elim (cases_lt most.others bytes) [
@@ -65,7 +72,9 @@ others_there held next own pe bytes most before foreign here same more apart_top
           ]
     ]
 
-pub more_on_other : (held next : ℕ → ℕ) (own pe bytes : ℕ) (most : Most) → IsMost held own most → pe ≢ own → next pe ≡ bytes → ((other : ℕ) → other ≢ pe → next other ≡ held other) → held pe ≤ bytes → pe ≢ most.pe → bytes ≤ most.bytes → IsMost next own (record { pe = most.pe; bytes = most.bytes; others = max most.others bytes })
+pub more_on_other : (held next : ℕ → ℕ) (own pe bytes : ℕ) (most : Most) → IsMost held own most → pe ≢ own → next pe ≡ bytes
+    → ((other : ℕ) → other ≢ pe → next other ≡ held other) → held pe ≤ bytes → pe ≢ most.pe → bytes ≤ most.bytes
+    → IsMost next own (record { pe = most.pe; bytes = most.bytes; others = max most.others bytes })
 more_on_other held next own pe bytes most before foreign here same more apart_top low =
     record {
       apart = before.apart;
@@ -88,7 +97,8 @@ held_elsewhere : (element : ℕ × ℕ) (pe : ℕ) → pe ≢ element.1 → held
 held_elsewhere element pe apart = grind (arith, nat_tests)
 
 -- an element joins that is on the PE that is left out
-pub joins_own : (held next : ℕ → ℕ) (own : ℕ) (element : ℕ × ℕ) (most : Most) → IsMost held own most → ((pe : ℕ) → next pe ≡ held pe + held_bytes element pe) → element.1 ≡ own → IsMost next own most
+pub joins_own : (held next : ℕ → ℕ) (own : ℕ) (element : ℕ × ℕ) (most : Most) → IsMost held own most
+    → ((pe : ℕ) → next pe ≡ held pe + held_bytes element pe) → element.1 ≡ own → IsMost next own most
 joins_own held next own element most before more here =
     let (other, away, below, there) = before.others_reached in
     record {
@@ -100,7 +110,10 @@ joins_own held next own element most before more here =
     }
 
 -- an element joins that is on another PE
-pub joins_other : (held next : ℕ → ℕ) (own : ℕ) (element : ℕ × ℕ) (most result : Most) (place bytes : ℕ) (kept : List ℕ) → ((held next : ℕ → ℕ) (own : ℕ) → IsMost held own most → place ≢ own → next place ≡ slice_index kept place + bytes → ((other : ℕ) → other ≢ place → next other ≡ held other) → held place ≤ slice_index kept place + bytes → IsMost next own result) → place ≢ own → place ≡ element.1 → bytes ≡ element.0 → IsMost held own most → held element.1 ≡ slice_index kept element.1 → ((pe : ℕ) → next pe ≡ held pe + held_bytes element pe) → IsMost next own result
+pub joins_other : (held next : ℕ → ℕ) (own : ℕ) (element : ℕ × ℕ) (most result : Most) (place bytes : ℕ) (kept : List ℕ)
+    → ((held next : ℕ → ℕ) (own : ℕ) → IsMost held own most → place ≢ own → next place ≡ slice_index kept place + bytes → ((other : ℕ) → other ≢ place → next other ≡ held other) → held place ≤ slice_index kept place + bytes → IsMost next own result)
+    → place ≢ own → place ≡ element.1 → bytes ≡ element.0 → IsMost held own most → held element.1 ≡ slice_index kept element.1
+    → ((pe : ℕ) → next pe ≡ held pe + held_bytes element pe) → IsMost next own result
 joins_other held next own element most result place bytes kept raises foreign at size before here more =
     let there : held place ≡ slice_index kept place = subst (λ p. held p ≡ slice_index kept p) (sym at) here in
     let joined : next place ≡ held place + bytes = subst (λ p. next p ≡ held p + bytes) (sym at) (omega (arith, more element.1, held_here element, size)) in

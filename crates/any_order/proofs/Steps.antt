@@ -6,7 +6,8 @@ use Rattle.any_order.specs.AnyOrder.{level_at}
 use Rattle.any_order.specs.Internal.{IsReached}
 use Rattle.any_order.specs.declared.follow.Reached.{Reached}
 
-level_step : (steps : List (ℕ × ℕ)) (next before z : ℕ) (d : ℕ × ℕ) → next < length steps → (get_or steps next d).0 ≤ z → level_at (drop next steps) before z ≡ level_at (drop (next + 1) steps) ((get_or steps next d).1) z
+level_step : (steps : List (ℕ × ℕ)) (next before z : ℕ) (d : ℕ × ℕ) → next < length steps → (get_or steps next d).0 ≤ z
+    → level_at (drop next steps) before z ≡ level_at (drop (next + 1) steps) ((get_or steps next d).1) z
 level_step steps next before z d inside below =
     let test : nat_le (get_or steps next d).0 z ≡ true = le-leb (get_or steps next d).0 z below in
     rw (add-one, drop-cons steps next d inside, test) refl
@@ -17,7 +18,8 @@ level_stop steps next before z d inside behind =
     rw (drop-cons steps next d inside, test) refl
 
 -- one more step
-pub reached_one : (steps : List (ℕ × ℕ)) (x next level : ℕ) (d : ℕ × ℕ) → IsReached steps x (record { next = next; level = level }) → next < length steps → (get_or steps next d).0 ≤ x → IsReached steps x (record { next = next + 1; level = (get_or steps next d).1 })
+pub reached_one : (steps : List (ℕ × ℕ)) (x next level : ℕ) (d : ℕ × ℕ) → IsReached steps x (record { next = next; level = level })
+    → next < length steps → (get_or steps next d).0 ≤ x → IsReached steps x (record { next = next + 1; level = (get_or steps next d).1 })
 reached_one steps x next level d h inside there =
     record {
       inside = omega arith;
@@ -25,7 +27,8 @@ reached_one steps x next level d h inside there =
     }
 
 -- the first step behind the place, or none
-pub reached_there : (steps : List (ℕ × ℕ)) (x next level : ℕ) (d : ℕ × ℕ) → IsReached steps x (record { next = next; level = level }) → (next < length steps → x < (get_or steps next d).0) → level ≡ level_at steps 0 x
+pub reached_there : (steps : List (ℕ × ℕ)) (x next level : ℕ) (d : ℕ × ℕ) → IsReached steps x (record { next = next; level = level })
+    → (next < length steps → x < (get_or steps next d).0) → level ≡ level_at steps 0 x
 reached_there steps x next level d h behind =
     elim (cases_lt next (length steps)) [
       | inl inside ↦ sym (h.left x (omega arith) ∙ level_stop steps next level x d inside (behind inside))

@@ -14,7 +14,9 @@ use Rattle.any_order.proofs.Corners.{few_places}
 use Rattle.any_order.proofs.FirstFlaws.{AreRows, AreStarted, right_is_flawless}
 
 -- a reordered division whose parts are right
-pub right_by_parts : {A : Type 0} (loads : List ℕ) (sizes : List (ℕ × ℕ)) (pes : ℕ) (r : Reordered A) → IsCertified loads pes r.least → AreOrdered pes r.names → IsPlan loads pes (reordered_limit r) r.cuts r.names → AreRows pes r → AreStarted r → RisesUpTo (bounded_of loads sizes r) pes → bytes_moved sizes r.cuts r.names ≤ bound_at r.any pes (length loads) → IsReordered loads sizes pes r
+pub right_by_parts : {A : Type 0} (loads : List ℕ) (sizes : List (ℕ × ℕ)) (pes : ℕ) (r : Reordered A) → IsCertified loads pes r.least
+    → AreOrdered pes r.names → IsPlan loads pes (reordered_limit r) r.cuts r.names → AreRows pes r → AreStarted r
+    → RisesUpTo (bounded_of loads sizes r) pes → bytes_moved sizes r.cuts r.names ≤ bound_at r.any pes (length loads) → IsReordered loads sizes pes r
 right_by_parts loads sizes pes r least order plan rows started risen ends =
     record {
       least = least;
@@ -32,7 +34,9 @@ right_by_parts loads sizes pes r least order plan rows started risen ends =
     }
 
 -- a check that accepts only what is right, and otherwise names a flaw that applies, is exact
-pub accepts_exactly : {A T : Type 0} (loads : List ℕ) (sizes : List (ℕ × ℕ)) (pes : ℕ) (r : Reordered A) (answer : Result T ReorderedFlaw) → OnOk answer (IsReordered loads sizes pes r) → IfErr answer (IsFirstReorderedFlaw (HasReorderedFlaw loads sizes pes r)) → IsOk answer ↔ IsReordered loads sizes pes r
+pub accepts_exactly : {A T : Type 0} (loads : List ℕ) (sizes : List (ℕ × ℕ)) (pes : ℕ) (r : Reordered A) (answer : Result T ReorderedFlaw)
+    → OnOk answer (IsReordered loads sizes pes r) → IfErr answer (IsFirstReorderedFlaw (HasReorderedFlaw loads sizes pes r))
+    → IsOk answer ↔ IsReordered loads sizes pes r
 accepts_exactly loads sizes pes r (Ok _) right first = (λ _. right, λ _. refl)
 accepts_exactly loads sizes pes r (Err flaw) right first =
     (λ accepted. absurd cc, λ holds. absurd (right_is_flawless loads sizes pes r holds flaw first.applies_itself))
@@ -43,7 +47,9 @@ peak_where_right loads sizes pes r right =
     peak_within loads pes (reordered_limit r) r.cuts right.plan.divides right.plan.within
 
 -- and it moves the fewest bytes
-pub fewest_where_right : {A T : Type 0} (loads : List ℕ) (sizes : List (ℕ × ℕ)) (pes : ℕ) (r : Reordered A) (answer : Result T ReorderedFlaw) → OnOk answer (length loads ≡ length sizes) → OnOk answer (IsReordered loads sizes pes r) → OnOk answer (AreFewestOfAll loads sizes pes (reordered_limit r) r.cuts r.names)
+pub fewest_where_right : {A T : Type 0} (loads : List ℕ) (sizes : List (ℕ × ℕ)) (pes : ℕ) (r : Reordered A) (answer : Result T ReorderedFlaw)
+    → OnOk answer (length loads ≡ length sizes) → OnOk answer (IsReordered loads sizes pes r)
+    → OnOk answer (AreFewestOfAll loads sizes pes (reordered_limit r) r.cuts r.names)
 fewest_where_right loads sizes pes r (Ok _) paired right =
     fewest_from_bounds loads sizes pes (reordered_limit r) (bound_at r.any) (bound_at r.free) r.cuts r.names paired right.plan right.bounds
 fewest_where_right loads sizes pes r (Err _) paired right = tt

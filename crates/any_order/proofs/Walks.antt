@@ -21,7 +21,8 @@ use Rattle.any_order.proofs.Mosts.{nothing_held}
 use Rattle.any_order.proofs.Corners.{none_rises_here, rises_here}
 
 -- a sum over one more element
-pub between_more : {X : Type 0} (f : X → ℕ) (xs : List X) (y x : ℕ) (d : X) → y ≤ x → x < length xs → sum_by f (slice_range xs y (x + 1)) ≡ sum_by f (slice_range xs y x) + f (get_or xs x d)
+pub between_more : {X : Type 0} (f : X → ℕ) (xs : List X) (y x : ℕ) (d : X) → y ≤ x → x < length xs
+    → sum_by f (slice_range xs y (x + 1)) ≡ sum_by f (slice_range xs y x) + f (get_or xs x d)
 between_more f xs y x d onward inside =
     omega (arith, sum_after f xs y (x + 1) (omega arith), sum_after f xs y x onward, sum_by_more f xs x d inside)
 
@@ -41,10 +42,12 @@ bytes_few sizes y x d h onward inside =
       mul-le-mul_right STATE_BYTES h.few,
     )
 
-pub bytes_fit : (sizes : List (ℕ × ℕ)) (y x bytes : ℕ) (d : ℕ × ℕ) → IsSizes sizes → y ≤ x → x < length sizes → bytes ≡ bytes_between sizes y x → bytes + (get_or sizes x d).0 < 2 ^ 64
+pub bytes_fit : (sizes : List (ℕ × ℕ)) (y x bytes : ℕ) (d : ℕ × ℕ) → IsSizes sizes → y ≤ x → x < length sizes → bytes ≡ bytes_between sizes y x
+    → bytes + (get_or sizes x d).0 < 2 ^ 64
 bytes_fit sizes y x bytes d h onward inside same = omega (arith, same, bytes_few sizes y x d h onward inside)
 
-pub kept_fit : (sizes : List (ℕ × ℕ)) (y x own bytes : ℕ) (kept : List ℕ) (most : Most) (d : ℕ × ℕ) → IsSizes sizes → y ≤ x → x < length sizes → IsHolding sizes y x own kept most bytes → (get_or sizes x d).1 < PES → slice_index kept (get_or sizes x d).1 + (get_or sizes x d).0 < 2 ^ 64
+pub kept_fit : (sizes : List (ℕ × ℕ)) (y x own bytes : ℕ) (kept : List ℕ) (most : Most) (d : ℕ × ℕ) → IsSizes sizes → y ≤ x → x < length sizes
+    → IsHolding sizes y x own kept most bytes → (get_or sizes x d).1 < PES → slice_index kept (get_or sizes x d).1 + (get_or sizes x d).0 < 2 ^ 64
 kept_fit sizes y x own bytes kept most d h onward inside holding pe_low =
     omega (arith, holding.kept_is (get_or sizes x d).1 pe_low, block_whole sizes y x (get_or sizes x d).1, bytes_few sizes y x d h onward inside)
 
@@ -123,11 +126,14 @@ risen_by_rises sizes any free next_any next_free y x bytes own_bytes most own_is
     }
 
 -- an empty block
-pub empty_rises : (claim : Claimed) (y : ℕ) → (high_at claim y).any ≤ (low_at claim y).any → (high_at claim y).any ≤ (low_at claim y).free → (high_at claim y).free ≤ (low_at claim y).free → RisesFrom claim y (y + 1)
+pub empty_rises : (claim : Claimed) (y : ℕ) → (high_at claim y).any ≤ (low_at claim y).any → (high_at claim y).any ≤ (low_at claim y).free
+    → (high_at claim y).free ≤ (low_at claim y).free → RisesFrom claim y (y + 1)
 empty_rises claim y any_here kept_here free_here x low high within light corner =
     subst (λ z. RisesAt claim y z) (omega arith) (rises_here claim.sizes (level_at claim.any 0) (level_at claim.free 0) (level_at claim.next_any 0) (level_at claim.next_free 0) y any_here kept_here free_here)
 
-pub empty_steep : (claim : Claimed) (y : ℕ) → y ≤ length claim.loads → ¬ (((high_at claim y).any ≤ (low_at claim y).any) × ((high_at claim y).any ≤ (low_at claim y).free) × ((high_at claim y).free ≤ (low_at claim y).free)) → IsFirstEnd claim y y
+pub empty_steep : (claim : Claimed) (y : ℕ) → y ≤ length claim.loads
+    → ¬ (((high_at claim y).any ≤ (low_at claim y).any) × ((high_at claim y).any ≤ (low_at claim y).free) × ((high_at claim y).free ≤ (low_at claim y).free))
+    → IsFirstEnd claim y y
 empty_steep claim y inside rises =
     record {
       steep = record {
@@ -167,7 +173,8 @@ next_risen claim y x before here onward z low high within light corner =
     at_end z back ahead (inr (edge, ends)) = subst (λ n. IsFalse (is_high_level claim n)) back ends
 
 -- behind a block that is too heavy all blocks are too heavy
-pub too_heavy : (claim : Claimed) (y x weight : ℕ) → y ≤ x → x < length claim.loads → RisesFrom claim y (x + 1) → weight ≡ load claim.loads y x → claim.limit < weight + get_or claim.loads x 0 → RisesFrom claim y (length claim.loads + 1)
+pub too_heavy : (claim : Claimed) (y x weight : ℕ) → y ≤ x → x < length claim.loads → RisesFrom claim y (x + 1) → weight ≡ load claim.loads y x
+    → claim.limit < weight + get_or claim.loads x 0 → RisesFrom claim y (length claim.loads + 1)
 too_heavy claim y x weight onward inside before weighed heavy z low high within light corner =
     elim (leb_tells z x) [
       | inl earlier ↦ before z low (omega (arith, earlier.1)) within light corner
@@ -232,7 +239,9 @@ steep_end claim y x own bytes weight units own_bytes kept most onward inside edg
     }
 
 -- the beginning of a walk
-pub begin_walk : (claim : Claimed) (y own : ℕ) (kept : List ℕ) (high : At) → length kept ≡ PES → ((k : ℕ) → k < PES → slice_index kept k ≡ 0) → own < PES → RisesFrom claim y (y + 1) → IsAt claim.next_any claim.next_free y high → IsWalk claim y y own kept (record { pe = PES; bytes = 0; others = 0 }) 0 0 high
+pub begin_walk : (claim : Claimed) (y own : ℕ) (kept : List ℕ) (high : At) → length kept ≡ PES → ((k : ℕ) → k < PES → slice_index kept k ≡ 0)
+    → own < PES → RisesFrom claim y (y + 1) → IsAt claim.next_any claim.next_free y high
+    → IsWalk claim y y own kept (record { pe = PES; bytes = 0; others = 0 }) 0 0 high
 begin_walk claim y own kept high counted zeros low here there =
     let none : (pe : ℕ) → held_between claim.sizes y y pe ≡ 0 = λ pe. omega (arith, sum_after (λ size. held_bytes size pe) claim.sizes y y (omega arith)) in
     record {
@@ -248,11 +257,13 @@ begin_walk claim y own kept high counted zeros low here there =
     }
 
 -- the bounds at the place to which they are followed
-pub pair_of : (any free : List (ℕ × ℕ)) (x : ℕ) (at : At) (pair : Pair) → IsAt any free x at → pair ≡ record { any = at.any.level; free = at.free.level } → pair ≡ record { any = level_at any 0 x; free = level_at free 0 x }
+pub pair_of : (any free : List (ℕ × ℕ)) (x : ℕ) (at : At) (pair : Pair) → IsAt any free x at
+    → pair ≡ record { any = at.any.level; free = at.free.level } → pair ≡ record { any = level_at any 0 x; free = level_at free 0 x }
 pair_of any free x at pair there same = rw (← there.any_is, ← there.free_is) same
 
 -- where a bound rises by an empty block
-pub here_steep : (claim : Claimed) (y : ℕ) (low high : Pair) → y ≤ length claim.loads → low ≡ low_at claim y → high ≡ high_at claim y → ¬ ((high.any ≤ low.any) × (high.any ≤ low.free) × (high.free ≤ low.free)) → IsFirstEnd claim y y
+pub here_steep : (claim : Claimed) (y : ℕ) (low high : Pair) → y ≤ length claim.loads → low ≡ low_at claim y → high ≡ high_at claim y
+    → ¬ ((high.any ≤ low.any) × (high.any ≤ low.free) × (high.free ≤ low.free)) → IsFirstEnd claim y y
 here_steep claim y low high inside low_is high_is rises =
     empty_steep claim y inside
     (subst (λ (p : Pair). ¬ ((p.any ≤ (low_at claim y).any) × (p.any ≤ (low_at claim y).free) × (p.free ≤ (low_at claim y).free))) high_is

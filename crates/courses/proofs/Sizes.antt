@@ -59,6 +59,7 @@ module _ {C A : Type 0} (step : Step C) (pack : C → List ℕ) (unpack : List �
   counted_led w last (made ∷ steps) (next, may, did, rest) = counted_led next last steps rest ∙ counted_after w made.0 (next, made.1) did
 
   -- the world of a course has as many as its opening
-  pub pes_led : (pes : ℕ) (chares : List C) (strategy : Strategy) (steps : List Made) (w : WorldView C A) → Leads step pack unpack (opening_world pes chares strategy) steps w → length w.pes ≡ pes
+  pub pes_led : (pes : ℕ) (chares : List C) (strategy : Strategy) (steps : List Made) (w : WorldView C A)
+      → Leads step pack unpack (opening_world pes chares strategy) steps w → length w.pes ≡ pes
   pes_led pes chares strategy steps w led =
       counted_led (opening_world pes chares strategy) w steps led ∙ counted_opening A pes chares strategy

@@ -86,7 +86,8 @@ module _ (A : Type 0) (style : Style) (name : List ℕ) (s : Taken) where
   one_decided (Some tolerance) pes text other this that =
       this.4 ∙ ap (λ t. t ++ this.1) (one_beside pes this.0 that.0 this.2 that.2) ∙ ap (λ t. that.0 ++ t) (one_within pes tolerance this.1 that.1 this.3 that.3) ∙ sym that.4
 
-  one_list : (tolerance : Option ℕ) (procs : List ℕ) (text other : List ℕ) → ArePlans A style name s tolerance procs text → ArePlans A style name s tolerance procs other → text ≡ other
+  one_list : (tolerance : Option ℕ) (procs : List ℕ) (text other : List ℕ) → ArePlans A style name s tolerance procs text
+      → ArePlans A style name s tolerance procs other → text ≡ other
   one_list tolerance [] text other this that = this ∙ sym that
   one_list tolerance (p ∷ procs) text other this that =
       this.4 ∙ ap (λ t. t ++ this.1) (one_decided tolerance p this.0 that.0 this.2 that.2) ∙ ap (λ t. that.0 ++ t) (one_list tolerance procs this.1 that.1 this.3 that.3) ∙ sym that.4
@@ -105,7 +106,8 @@ module _ (A : Type 0) (style : Style) (name : List ℕ) (s : Taken) where
   one_past None text other this that = this ∙ sym that
   one_past (Some r) text other this that = one_recorded r.target r.decision text other this that
 
-one_said : {A : Type 0} (style : Style) (name procs : List ℕ) (tolerance : Option ℕ) (d : Dumped A) (text other : List ℕ) → IsSaid style name procs tolerance d text → IsSaid style name procs tolerance d other → text ≡ other
+one_said : {A : Type 0} (style : Style) (name procs : List ℕ) (tolerance : Option ℕ) (d : Dumped A) (text other : List ℕ)
+    → IsSaid style name procs tolerance d text → IsSaid style name procs tolerance d other → text ≡ other
 one_said {A} style name procs tolerance d text other this that =
     let past : this.past ≡ that.past = one_past A style name d.snapshot d.recorded this.past that.past this.recorded that.recorded in
     let plans : this.plans ≡ that.plans = one_list A style name d.snapshot tolerance (numbers_of procs d.snapshot.procs) this.plans that.plans this.planned that.planned in
@@ -114,7 +116,8 @@ one_said {A} style name procs tolerance d text other this that =
     ∙ ap (λ t. present_text style name d.snapshot ++ (that.past ++ t)) plans
     ∙ sym that.printed
 
-pub one_report : (A : Type 0) (style : Style) (name procs : List ℕ) (tolerance : Option ℕ) (bytes text other : List ℕ) → IsReport A (Some bytes) style name procs tolerance text → IsReport A (Some bytes) style name procs tolerance other → text ≡ other
+pub one_report : (A : Type 0) (style : Style) (name procs : List ℕ) (tolerance : Option ℕ) (bytes text other : List ℕ)
+    → IsReport A (Some bytes) style name procs tolerance text → IsReport A (Some bytes) style name procs tolerance other → text ≡ other
 one_report A style name procs tolerance bytes text other this that =
     let same : that.dump ≡ this.dump = one_dump that.dump this.dump bytes that.read this.read in
     one_said style name procs tolerance this.dump text other this.said (subst (λ (d : Dumped A). IsSaid style name procs tolerance d other) same that.said)

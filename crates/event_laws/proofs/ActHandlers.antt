@@ -48,7 +48,8 @@ module _ {C : Type 0} (step : Step C) (pack : C → List ℕ) (pe : PeView C) (x
       refl refl
       (All-cons (λ (m : LetterView). m.to ≡ l.to) l [] refl (All-nil (λ (m : LetterView). m.to ≡ l.to)))
 
-  pub installs_still : (p : PackedView) (chare : C) → pe.hand ≡ Some x → x.parcel ≡ Element p → found p.index pe.room ≡ None → Moved step pe (installed pe p chare) (Installed p.index ∷ []) None [] []
+  pub installs_still : (p : PackedView) (chare : C) → pe.hand ≡ Some x → x.parcel ≡ Element p → found p.index pe.room ≡ None
+      → Moved step pe (installed pe p chare) (Installed p.index ∷ []) None [] []
   installs_still p chare hand is at =
       quiet step pe (installed pe p chare) (Installed p.index ∷ []) [] []
       (λ g k.

@@ -47,7 +47,8 @@ module _ {C A : Type 0} (step : Step C) (pack : C → List ℕ) (unpack : List �
     Good a = Numbered (with_local w p a.0) → Agrees n (with_local w p a.0)
 
     -- a step that leaves the board as it is
-    quiet : (pe' : PeView C) (queues : List (List Parcel)) (words : List ℕ) (reports : List TraceEntry) → AgreesAt m pe' → All (All (AgreesOn m)) queues → Good (record { pe = pe'; queues = queues; words = words; board = w.board }, reports)
+    quiet : (pe' : PeView C) (queues : List (List Parcel)) (words : List ℕ) (reports : List TraceEntry) → AgreesAt m pe'
+        → All (All (AgreesOn m)) queues → Good (record { pe = pe'; queues = queues; words = words; board = w.board }, reports)
     quiet pe' queues words reports agrees all numbered =
         record { measured = h.measured; numbered = h.numbered; counted = length-set {A = PeView C} w.pes p pe' ∙ h.counted; places = numbered; pes = All-set (AgreesAt m) w.pes p pe' agrees h.pes; queues = all }
 
@@ -81,7 +82,8 @@ module _ {C A : Type 0} (step : Step C) (pack : C → List ℕ) (unpack : List �
   abbrev pub KeepsAgreement : After C A → Type 0
   KeepsAgreement a = Numbered a.0 → Agrees n a.0
 
-  bound : {X : Type 0} (o : Option X) (f : X → Option (After C A)) → ((x : X) → o ≡ Some x → KeepsAgreement (or_nothing w (f x))) → KeepsAgreement (or_nothing w (option_and_then f o))
+  bound : {X : Type 0} (o : Option X) (f : X → Option (After C A)) → ((x : X) → o ≡ Some x → KeepsAgreement (or_nothing w (f x)))
+      → KeepsAgreement (or_nothing w (option_and_then f o))
   bound None f k = λ numbered. h
   bound (Some x) f k = k x refl
 
@@ -98,7 +100,9 @@ module _ {C A : Type 0} (step : Step C) (pack : C → List ℕ) (unpack : List �
       numbered : Numbered next.0
       numbered = (happens_good step pack unpack n w are event next happens).same_numbers h.places
 
-      by : (o : Option ℕ) → MatchOption o (MayDecide w.board next.0.board next.1 × (next.0 ≡ record w { board = next.0.board })) (λ p. next ≡ or_nothing w (enabled step pack unpack w event p)) → Agrees n next.0
+      by : (o : Option ℕ)
+          → MatchOption o (MayDecide w.board next.0.board next.1 × (next.0 ≡ record w { board = next.0.board })) (λ p. next ≡ or_nothing w (enabled step pack unpack w event p))
+          → Agrees n next.0
       by None d = subst (Agrees n) (sym d.1) (may_decide_agrees n w h next.0.board next.1 d.0)
       by (Some p) e = subst KeepsAgreement (sym e) (enabled_agrees event p) numbered
 

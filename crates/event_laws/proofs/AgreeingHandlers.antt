@@ -49,14 +49,16 @@ pub owes_none_awake : {C : Type 0} (m : Measured) (me : ℕ) (el : ElementView C
 owes_none_awake m me el f y o = true_not_false el.progress.synced o.waits f
 
 -- an element that does not wait is at work
-pub awake_at_work : {C : Type 0} (m : Measured) (me : ℕ) (notes : List Note) (el : ElementView C) → el.progress.synced ≡ false → IsInSomeState m me notes el → IsAtWork m el.index el.progress
+pub awake_at_work : {C : Type 0} (m : Measured) (me : ℕ) (notes : List Note) (el : ElementView C) → el.progress.synced ≡ false
+    → IsInSomeState m me notes el → IsAtWork m el.index el.progress
 awake_at_work m me notes el f (inl w) = w
 awake_at_work m me notes el f (inr (inl o)) = absurd (true_not_false el.progress.synced o.owes.waits f)
 awake_at_work m me notes el f (inr (inr (inl k))) = absurd (true_not_false el.progress.synced k.waits f)
 awake_at_work m me notes el f (inr (inr (inr k))) = absurd (true_not_false el.progress.synced k.waits f)
 
 -- one that waits for the end of an earlier round than the one under way waits for its place
-pub decided_waits : {C : Type 0} (m : Measured) (me : ℕ) (notes : List Note) (el : ElementView C) → el.progress.synced ≡ true → el.progress.round + 1 < m.round → IsInSomeState m me notes el → WaitsForPlace m el.index el.progress
+pub decided_waits : {C : Type 0} (m : Measured) (me : ℕ) (notes : List Note) (el : ElementView C) → el.progress.synced ≡ true
+    → el.progress.round + 1 < m.round → IsInSomeState m me notes el → WaitsForPlace m el.index el.progress
 decided_waits m me notes el t lt (inl w) = absurd (true_not_false el.progress.synced t w.awake)
 decided_waits m me notes el t lt (inr (inl o)) = absurd (omega (arith, lt, o.owes.at_round))
 decided_waits m me notes el t lt (inr (inr (inl k))) = absurd (omega (arith, lt, k.at_round))
@@ -168,7 +170,8 @@ module _ {C : Type 0} (step : Step C) (pack : C → List ℕ) where
       not_true true t = cc
       not_true false t = refl
 
-  pub resume_event_agrees : {A : Type 0} (p : ℕ) (pe : PeView C) (b : BoardState A) (e : ℕ) (a : PeView C × List TraceEntry) → b.database.round ≡ length b.rounds + 1 → AgreesAt b.database pe → resume_event step pack p pe b e ≡ Some a → AgreesAt b.database a.0
+  pub resume_event_agrees : {A : Type 0} (p : ℕ) (pe : PeView C) (b : BoardState A) (e : ℕ) (a : PeView C × List TraceEntry)
+      → b.database.round ≡ length b.rounds + 1 → AgreesAt b.database pe → resume_event step pack p pe b e ≡ Some a → AgreesAt b.database a.0
   resume_event_agrees p pe b e a numbered h s =
       option_and_then_some (λ (at : ℕ × ℕ). where_true (at.1 == p) (Some (resumed step pack pe e at.0, resume_entries step pack pe e at.0))) (due pe b e) a s
       (λ at d t.

@@ -59,7 +59,8 @@ module _ {C : Type 0} (n : ℕ) where
         no_outbox = h.no_outbox;
       }
 
-  pub settled_opens : (pes : List (PeView C)) (e : ℕ) (chares : List C) → e + length chares ≤ n → All (OpensAt (opening 1 n)) pes → All (OpensAt (opening 1 n)) (all_placed n pes e chares)
+  pub settled_opens : (pes : List (PeView C)) (e : ℕ) (chares : List C) → e + length chares ≤ n → All (OpensAt (opening 1 n)) pes
+      → All (OpensAt (opening 1 n)) (all_placed n pes e chares)
   settled_opens pes e [] le h = h
   settled_opens pes e (chare ∷ chares) le h =
       let q = home e n (length pes) in
@@ -92,7 +93,8 @@ all_placed_length {C} n pes e (chare ∷ chares) =
     all_placed_length n (placed_on pes q e chare (slice_get pes q)) (e + 1) chares ∙ placed_length pes q e chare (slice_get pes q)
 
 -- the PEs of the opening world
-pub opening_opens : {C : Type 0} (A : Type 0) (pes : ℕ) (chares : List C) (strategy : Strategy) → All (OpensAt (opening 1 (length chares))) (opening_world {A = A} pes chares strategy).pes
+pub opening_opens : {C : Type 0} (A : Type 0) (pes : ℕ) (chares : List C) (strategy : Strategy)
+    → All (OpensAt (opening 1 (length chares))) (opening_world {A = A} pes chares strategy).pes
 opening_opens {C} A pes chares strategy =
     let n : ℕ = length chares in
     settled_opens n (map (λ q. new_pe q n) (range_with_len 0 pes)) 0 chares (omega arith)

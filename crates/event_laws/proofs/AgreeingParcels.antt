@@ -67,7 +67,8 @@ module _ {C : Type 0} (m : Measured) where
   gave_up_agrees pe h =
       record { keyed = h.keyed; room = h.room; notes = h.notes; once = h.once; hand = h.hand; outbox = All-drop (ItemAgrees m) 1 pe.outbox h.outbox }
 
-  pub flush_event_agrees : (pe : PeView C) (queues : List (List Parcel)) (a : PeView C × List (List Parcel)) → AgreesAt m pe → All (All (AgreesOn m)) queues → flush_event pe queues ≡ Some a → AgreesAt m a.0 × All (All (AgreesOn m)) a.1
+  pub flush_event_agrees : (pe : PeView C) (queues : List (List Parcel)) (a : PeView C × List (List Parcel)) → AgreesAt m pe
+      → All (All (AgreesOn m)) queues → flush_event pe queues ≡ Some a → AgreesAt m a.0 × All (All (AgreesOn m)) a.1
   flush_event_agrees pe queues a h k s =
       option_and_then_some (λ q. option_and_then (λ parcel. option_and_then (λ queue. Some (gave_up pe, slice_set queues q (queue ++ parcel ∷ []))) (slice_get queues q)) (front_parcel pe.outbox)) (front_address pe.outbox) a s
       (λ q is r.
@@ -85,7 +86,8 @@ module _ {C : Type 0} (m : Measured) where
   pub received_agrees : (pe : PeView C) (parcel : Parcel) → AgreesAt m pe → AgreesOn m parcel → AgreesAt m (received pe parcel)
   received_agrees pe parcel h k = record { keyed = h.keyed; room = h.room; notes = h.notes; once = h.once; hand = k; outbox = h.outbox }
 
-  pub delivered_agrees : (pe : PeView C) (queue : List Parcel) (a : PeView C × List Parcel) → AgreesAt m pe → All (AgreesOn m) queue → delivered pe queue ≡ Some a → AgreesAt m a.0 × All (AgreesOn m) a.1
+  pub delivered_agrees : (pe : PeView C) (queue : List Parcel) (a : PeView C × List Parcel) → AgreesAt m pe → All (AgreesOn m) queue
+      → delivered pe queue ≡ Some a → AgreesAt m a.0 × All (AgreesOn m) a.1
   delivered_agrees pe queue a h k s =
       option_and_then_some (λ (front : Parcel × List Parcel). Some (received pe front.0, front.1)) (where_true (is_none pe.hand) (front_of queue)) a s
       (λ front is t.
@@ -94,7 +96,8 @@ module _ {C : Type 0} (m : Measured) where
       subst (λ (v : PeView C × List Parcel). AgreesAt m v.0 × All (AgreesOn m) v.1) (same_Some (received pe front.0, front.1) a t)
       (received_agrees pe front.0 h (All-head (AgreesOn m) front.0 front.1 all), All-tail (AgreesOn m) front.0 front.1 all))
 
-  pub deliver_event_agrees : (pe : PeView C) (queues : List (List Parcel)) (p : ℕ) (a : PeView C × List (List Parcel)) → AgreesAt m pe → All (All (AgreesOn m)) queues → deliver_event pe queues p ≡ Some a → AgreesAt m a.0 × All (All (AgreesOn m)) a.1
+  pub deliver_event_agrees : (pe : PeView C) (queues : List (List Parcel)) (p : ℕ) (a : PeView C × List (List Parcel)) → AgreesAt m pe
+      → All (All (AgreesOn m)) queues → deliver_event pe queues p ≡ Some a → AgreesAt m a.0 × All (All (AgreesOn m)) a.1
   deliver_event_agrees pe queues p a h k s =
       option_and_then_some (λ queue. option_and_then (λ after. Some (after.0, slice_set queues p after.1)) (delivered pe queue)) (slice_get queues p) a s
       (λ queue there t.
@@ -106,10 +109,12 @@ module _ {C : Type 0} (m : Measured) where
 
   -- Act, on an element that arrives
   -- one that is found is not the one that has just come
-  still_owed_joined : (me : ℕ) (room : List (ℕ × ElementView C)) (e : ℕ) (x : ElementView C) → found e room ≡ None → (y : Note) → IsOwed m me room y → IsOwed m me (joined e x room) y
+  still_owed_joined : (me : ℕ) (room : List (ℕ × ElementView C)) (e : ℕ) (x : ElementView C) → found e room ≡ None → (y : Note) → IsOwed m me room y
+      → IsOwed m me (joined e x room) y
   still_owed_joined me room e x none y k = (k.0, λ f. by (k.1 f).0 (k.1 f).1 (k.1 f).2 (nat_eq (k.1 f).0.index e) refl)
     where
-      by : (o : ElementView C) → found o.index room ≡ Some o → Owes m me o y → (b : Bool) → nat_eq o.index e ≡ b → (z : ElementView C) × (found z.index (joined e x room) ≡ Some z) × Owes m me z y
+      by : (o : ElementView C) → found o.index room ≡ Some o → Owes m me o y → (b : Bool) → nat_eq o.index e ≡ b
+          → (z : ElementView C) × (found z.index (joined e x room) ≡ Some z) × Owes m me z y
       by o is owes true t =
           let i : o.index ≡ e = grind (arith, nat_tests) in
           let s : None ≡ Some o = sym none ∙ subst (λ (v : ℕ). found v room ≡ Some o) i is in
@@ -147,7 +152,8 @@ module _ {C : Type 0} (step : Step C) (pack : C → List ℕ) (unpack : List ℕ
       by false t = tt
   letter_on l look None at = passing_agrees m pe l look h
 
-  element_on : (p : PackedView) (o : Option (ElementView C)) → found p.index pe.room ≡ o → AgreesOn m (Element p) → IfSome (on_element step pack unpack pe p o) (λ a. AgreesAt m a.pe)
+  element_on : (p : PackedView) (o : Option (ElementView C)) → found p.index pe.room ≡ o → AgreesOn m (Element p)
+      → IfSome (on_element step pack unpack pe p o) (λ a. AgreesAt m a.pe)
   element_on p (Some el) at k = tt
   element_on p None at k = by (unpack p.bytes)
     where
@@ -173,10 +179,12 @@ module _ {C : Type 0} (step : Step C) (pack : C → List ℕ) (unpack : List ℕ
 
 -- Depart
 module _ {C : Type 0} (step : Step C) (pack : C → List ℕ) where
-  still_owed_without : (m : Measured) (me : ℕ) (room : List (ℕ × ElementView C)) (e : ℕ) (el : ElementView C) → found e room ≡ Some el → ((z : Note) → Owes m me el z → ⊥) → (y : Note) → IsOwed m me room y → IsOwed m me (without e room) y
+  still_owed_without : (m : Measured) (me : ℕ) (room : List (ℕ × ElementView C)) (e : ℕ) (el : ElementView C) → found e room ≡ Some el
+      → ((z : Note) → Owes m me el z → ⊥) → (y : Note) → IsOwed m me room y → IsOwed m me (without e room) y
   still_owed_without m me room e el at none y k = (k.0, λ f. by (k.1 f).0 (k.1 f).1 (k.1 f).2 (nat_eq (k.1 f).0.index e) refl)
     where
-      by : (o : ElementView C) → found o.index room ≡ Some o → Owes m me o y → (b : Bool) → nat_eq o.index e ≡ b → (z : ElementView C) × (found z.index (without e room) ≡ Some z) × Owes m me z y
+      by : (o : ElementView C) → found o.index room ≡ Some o → Owes m me o y → (b : Bool) → nat_eq o.index e ≡ b
+          → (z : ElementView C) × (found z.index (without e room) ≡ Some z) × Owes m me z y
       by o is owes true t =
           let i : o.index ≡ e = grind (arith, nat_tests) in
           let s : Some el ≡ Some o = sym at ∙ subst (λ (v : ℕ). found v room ≡ Some o) i is in
@@ -185,7 +193,8 @@ module _ {C : Type 0} (step : Step C) (pack : C → List ℕ) where
           let i : o.index ≢ e = grind (arith, nat_tests) in
           (o, without_other o.index e room i ∙ is, owes)
 
-  pub departed_agrees : (m : Measured) (pe : PeView C) (e q : ℕ) (el : ElementView C) → AgreesAt m pe → found e pe.room ≡ Some el → WaitsForPlace m el.index el.progress → AgreesAt m (departed pack pe e q)
+  pub departed_agrees : (m : Measured) (pe : PeView C) (e q : ℕ) (el : ElementView C) → AgreesAt m pe → found e pe.room ≡ Some el
+      → WaitsForPlace m el.index el.progress → AgreesAt m (departed pack pe e q)
   departed_agrees m pe e q el h at w =
       let now : AgreesWith m pe.me pe.notes el = of_found (AgreesWith m pe.me pe.notes) e el pe.room h.room at in
       let goes : All (ItemAgrees m) (option_to_list (option_map (element_at q) (option_map (packed pack) (found e pe.room)))) =
@@ -200,7 +209,8 @@ module _ {C : Type 0} (step : Step C) (pack : C → List ℕ) where
         outbox = All-append (ItemAgrees m) pe.outbox _ h.outbox goes;
       }
 
-  pub depart_event_agrees : {A : Type 0} (p : ℕ) (pe : PeView C) (words : List ℕ) (b : BoardState A) (e : ℕ) (a : PeView C × List ℕ × List TraceEntry) → b.database.round ≡ length b.rounds + 1 → AgreesAt b.database pe → depart_event step pack p pe words b e ≡ Some a → AgreesAt b.database a.0
+  pub depart_event_agrees : {A : Type 0} (p : ℕ) (pe : PeView C) (words : List ℕ) (b : BoardState A) (e : ℕ) (a : PeView C × List ℕ × List TraceEntry)
+      → b.database.round ≡ length b.rounds + 1 → AgreesAt b.database pe → depart_event step pack p pe words b e ≡ Some a → AgreesAt b.database a.0
   depart_event_agrees p pe words b e a numbered h s =
       option_and_then_some (λ (at : ℕ × ℕ). where_true (not (at.1 == p)) (Some (departed pack pe e at.1, slice_set words e at.1, Departed e ∷ []))) (due pe b e) a s
       (λ at d t.

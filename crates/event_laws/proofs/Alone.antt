@@ -89,7 +89,8 @@ module _ {C A : Type 0} (g : Weight) (k : Life → ℕ) (w : WorldView C A) (one
       omega (arith, a, b, n, there)
 
   -- a PE weighs at most 1, and so what is in one part of it is in no other
-  pub pe_le_one : (p : ℕ) (pe : PeView C) → slice_get w.pes p ≡ Some pe → of_hand g k pe.hand + (sum_by (of_item g k) pe.outbox + (sum_by (weigh g) pe.shelf + of_room g k pe.room)) ≤ 1
+  pub pe_le_one : (p : ℕ) (pe : PeView C) → slice_get w.pes p ≡ Some pe
+      → of_hand g k pe.hand + (sum_by (of_item g k) pe.outbox + (sum_by (weigh g) pe.shelf + of_room g k pe.room)) ≤ 1
   pe_le_one p pe h =
       let a : of_pe g k pe ≤ sum_by (of_pe g k) w.pes = member_le (of_pe g k) w.pes p pe h in
       let n : sum_by (of_pe g k) w.pes + sum_by (of_queue g k) w.queues ≤ 1 = one in

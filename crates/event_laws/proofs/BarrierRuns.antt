@@ -45,7 +45,8 @@ module _ {C A : Type 0} (step : Step C) (pack : C → List ℕ) (unpack : List �
         })
         event next happens
 
-  pub run_tells : (n : ℕ) (w : WorldView C A) (trace : List TraceEntry) (events : List Event) (last : After C A) → Tells n w.board trace → Reaches step pack unpack w events last → Tells n last.0.board (trace ++ last.1)
+  pub run_tells : (n : ℕ) (w : WorldView C A) (trace : List TraceEntry) (events : List Event) (last : After C A) → Tells n w.board trace
+      → Reaches step pack unpack w events last → Tells n last.0.board (trace ++ last.1)
   run_tells n w trace [] last t run = subst (λ (v : After C A). Tells n v.0.board (trace ++ v.1)) (sym run) (tells_same n w.board trace t)
   run_tells n w trace (event ∷ events) last t (first, rest, happens, leads, is) =
       let a : Tells n first.0.board (trace ++ first.1) = event_tells n w trace t event first happens in
@@ -78,7 +79,8 @@ module _ {C A : Type 0} (step : Step C) (pack : C → List ℕ) (unpack : List �
       no_split (y ∷ before) after x h = cc
 
   -- the barrier holds of every list of events
-  pub barrier : (pes : ℕ) (chares : List C) (strategy : Strategy) (events : List Event) (last : After C A) → 1 ≤ pes → Reaches step pack unpack (opening_world pes chares strategy) events last → IsBarrier (length chares) last.1
+  pub barrier : (pes : ℕ) (chares : List C) (strategy : Strategy) (events : List Event) (last : After C A) → 1 ≤ pes
+      → Reaches step pack unpack (opening_world pes chares strategy) events last → IsBarrier (length chares) last.1
   barrier pes chares strategy events last some run =
       let t : Tells (length chares) last.0.board last.1 = run_tells (length chares) (opening_world pes chares strategy) [] events last (opening_tells (length chares) pes strategy) run in
       record {
@@ -89,7 +91,8 @@ module _ {C A : Type 0} (step : Step C) (pack : C → List ℕ) (unpack : List �
       }
 
   -- the rounds of all elements come in order
-  pub in_order : (pes : ℕ) (chares : List C) (strategy : Strategy) (events : List Event) (last : After C A) → Reaches step pack unpack (opening_world pes chares strategy) events last → AreInOrder last.0
+  pub in_order : (pes : ℕ) (chares : List C) (strategy : Strategy) (events : List Event) (last : After C A)
+      → Reaches step pack unpack (opening_world pes chares strategy) events last → AreInOrder last.0
   in_order pes chares strategy events last run = are_in_order last.0 (run_kept step pack FitsInOrder PackedInOrder (order_kept step pack) unpack (opening_world pes chares strategy) events last (opening_kept step pack FitsInOrder PackedInOrder (order_kept step pack) A pes chares strategy) run)
 
   -- and an element that an event resumes for a round is at its place

@@ -81,7 +81,8 @@ pub place_decided : {A : Type 0} (b : BoardState A) (r e q : ℕ) → b.database
 place_decided b zero e q numbered h = cc
 place_decided {A} b (suc r) e q numbered h = by (slice_get b.rounds r) refl h
   where
-    by : (o : Option (Kept A)) → slice_get b.rounds r ≡ o → option_map (λ d. planned_pe (refined_cuts d) (refined_names d) e) (option_map (λ kept. kept.1) o) ≡ Some q → suc r < b.database.round
+    by : (o : Option (Kept A)) → slice_get b.rounds r ≡ o
+        → option_map (λ d. planned_pe (refined_cuts d) (refined_names d) e) (option_map (λ kept. kept.1) o) ≡ Some q → suc r < b.database.round
     by None at k = cc
     by (Some kept) at k = let lt = slice_get_within b.rounds r kept at in omega (arith, lt, numbered)
 
@@ -143,7 +144,8 @@ tells_synced {A} n b trace e round units bytes pe t same =
     none : (r : ℕ) → times (is_decided r) (Synced e round ∷ []) ≡ 0
     none r = refl
 
-    by : (x : ℕ) (c : Bool) → nat_eq x e ≡ c → x < n → IsSome (report_of (after_report b e units bytes pe).database x) → Contains (trace ++ Synced e round ∷ []) (Synced x b.database.round)
+    by : (x : ℕ) (c : Bool) → nat_eq x e ≡ c → x < n → IsSome (report_of (after_report b e units bytes pe).database x)
+        → Contains (trace ++ Synced e round ∷ []) (Synced x b.database.round)
     by x true at inside is =
         let here : x ≡ e = same_number x e at in
         subst (λ (v : ℕ). Contains (trace ++ Synced e round ∷ []) (Synced x v)) same
@@ -165,7 +167,8 @@ tells_finished {A} n b trace e t =
     record { counted = k.counted; reports_counted = k.reports_counted; numbered = k.numbered; never_zero = k.never_zero; decided = k.decided; undecided = k.undecided; synced = k.synced; reported = k.reported; barred = k.barred }
 
 -- the board takes a note
-pub tells_taken : {A : Type 0} (n : ℕ) (b b' : BoardState A) (trace : List TraceEntry) (note : Note) → Tells n b trace → board_after b note ≡ Some b' → Tells n b' (trace ++ note_entries note)
+pub tells_taken : {A : Type 0} (n : ℕ) (b b' : BoardState A) (trace : List TraceEntry) (note : Note) → Tells n b trace → board_after b note ≡ Some b'
+    → Tells n b' (trace ++ note_entries note)
 tells_taken {A} n b b' trace (Sync e round units bytes pe) t h =
     let both = where_some _ (Some (after_report b e units bytes pe)) b' h in
     let same : round ≡ b.database.round = same_number round b.database.round (and_parts _ _ (and_parts _ _ (and_parts _ _ both.0).1).1).0 in

@@ -66,7 +66,8 @@ module _ {C A : Type 0} (w : WorldView C A) (k : ElementWeight) where
   bound_weighs e p (inr (inr h)) = addressed_weighs e p h
 
   -- an element in an outbox
-  pub boxed_weighs : (e p n : ℕ) (pe : PeView C) → n ≤ k Fresh e → ((a : ℕ) → n ≤ k (Bound a) e) → slice_get w.pes p ≡ Some pe → Any (λ x. Carries e x.parcel) pe.outbox → n ≤ world_at no_letters k w
+  pub boxed_weighs : (e p n : ℕ) (pe : PeView C) → n ≤ k Fresh e → ((a : ℕ) → n ≤ k (Bound a) e) → slice_get w.pes p ≡ Some pe
+      → Any (λ x. Carries e x.parcel) pe.outbox → n ≤ world_at no_letters k w
   boxed_weighs e p n pe fresh bound at any =
       let a : n ≤ sum_by (item_out no_letters k) pe.outbox = any_le (item_out no_letters k) (λ x. Carries e x.parcel) n pe.outbox (λ x h. by x.address x.parcel h) any in
       pe_weighs p n pe at (omega (arith, a))
@@ -94,7 +95,8 @@ pub some_from : {X : Type 0} (f : ℕ → X → ℕ) (xs : List X) → 1 ≤ sum
 some_from f [] le = absurd (omega (arith, le))
 some_from {X} f (x ∷ xs) le = by (f 0 x) refl (some_from (λ i. f (suc i)) xs)
   where
-    by : (n : ℕ) → f 0 x ≡ n → (1 ≤ sum_from (λ i. f (suc i)) xs → (i : ℕ) × (y : X) × (slice_get xs i ≡ Some y) × (1 ≤ f (suc i) y)) → (i : ℕ) × (y : X) × (slice_get (x ∷ xs) i ≡ Some y) × (1 ≤ f i y)
+    by : (n : ℕ) → f 0 x ≡ n → (1 ≤ sum_from (λ i. f (suc i)) xs → (i : ℕ) × (y : X) × (slice_get xs i ≡ Some y) × (1 ≤ f (suc i) y))
+        → (i : ℕ) × (y : X) × (slice_get (x ∷ xs) i ≡ Some y) × (1 ≤ f i y)
     by zero e later =
         let c : sum_from f (x ∷ xs) ≡ f 0 x + sum_from (λ i. f (suc i)) xs = refl in
         let a = later (omega (arith, c, e, le)) in

@@ -39,7 +39,8 @@ opened_none n m e (chare ∷ chares) =
     let b = opened_none n m (e + 1) chares in
     omega (arith, a, b)
 
-no_letter : {C : Type 0} (A : Type 0) (pes : ℕ) (chares : List C) (strategy : Strategy) → 1 ≤ pes → (g : LetterWeight) → world_at g no_elements (opening_world {A = A} pes chares strategy) ≡ 0
+no_letter : {C : Type 0} (A : Type 0) (pes : ℕ) (chares : List C) (strategy : Strategy) → 1 ≤ pes → (g : LetterWeight)
+    → world_at g no_elements (opening_world {A = A} pes chares strategy) ≡ 0
 no_letter A pes chares strategy some g =
     let a = opening_sites g no_elements A pes chares strategy some in
     let b = opened_none (length chares) pes 0 chares in
@@ -73,7 +74,8 @@ module _ {C A : Type 0} (step : Step C) (pack : C → List ℕ) (unpack : List �
       let d = acc.at_most_once id in
       omega (arith, a, b, c, d)
 
-  run_step : (w : WorldView C A) (trace : List TraceEntry) (event : Event) (next : After C A) → IsRun w trace → Happens step pack unpack w event next → IsRun next.0 (trace ++ next.1)
+  run_step : (w : WorldView C A) (trace : List TraceEntry) (event : Event) (next : After C A) → IsRun w trace → Happens step pack unpack w event next
+      → IsRun next.0 (trace ++ next.1)
   run_step w trace event next h happens =
       let kept : Kept (length chares) first next.0 (trace ++ next.1) = kept_join (length chares) first w next.0 trace next.1 h.kept (step_keeps step (length chares) w next.0 next.1 (happens_good step pack unpack (length chares) w h.placed.of event next happens)) in
       let before : Accounted (length chares) w trace = kept_accounted step pack unpack pes chares strategy some w trace h.kept in
@@ -84,7 +86,8 @@ module _ {C A : Type 0} (step : Step C) (pack : C → List ℕ) (unpack : List �
         chasing = chasing_next w next.0 next.1 trace h.chasing after.at_most_once (few_letters w trace before) h.placed.named (happens_moves step pack unpack w h.placed.numbered event next happens);
       }
 
-  run_on : (w : WorldView C A) (trace : List TraceEntry) (events : List Event) (last : After C A) → IsRun w trace → Reaches step pack unpack w events last → IsRun last.0 (trace ++ last.1)
+  run_on : (w : WorldView C A) (trace : List TraceEntry) (events : List Event) (last : After C A) → IsRun w trace
+      → Reaches step pack unpack w events last → IsRun last.0 (trace ++ last.1)
   run_on w trace [] last h run = subst (λ (v : After C A). IsRun v.0 (trace ++ v.1)) (sym run) (subst (λ (v : List TraceEntry). IsRun w v) (sym (append-nil trace)) h)
   run_on w trace (event ∷ events) last h (first, rest, happens, leads, is) =
       let a : IsRun first.0 (trace ++ first.1) = run_step w trace event first h happens in
@@ -95,7 +98,8 @@ module _ {C A : Type 0} (step : Step C) (pack : C → List ℕ) (unpack : List �
   reached_run events last run = run_on first [] events last (record { placed = opening_placed A pes chares strategy some; kept = kept_same (length chares) first (opening_of A pes chares strategy some); chasing = opening_chasing }) run
 
 -- what was posted at most once was not posted before
-posted_late : (before after : List TraceEntry) (id : ℕ × ℕ) (e : ℕ) → times (says_number id) (posts (before ++ Trace.Posted id e ∷ after)) ≤ 1 → (b : Bool) → was_posted id e before ≡ b → b ≡ false
+posted_late : (before after : List TraceEntry) (id : ℕ × ℕ) (e : ℕ) → times (says_number id) (posts (before ++ Trace.Posted id e ∷ after)) ≤ 1
+    → (b : Bool) → was_posted id e before ≡ b → b ≡ false
 posted_late before after id e one true t =
     let a = number_posted id e before t in
     let b = number_posted id e (Trace.Posted id e ∷ after) (posted_here id e after) in

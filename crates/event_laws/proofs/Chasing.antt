@@ -33,13 +33,15 @@ of_number id s x to = if is_number id x then 1 else 0
 
 module _ {C A : Type 0} (stays : WorldView C A) (words words' : List ℕ) (trace rs : List TraceEntry) where
   -- none is forwarded
-  pub stay_calm : ((id : ℕ × ℕ) → forwards id rs ≡ 0) → words' ≡ words → world_at (strays words trace) no_elements stays ≡ 0 → world_at (strays words' (trace ++ rs)) no_elements stays ≡ 0
+  pub stay_calm : ((id : ℕ × ℕ) → forwards id rs ≡ 0) → words' ≡ words → world_at (strays words trace) no_elements stays ≡ 0
+      → world_at (strays words' (trace ++ rs)) no_elements stays ≡ 0
   stay_calm none same h =
       world_zeros (strays words trace) no_elements (strays words trace) no_elements (strays words' (trace ++ rs)) no_elements
       (λ s id to a b. stays_right words words' trace rs s id to (none id) (ap (λ (v : List ℕ). slice_get v to) same) a) (λ s e a b. refl) stays h h
 
   -- another is forwarded
-  pub stay_forwarded : (id : ℕ × ℕ) → rs ≡ Trace.Forwarded id ∷ [] → words' ≡ words → world_at (of_number id) no_elements stays ≡ 0 → world_at (strays words trace) no_elements stays ≡ 0 → world_at (strays words' (trace ++ rs)) no_elements stays ≡ 0
+  pub stay_forwarded : (id : ℕ × ℕ) → rs ≡ Trace.Forwarded id ∷ [] → words' ≡ words → world_at (of_number id) no_elements stays ≡ 0
+      → world_at (strays words trace) no_elements stays ≡ 0 → world_at (strays words' (trace ++ rs)) no_elements stays ≡ 0
   stay_forwarded id is same other h =
       world_zeros (strays words trace) no_elements (of_number id) no_elements (strays words' (trace ++ rs)) no_elements
       (λ s x to a b. stays_right words words' trace rs s x to (ap (forwards x) is ∙ not_this x b) (ap (λ (v : List ℕ). slice_get v to) same) a) (λ s e a b. refl) stays h other
@@ -61,12 +63,14 @@ departs_once e = grind (arith, nat_tests)
 
 module _ {C A : Type 0} (stays : WorldView C A) (words : List ℕ) (trace : List TraceEntry) (p e q : ℕ) (word : slice_get words e ≡ Some p) where
   -- element e departs from PE p to PE q
-  pub stay_left : world_at (waits_at p e) no_elements stays ≡ 0 → world_at (strays words trace) no_elements stays ≡ 0 → world_at (strays (slice_set words e q) (trace ++ Trace.Departed e ∷ [])) no_elements stays ≡ 0
+  pub stay_left : world_at (waits_at p e) no_elements stays ≡ 0 → world_at (strays words trace) no_elements stays ≡ 0
+      → world_at (strays (slice_set words e q) (trace ++ Trace.Departed e ∷ [])) no_elements stays ≡ 0
   stay_left none h =
       world_zeros (strays words trace) no_elements (waits_at p e) no_elements (strays (slice_set words e q) (trace ++ Trace.Departed e ∷ [])) no_elements
       (λ s id to a b. by s id to (nat_eq to e) refl a b) (λ s i a b. refl) stays h none
     where
-      by : (s : Site) (id : ℕ × ℕ) (to : ℕ) (b : Bool) → nat_eq to e ≡ b → strays words trace s id to ≡ 0 → waits_at p e s id to ≡ 0 → strays (slice_set words e q) (trace ++ Trace.Departed e ∷ []) s id to ≡ 0
+      by : (s : Site) (id : ℕ × ℕ) (to : ℕ) (b : Bool) → nat_eq to e ≡ b → strays words trace s id to ≡ 0 → waits_at p e s id to ≡ 0
+          → strays (slice_set words e q) (trace ++ Trace.Departed e ∷ []) s id to ≡ 0
       by s id to true t a b =
           let same : e ≡ to = grind (arith, nat_tests) in
           leaves_right words (slice_set words e q) trace (Trace.Departed e ∷ []) s id to p (departs_none id e)
@@ -81,13 +85,15 @@ module _ {C A : Type 0} (stays : WorldView C A) (words : List ℕ) (trace : List
 
 module _ (words : List ℕ) (trace : List TraceEntry) where
   -- a look in a hand
-  pub looks_right : (p q : ℕ) (l : LetterView) → slice_get words l.to ≡ Some q → letter_in (strays words trace) no_elements (Bound p) l ≡ 0 → letter_in (strays words trace) no_elements (look_site p (Some q)) l ≡ 0
+  pub looks_right : (p q : ℕ) (l : LetterView) → slice_get words l.to ≡ Some q → letter_in (strays words trace) no_elements (Bound p) l ≡ 0
+      → letter_in (strays words trace) no_elements (look_site p (Some q)) l ≡ 0
   looks_right p q l word h = by (q == p) refl
     where
       r : Right words trace (Bound p) l.id l.to
       r = right_is words trace (Bound p) l.id l.to h
 
-      chase : (q == p) ≡ false → IsClose (forwards l.id trace) (departed_since l.id l.to trace) (slice_get words l.to) (Bound p) → forwards l.id trace + 1 ≤ departed_since l.id l.to trace
+      chase : (q == p) ≡ false → IsClose (forwards l.id trace) (departed_since l.id l.to trace) (slice_get words l.to) (Bound p)
+          → forwards l.id trace + 1 ≤ departed_since l.id l.to trace
       chase t (inl x) = x
       chase t (inr x) = let same : p ≡ q = cc in absurd (differ same t)
         where
@@ -101,7 +107,8 @@ module _ (words : List ℕ) (trace : List TraceEntry) where
       by false t = right_of words trace (Chasing q) l.id l.to (r.0, r.1, (chase t r.2, inr word))
 
   -- an address in an outbox
-  pub addressed_right : (q : ℕ) (l : LetterView) → slice_get words l.to ≡ Some q → letter_in (strays words trace) no_elements Fresh l ≡ 0 → letter_in (strays words trace) no_elements (Bound q) l ≡ 0
+  pub addressed_right : (q : ℕ) (l : LetterView) → slice_get words l.to ≡ Some q → letter_in (strays words trace) no_elements Fresh l ≡ 0
+      → letter_in (strays words trace) no_elements (Bound q) l ≡ 0
   addressed_right q l word h =
       let r = right_is words trace Fresh l.id l.to h in
       right_of words trace (Bound q) l.id l.to (r.0, r.1, inr word)
@@ -116,7 +123,8 @@ module _ (words : List ℕ) (trace : List TraceEntry) where
   pub forwarded_once : (id : ℕ × ℕ) → forwards id (Trace.Forwarded id ∷ []) ≡ 1
   forwarded_once id = grind (arith, nat_tests)
 
-  pub forwarded_right : (q : ℕ) (l : LetterView) → letter_in (strays words trace) no_elements (Chasing q) l ≡ 0 → letter_in (strays words (trace ++ Trace.Forwarded l.id ∷ [])) no_elements (Bound q) l ≡ 0
+  pub forwarded_right : (q : ℕ) (l : LetterView) → letter_in (strays words trace) no_elements (Chasing q) l ≡ 0
+      → letter_in (strays words (trace ++ Trace.Forwarded l.id ∷ [])) no_elements (Bound q) l ≡ 0
   forwarded_right q l h =
       let r = right_is words trace (Chasing q) l.id l.to h in
       let rs : List TraceEntry = Trace.Forwarded l.id ∷ [] in
@@ -131,7 +139,9 @@ module _ (words : List ℕ) (trace : List TraceEntry) where
         subst (λ (v : ℕ). IsClose v (departed_since l.id l.to (trace ++ rs)) (slice_get words l.to) (Bound q)) (sym hops) (spare r.2.1 more),
       )
     where
-      spare : (forwards l.id trace + 2 ≤ departed_since l.id l.to trace) ⊎ (slice_get words l.to ≡ Some q) → departed_since l.id l.to trace ≤ departed_since l.id l.to (trace ++ Trace.Forwarded l.id ∷ []) → (forwards l.id trace + 1 + 1 ≤ departed_since l.id l.to (trace ++ Trace.Forwarded l.id ∷ [])) ⊎ (slice_get words l.to ≡ Some q)
+      spare : (forwards l.id trace + 2 ≤ departed_since l.id l.to trace) ⊎ (slice_get words l.to ≡ Some q)
+          → departed_since l.id l.to trace ≤ departed_since l.id l.to (trace ++ Trace.Forwarded l.id ∷ [])
+          → (forwards l.id trace + 1 + 1 ≤ departed_since l.id l.to (trace ++ Trace.Forwarded l.id ∷ [])) ⊎ (slice_get words l.to ≡ Some q)
       spare (inl x) more = inl (omega (arith, x, more))
       spare (inr x) more = inr x
 
@@ -160,7 +170,8 @@ module _ (words : List ℕ) (trace : List TraceEntry) where
         let z = new_hops id e h in
         right_of words (trace ++ rs) Fresh id e (posted_right id e h, omega (arith, z), tt)
 
-    pub all_fresh : (ls : List LetterView) → ((id : ℕ × ℕ) (e : ℕ) → was_posted id e (map post_of ls) ≡ true → was_posted id e rs ≡ true) → sum_by (letter_in (strays words (trace ++ rs)) no_elements Fresh) ls ≡ 0
+    pub all_fresh : (ls : List LetterView) → ((id : ℕ × ℕ) (e : ℕ) → was_posted id e (map post_of ls) ≡ true → was_posted id e rs ≡ true)
+        → sum_by (letter_in (strays words (trace ++ rs)) no_elements Fresh) ls ≡ 0
     all_fresh [] h = refl
     all_fresh (l ∷ ls) h =
         let a : letter_in (strays words (trace ++ rs)) no_elements Fresh l ≡ 0 = fresh_right l.id l.to (h l.id l.to (posted_here l.id l.to (map post_of ls))) in

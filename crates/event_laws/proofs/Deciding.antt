@@ -114,7 +114,8 @@ module _ {C A : Type 0} (n : ℕ) (w : WorldView C A) (h : Agrees n w) where
       }
 
   -- Decide
-  pub may_decide_agrees : (b : BoardState A) (reports : List TraceEntry) → MayDecide w.board b reports → Agrees n (record { pes = w.pes; queues = w.queues; words = w.words; board = b })
+  pub may_decide_agrees : (b : BoardState A) (reports : List TraceEntry) → MayDecide w.board b reports
+      → Agrees n (record { pes = w.pes; queues = w.queues; words = w.words; board = b })
   may_decide_agrees b reports (inl d) =
       subst (λ (v : BoardState A). Agrees n (record { pes = w.pes; queues = w.queues; words = w.words; board = v })) (sym d.decides.next) (decided_agrees d.decides.kept d.decides.complete)
   may_decide_agrees b reports (inr t) =

@@ -28,7 +28,8 @@ use Rattle.event_laws.proofs.Sites.{LetterWeight, ElementWeight, parcel_at, item
 use Rattle.event_laws.proofs.Sites.Site.{Bound}
 
 -- nothing moves where a world weighs what it did
-pub still : {C A : Type 0} (w w' : WorldView C A) (rs : List TraceEntry) → ((g : LetterWeight) (k : ElementWeight) → world_at g k w' ≡ world_at g k w) → w'.words ≡ w.words → AreQuiet rs → Change w w' rs
+pub still : {C A : Type 0} (w w' : WorldView C A) (rs : List TraceEntry) → ((g : LetterWeight) (k : ElementWeight) → world_at g k w' ≡ world_at g k w)
+    → w'.words ≡ w.words → AreQuiet rs → Change w w' rs
 still w w' rs same words quiet =
     record { move = Still; stays = w; takes = λ g k. omega arith; puts = λ g k. let a = same g k in omega (arith, a); words = words; facts = quiet }
 
@@ -37,7 +38,8 @@ held_bound : (g : LetterWeight) (k : ElementWeight) (p : ℕ) (x : Parcel) → h
 held_bound g k p (Letter l) = refl
 held_bound g k p (Element x) = refl
 
-front_bound : (g : LetterWeight) (k : ElementWeight) (q : ℕ) (x : Parcel) (outbox : List Item) → front_address outbox ≡ Some q → front_parcel outbox ≡ Some x → sum_by (item_out g k) outbox ≡ parcel_at g k (Bound q) x + sum_by (item_out g k) (drop 1 outbox)
+front_bound : (g : LetterWeight) (k : ElementWeight) (q : ℕ) (x : Parcel) (outbox : List Item) → front_address outbox ≡ Some q
+    → front_parcel outbox ≡ Some x → sum_by (item_out g k) outbox ≡ parcel_at g k (Bound q) x + sum_by (item_out g k) (drop 1 outbox)
 front_bound g k q x [] a i = cc
 front_bound g k q x (y ∷ ys) a i =
     let s : y.parcel ≡ x = same_Some y.parcel x i in
@@ -51,7 +53,8 @@ module _ {C A : Type 0} (w : WorldView C A) (p : ℕ) (pe : PeView C) (at : slic
   abbrev pub Seen : LocalView C A × List TraceEntry → Type 0
   Seen a = Change w (with_local w p a.0) a.1
 
-  then_seen : {X : Type 0} (o : Option X) (f : X → LocalView C A × List TraceEntry) (a : LocalView C A × List TraceEntry) → option_and_then (λ x. Some (f x)) o ≡ Some a → ((x : X) → o ≡ Some x → Seen (f x)) → Seen a
+  then_seen : {X : Type 0} (o : Option X) (f : X → LocalView C A × List TraceEntry) (a : LocalView C A × List TraceEntry)
+      → option_and_then (λ x. Some (f x)) o ≡ Some a → ((x : X) → o ≡ Some x → Seen (f x)) → Seen a
   then_seen None f a h k = cc
   then_seen (Some x) f a h k = subst (λ (v : LocalView C A × List TraceEntry). Seen v) (same_Some (f x) a h) (k x refl)
 
@@ -67,7 +70,8 @@ module _ {C A : Type 0} (w : WorldView C A) (p : ℕ) (pe : PeView C) (at : slic
       (λ word there t. subst (λ (v : PeView C). Seen (record d { pe = v }, [])) (same_Some (looked pe word) a t) (looked_moves w p pe at word e is there)))
 
   -- Flush
-  gave_seen : (q : ℕ) (parcel : Parcel) (queue : List Parcel) → front_address pe.outbox ≡ Some q → front_parcel pe.outbox ≡ Some parcel → slice_get w.queues q ≡ Some queue → Seen (record d { pe = gave_up pe; queues = slice_set w.queues q (queue ++ parcel ∷ []) }, [])
+  gave_seen : (q : ℕ) (parcel : Parcel) (queue : List Parcel) → front_address pe.outbox ≡ Some q → front_parcel pe.outbox ≡ Some parcel
+      → slice_get w.queues q ≡ Some queue → Seen (record d { pe = gave_up pe; queues = slice_set w.queues q (queue ++ parcel ∷ []) }, [])
   gave_seen q parcel queue a i there =
       still w (with_local w p (record d { pe = gave_up pe; queues = slice_set w.queues q (queue ++ parcel ∷ []) })) []
       (λ g k.
@@ -90,7 +94,8 @@ module _ {C A : Type 0} (w : WorldView C A) (p : ℕ) (pe : PeView C) (at : slic
       (gave_seen q parcel queue is front there))))
 
   -- Deliver
-  received_seen : (queue rest : List Parcel) (parcel : Parcel) → slice_get w.queues p ≡ Some queue → queue ≡ parcel ∷ rest → pe.hand ≡ None → Seen (record d { pe = received pe parcel; queues = slice_set w.queues p rest }, [])
+  received_seen : (queue rest : List Parcel) (parcel : Parcel) → slice_get w.queues p ≡ Some queue → queue ≡ parcel ∷ rest → pe.hand ≡ None
+      → Seen (record d { pe = received pe parcel; queues = slice_set w.queues p rest }, [])
   received_seen queue rest parcel there is none =
       still w (with_local w p (record d { pe = received pe parcel; queues = slice_set w.queues p rest })) []
       (λ g k.
@@ -132,7 +137,8 @@ module _ {C A : Type 0} (w : WorldView C A) (p : ℕ) (pe : PeView C) (at : slic
 
   module _ (step : Step C) (pack : C → List ℕ) where
     -- Start and Resume
-    run_seen : (e round : ℕ) (el : ElementView C) (a : PeView C × List TraceEntry) → found e pe.room ≡ Some el → (resumed step pack pe e round, resume_entries step pack pe e round) ≡ a → Seen (record d { pe = a.0 }, a.1)
+    run_seen : (e round : ℕ) (el : ElementView C) (a : PeView C × List TraceEntry) → found e pe.room ≡ Some el
+        → (resumed step pack pe e round, resume_entries step pack pe e round) ≡ a → Seen (record d { pe = a.0 }, a.1)
     run_seen e round el a is same = subst (λ (v : PeView C × List TraceEntry). Seen (record d { pe = v.0 }, v.1)) same (resumed_moves w p pe at step pack e round el is)
 
     start_seen : (e : ℕ) (a : PeView C × List TraceEntry) → start_event step pack pe e ≡ Some a → Seen (record d { pe = a.0 }, a.1)
@@ -214,6 +220,8 @@ module _ {C A : Type 0} (step : Step C) (pack : C → List ℕ) (unpack : List �
   pub happens_moves : (event : Event) (a : After C A) → Happens step pack unpack w event a → Change w a.0 a.1
   happens_moves event a h = by (pe_of event) refl h
     where
-      by : (o : Option ℕ) → pe_of event ≡ o → MatchOption o (MayDecide w.board a.0.board a.1 × (a.0 ≡ record w { board = a.0.board })) (λ p. a ≡ or_nothing w (enabled step pack unpack w event p)) → Change w a.0 a.1
+      by : (o : Option ℕ) → pe_of event ≡ o
+          → MatchOption o (MayDecide w.board a.0.board a.1 × (a.0 ≡ record w { board = a.0.board })) (λ p. a ≡ or_nothing w (enabled step pack unpack w event p))
+          → Change w a.0 a.1
       by None i d = decided_moves a d.0 d.1
       by (Some p) i e = subst (λ (v : After C A). Moves v) (sym e) (enabled_moves event p i)

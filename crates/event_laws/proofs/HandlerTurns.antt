@@ -49,7 +49,8 @@ one_if b = if b then 1 else 0
 
 module _ {C : Type 0} (m : Measured) (me : ℕ) where
   -- an element that owes nothing has no note in the list
-  pub none_owed : (room : List (ℕ × ElementView C)) (notes : List Note) (e : ℕ) (el : ElementView C) → found e room ≡ Some el → ((y : Note) → Owes m me el y → ⊥) → All (IsOwed m me room) notes → times (is_wait_of e) notes ≡ 0
+  pub none_owed : (room : List (ℕ × ElementView C)) (notes : List Note) (e : ℕ) (el : ElementView C) → found e room ≡ Some el
+      → ((y : Note) → Owes m me el y → ⊥) → All (IsOwed m me room) notes → times (is_wait_of e) notes ≡ 0
   none_owed room [] e el at none all = refl
   none_owed room (y ∷ notes) e el at none all =
       by (is_wait_of e y) refl (none_owed room notes e el at none (All-tail (IsOwed m me room) y notes all))
@@ -99,7 +100,8 @@ module _ {C : Type 0} (m : Measured) (me : ℕ) where
     still_owed : (y : Note) → IsOwed m me room y → IsOwed m me (changed e x room) y
     still_owed y k = (k.0, λ f. by (k.1 f).0 (k.1 f).1 (k.1 f).2 (nat_eq (k.1 f).0.index e) refl)
       where
-        by : (o : ElementView C) → found o.index room ≡ Some o → Owes m me o y → (b : Bool) → nat_eq o.index e ≡ b → (z : ElementView C) × (found z.index (changed e x room) ≡ Some z) × Owes m me z y
+        by : (o : ElementView C) → found o.index room ≡ Some o → Owes m me o y → (b : Bool) → nat_eq o.index e ≡ b
+            → (z : ElementView C) × (found z.index (changed e x room) ≡ Some z) × Owes m me z y
         by o is owes true t =
             let i : o.index ≡ e = grind (arith, nat_tests) in
             let s : Some el ≡ Some o = sym at ∙ subst (λ (v : ℕ). found v room ≡ Some o) i is in
@@ -108,14 +110,17 @@ module _ {C : Type 0} (m : Measured) (me : ℕ) where
             let i : o.index ≢ e = grind (arith, nat_tests) in
             (o, changed_other o.index e x room i ∙ is, owes)
 
-    new_owed : (o : Option Note) → ((y : Note) → o ≡ Some y → index_of y ≡ x.index) → ((y : Note) → o ≡ Some y → is_finish y ≡ false → Owes m me x y × ((z : Note) → Owes m me el z → ⊥)) → All (IsOwed m me (changed e x room)) (option_to_list o)
+    new_owed : (o : Option Note) → ((y : Note) → o ≡ Some y → index_of y ≡ x.index)
+        → ((y : Note) → o ≡ Some y → is_finish y ≡ false → Owes m me x y × ((z : Note) → Owes m me el z → ⊥))
+        → All (IsOwed m me (changed e x room)) (option_to_list o)
     new_owed None own k = All-nil (IsOwed m me (changed e x room))
     new_owed (Some y) own k =
         let i : index_of y ≡ x.index = own y refl in
         let lt : x.index < elements m = turn.agrees.known in
         All-cons (IsOwed m me (changed e x room)) y [] (omega (arith, i, lt), λ f. (x, there, (k y refl f).0)) (All-nil (IsOwed m me (changed e x room)))
 
-    still_once : (i : ℕ) (o : Option Note) → ((y : Note) → o ≡ Some y → is_finish y ≡ false → Owes m me x y × ((z : Note) → Owes m me el z → ⊥)) → times (is_wait_of i) (notes ++ option_to_list o) ≤ 1
+    still_once : (i : ℕ) (o : Option Note) → ((y : Note) → o ≡ Some y → is_finish y ≡ false → Owes m me x y × ((z : Note) → Owes m me el z → ⊥))
+        → times (is_wait_of i) (notes ++ option_to_list o) ≤ 1
     still_once i None k =
         let c : times (is_wait_of i) (notes ++ []) ≡ times (is_wait_of i) notes + 0 = sum_by-append (λ (v : Note). one_if (is_wait_of i v)) notes [] in
         omega (arith, c, h.once i)

@@ -50,7 +50,8 @@ module _ {C : Type 0} (step : Step C) (pack : C → List ℕ) (P : ℕ → Progr
   -- ---- what a PE does
 
   module _ (pe : PeView C) (h : HoldsOn P pe) where
-    handled_holds : (e : ℕ) (done : Done) (hand : Option Item) (el : ElementView C) → found e pe.room ≡ Some el → P el.index (ran step pack el pe.n pe.me done).progress → IfSome hand Boxed → HoldsOn P (handled step pack pe e done hand)
+    handled_holds : (e : ℕ) (done : Done) (hand : Option Item) (el : ElementView C) → found e pe.room ≡ Some el
+        → P el.index (ran step pack el pe.n pe.me done).progress → IfSome hand Boxed → HoldsOn P (handled step pack pe e done hand)
     handled_holds e done hand el at new held =
         let there : ran_in step pack pe.room e pe.n pe.me done ≡ changed e (ran step pack el pe.n pe.me done) pe.room = rw at refl in
         record {

@@ -51,7 +51,8 @@ module _ {C : Type 0} (step : Step C) (pack : C → List ℕ) (n e : ℕ) (chare
       let a = due_waits p h.0 in
       omega (arith, a, h.1)
 
-  works_entered : (p : Progress) (k pe : ℕ) (done : Done) (xs : List Mark) → Works p k → Follow p (map stop_of (resumed_mark pe done ++ xs)) → Works (entered p done) k × Follow (entered p done) (map stop_of xs)
+  works_entered : (p : Progress) (k pe : ℕ) (done : Done) (xs : List Mark) → Works p k → Follow p (map stop_of (resumed_mark pe done ++ xs))
+      → Works (entered p done) k × Follow (entered p done) (map stop_of xs)
   works_entered p k pe (Letter l) xs w turn = (w, turn)
   works_entered p k pe (Resumption round) xs w turn =
       let b : Begins step pack n e chare journal (round + 1) w.first = subst (λ (r : ℕ). Begins step pack n e chare journal r w.first) (due_begun p k round w turn.0) w.begins in

@@ -37,7 +37,8 @@ kept_stays rounds more zero kept h = cc
 kept_stays rounds more (suc r) kept h = item_stays rounds more r kept h
 
 module _ {C A : Type 0} (step : Step C) (pack : C → List ℕ) (unpack : List ℕ → Result (C × ℕ) PupError) where
-  pub event_keeps : (w : WorldView C A) (event : Event) (next : After C A) (r : ℕ) (kept : Kept A) → Happens step pack unpack w event next → kept_of w.board.rounds r ≡ Some kept → kept_of next.0.board.rounds r ≡ Some kept
+  pub event_keeps : (w : WorldView C A) (event : Event) (next : After C A) (r : ℕ) (kept : Kept A) → Happens step pack unpack w event next
+      → kept_of w.board.rounds r ≡ Some kept → kept_of next.0.board.rounds r ≡ Some kept
   event_keeps w event next r kept happens h =
       happens_so step pack unpack w
       (λ (v : After C A). kept_of v.0.board.rounds r ≡ Some kept)

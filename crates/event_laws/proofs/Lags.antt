@@ -144,7 +144,8 @@ module _ (words words' : List ℕ) (trace rs : List TraceEntry) (s : Site) (id :
       )
 
   -- one whose element departs from PE p
-  pub leaves_right : (p : ℕ) → forwards id rs ≡ 0 → departures to rs ≡ 1 → slice_get words to ≡ Some p → waits_at p to s id to ≡ 0 → strays words trace s id to ≡ 0 → strays words' (trace ++ rs) s id to ≡ 0
+  pub leaves_right : (p : ℕ) → forwards id rs ≡ 0 → departures to rs ≡ 1 → slice_get words to ≡ Some p → waits_at p to s id to ≡ 0
+      → strays words trace s id to ≡ 0 → strays words' (trace ++ rs) s id to ≡ 0
   leaves_right p none one word away h =
       let r = right_is words trace s id to h in
       let fewer = r.1 in
@@ -166,7 +167,9 @@ module _ (words words' : List ℕ) (trace rs : List TraceEntry) (s : Site) (id :
           let y : waits_at p to (Waiting r) id to ≡ 1 = grind (arith, nat_tests) in
           omega (arith, y, z)
 
-      by : (t : Site) → waits_at p to t id to ≡ 0 → forwards id trace ≤ departed_since id to trace → IsClose (forwards id trace) (departed_since id to trace) (slice_get words to) t → IsClose (forwards id trace) (departed_since id to trace + 1) (slice_get words' to) t
+      by : (t : Site) → waits_at p to t id to ≡ 0 → forwards id trace ≤ departed_since id to trace
+          → IsClose (forwards id trace) (departed_since id to trace) (slice_get words to) t
+          → IsClose (forwards id trace) (departed_since id to trace + 1) (slice_get words' to) t
       by Fresh z le c = tt
       by (Bound a) z le c = inl (omega (arith, le))
       by (Chasing q) z le c = let x = c.0 in (omega (arith, x), inl (omega (arith, x)))

@@ -71,7 +71,10 @@ module _ {C A : Type 0} (w w' stays : WorldView C A) (rs trace : List TraceEntry
       let c = room_itself p e i in
       by (world_at (waits_at p e) no_elements w) refl a b c
     where
-      by : (n : ℕ) → world_at (waits_at p e) no_elements w ≡ n → world_at no_letters (in_room p e) w ≡ in_room p e (Room p e) i + world_at no_letters (in_room p e) stays → world_at (waits_at p e) no_elements w ≡ 0 + world_at (waits_at p e) no_elements stays → in_room p e (Room p e) i ≡ 1 → world_at (waits_at p e) no_elements stays ≡ 0
+      by : (n : ℕ) → world_at (waits_at p e) no_elements w ≡ n
+          → world_at no_letters (in_room p e) w ≡ in_room p e (Room p e) i + world_at no_letters (in_room p e) stays
+          → world_at (waits_at p e) no_elements w ≡ 0 + world_at (waits_at p e) no_elements stays → in_room p e (Room p e) i ≡ 1
+          → world_at (waits_at p e) no_elements stays ≡ 0
       by zero is a b c = omega (arith, is, b)
       by (suc n) is a b c = let z = h.away p e (omega (arith, is)) in absurd (omega (arith, a, c, z))
 
@@ -139,7 +142,9 @@ module _ {C A : Type 0} (w w' stays : WorldView C A) (rs trace : List TraceEntry
       omega (arith, b, s)
 
   -- while a letter waits, its element is not in the room
-  keeps_away : (p e : ℕ) → world_at (waits_at p e) no_elements w' ≤ world_at (waits_at p e) no_elements w → world_at no_letters (in_room p e) w' ≤ world_at no_letters (in_room p e) w → 1 ≤ world_at (waits_at p e) no_elements w' → world_at no_letters (in_room p e) w' ≡ 0
+  keeps_away : (p e : ℕ) → world_at (waits_at p e) no_elements w' ≤ world_at (waits_at p e) no_elements w
+      → world_at no_letters (in_room p e) w' ≤ world_at no_letters (in_room p e) w → 1 ≤ world_at (waits_at p e) no_elements w'
+      → world_at no_letters (in_room p e) w' ≡ 0
   keeps_away p e fewer less le = let a = h.away p e (omega (arith, fewer, le)) in omega (arith, a, less)
 
   pub away_after : (m : Move) → MoveTakes m → MovePuts m → Facts w stays rs m → (p e : ℕ) → 1 ≤ world_at (waits_at p e) no_elements w' → world_at no_letters (in_room p e) w' ≡ 0

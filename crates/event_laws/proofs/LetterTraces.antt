@@ -49,7 +49,8 @@ pub posted_join : (id : ℕ × ℕ) (e : ℕ) (xs ys : List TraceEntry) → was_
 posted_join id e [] ys = refl
 posted_join id e (r ∷ rs) ys = ap (λ (v : Bool). posts_it id e r || v) (posted_join id e rs ys) ∙ or_or (posts_it id e r) (was_posted id e rs) (was_posted id e ys)
 
-pub since_join : (id : ℕ × ℕ) (e : ℕ) (xs ys : List TraceEntry) → departed_since id e (xs ++ ys) ≡ departed_since id e xs + (if was_posted id e xs then departures e ys else departed_since id e ys)
+pub since_join : (id : ℕ × ℕ) (e : ℕ) (xs ys : List TraceEntry)
+    → departed_since id e (xs ++ ys) ≡ departed_since id e xs + (if was_posted id e xs then departures e ys else departed_since id e ys)
 since_join id e [] ys = omega arith
 since_join id e (r ∷ rs) ys = by (posts_it id e r) (since_join id e rs ys) (departures_join e rs ys)
   where
@@ -70,19 +71,22 @@ since_none id e (r ∷ rs) h = by (posts_it id e r) h (since_none id e rs)
 -- ---- posts
 
 -- a letter that was posted to an element is among the posts
-said_both : (id : ℕ × ℕ) (e : ℕ) (x : ℕ × ℕ) (to : ℕ) (xs : List Said) → times (says_both id e) ((x, to) ∷ xs) ≡ (if is_number id x && (to == e) then 1 else 0) + times (says_both id e) xs
+said_both : (id : ℕ × ℕ) (e : ℕ) (x : ℕ × ℕ) (to : ℕ) (xs : List Said)
+    → times (says_both id e) ((x, to) ∷ xs) ≡ (if is_number id x && (to == e) then 1 else 0) + times (says_both id e) xs
 said_both id e x to xs = times-cons (says_both id e) (x, to) xs
 
 pub posted_counts : (id : ℕ × ℕ) (e : ℕ) (xs : List TraceEntry) → was_posted id e xs ≡ true → 1 ≤ times (says_both id e) (posts xs)
 posted_counts id e [] h = cc
 posted_counts id e (Trace.Posted x to ∷ rs) h = by (is_number id x && (to == e)) refl h (posted_counts id e rs)
   where
-    by : (b : Bool) → (is_number id x && (to == e)) ≡ b → (b || was_posted id e rs) ≡ true → (was_posted id e rs ≡ true → 1 ≤ times (says_both id e) (posts rs)) → 1 ≤ times (says_both id e) (posts (Trace.Posted x to ∷ rs))
+    by : (b : Bool) → (is_number id x && (to == e)) ≡ b → (b || was_posted id e rs) ≡ true
+        → (was_posted id e rs ≡ true → 1 ≤ times (says_both id e) (posts rs)) → 1 ≤ times (says_both id e) (posts (Trace.Posted x to ∷ rs))
     by b is h ih =
         let c : times (says_both id e) ((x, to) ∷ posts rs) ≡ (if b then 1 else 0) + times (says_both id e) (posts rs) = said_both id e x to (posts rs) ∙ ap (λ (v : Bool). (if v then 1 else 0) + times (says_both id e) (posts rs)) is in
         subst (λ (v : ℕ). 1 ≤ v) (sym c) (there b h ih)
       where
-        there : (c : Bool) → (c || was_posted id e rs) ≡ true → (was_posted id e rs ≡ true → 1 ≤ times (says_both id e) (posts rs)) → 1 ≤ (if c then 1 else 0) + times (says_both id e) (posts rs)
+        there : (c : Bool) → (c || was_posted id e rs) ≡ true → (was_posted id e rs ≡ true → 1 ≤ times (says_both id e) (posts rs))
+            → 1 ≤ (if c then 1 else 0) + times (says_both id e) (posts rs)
         there true h ih = omega arith
         there false h ih = let a = ih h in omega (arith, a)
 posted_counts id e (Trace.Executed x to ∷ rs) h = posted_counts id e rs h

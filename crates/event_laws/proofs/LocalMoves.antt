@@ -57,11 +57,13 @@ hand_look {C} pe (Some x) e h = by x.parcel x.address refl refl h
         (l, ap (λ (v : Item). Some v) is, m.0, m.1)
 
 -- a letter at the front of an outbox that wants a look has no address
-pub front_look : (outbox : List Item) (e : ℕ) → front_wants outbox ≡ Some e → (l : LetterView) × (rest : List Item) × (outbox ≡ record { parcel = Letter l; address = None } ∷ rest) × (l.to ≡ e)
+pub front_look : (outbox : List Item) (e : ℕ) → front_wants outbox ≡ Some e
+    → (l : LetterView) × (rest : List Item) × (outbox ≡ record { parcel = Letter l; address = None } ∷ rest) × (l.to ≡ e)
 front_look [] e h = cc
 front_look (x ∷ xs) e h = by x.parcel x.address refl refl h
   where
-    by : (y : Parcel) (o : Option ℕ) → x.parcel ≡ y → x.address ≡ o → unaddressed y o ≡ Some e → (l : LetterView) × (rest : List Item) × (x ∷ xs ≡ record { parcel = Letter l; address = None } ∷ rest) × (l.to ≡ e)
+    by : (y : Parcel) (o : Option ℕ) → x.parcel ≡ y → x.address ≡ o → unaddressed y o ≡ Some e
+        → (l : LetterView) × (rest : List Item) × (x ∷ xs ≡ record { parcel = Letter l; address = None } ∷ rest) × (l.to ≡ e)
     by (Element p) o i a s = cc
     by (Letter l) (Some q) i a s = cc
     by (Letter l) None i a s =
@@ -153,7 +155,8 @@ module _ {C A : Type 0} (w : WorldView C A) (p : ℕ) (pe : PeView C) (at : slic
 
     -- Act
     module _ (me : pe.me ≡ p) where
-      shelved_moves : (x : Item) (l : LetterView) (q : ℕ) → pe.hand ≡ Some x → x.parcel ≡ Letter l → x.address ≡ Some q → (q == pe.me) ≡ true → After (shelving pe l).pe (shelving pe l).trace
+      shelved_moves : (x : Item) (l : LetterView) (q : ℕ) → pe.hand ≡ Some x → x.parcel ≡ Letter l → x.address ≡ Some q → (q == pe.me) ≡ true
+          → After (shelving pe l).pe (shelving pe l).trace
       shelved_moves x l q h i a t =
           let here : (q == p) ≡ true = subst (λ (v : ℕ). (q == v) ≡ true) me t in
           let is : x ≡ record { parcel = Letter l; address = Some q } = item_is x (Letter l) (Some q) i a in
@@ -167,7 +170,8 @@ module _ {C A : Type 0} (w : WorldView C A) (p : ℕ) (pe : PeView C) (at : slic
           refl
           (tt, tt)
 
-      forwarded_moves : (x : Item) (l : LetterView) (q : ℕ) → pe.hand ≡ Some x → x.parcel ≡ Letter l → x.address ≡ Some q → (q == pe.me) ≡ false → After (forwarding pe l q).pe (forwarding pe l q).trace
+      forwarded_moves : (x : Item) (l : LetterView) (q : ℕ) → pe.hand ≡ Some x → x.parcel ≡ Letter l → x.address ≡ Some q → (q == pe.me) ≡ false
+          → After (forwarding pe l q).pe (forwarding pe l q).trace
       forwarded_moves x l q h i a t =
           let away : (q == p) ≡ false = subst (λ (v : ℕ). (q == v) ≡ false) me t in
           let is : x ≡ record { parcel = Letter l; address = Some q } = item_is x (Letter l) (Some q) i a in
@@ -183,7 +187,8 @@ module _ {C A : Type 0} (w : WorldView C A) (p : ℕ) (pe : PeView C) (at : slic
           refl
           refl
 
-      passed_moves : (x : Item) (l : LetterView) (look : Option ℕ) (a : Acting C) → pe.hand ≡ Some x → x.parcel ≡ Letter l → x.address ≡ look → passing pe l look ≡ Some a → After a.pe a.trace
+      passed_moves : (x : Item) (l : LetterView) (look : Option ℕ) (a : Acting C) → pe.hand ≡ Some x → x.parcel ≡ Letter l → x.address ≡ look
+          → passing pe l look ≡ Some a → After a.pe a.trace
       passed_moves x l None a h i o s = cc
       passed_moves x l (Some q) a h i o s =
           let same : (if q == pe.me then shelving pe l else forwarding pe l q) ≡ a = cc in
@@ -193,14 +198,16 @@ module _ {C A : Type 0} (w : WorldView C A) (p : ℕ) (pe : PeView C) (at : slic
           by true t = shelved_moves x l q h i o t
           by false t = forwarded_moves x l q h i o t
 
-      executed_moves : (x : Item) (l : LetterView) (el : ElementView C) → pe.hand ≡ Some x → x.parcel ≡ Letter l → found l.to pe.room ≡ Some el → After (executed step pack pe l).pe (executed step pack pe l).trace
+      executed_moves : (x : Item) (l : LetterView) (el : ElementView C) → pe.hand ≡ Some x → x.parcel ≡ Letter l → found l.to pe.room ≡ Some el
+          → After (executed step pack pe l).pe (executed step pack pe l).trace
       executed_moves x l el h i f =
           handled_moves l.to (OfLetter l) None el (Trace.Executed l.id l.to) (Some (look_site p x.address, l)) tt f
           (λ g k.
           let c : hand_at g k p pe.hand ≡ held_at g k p (Letter l) x.address = ap (hand_at g k p) h ∙ ap (λ (v : Parcel). held_at g k p v x.address) i in
           omega (arith, c))
 
-      letter_moves : (x : Item) (l : LetterView) (o : Option (ElementView C)) (a : Acting C) → pe.hand ≡ Some x → x.parcel ≡ Letter l → found l.to pe.room ≡ o → on_letter step pack pe l x.address o ≡ Some a → After a.pe a.trace
+      letter_moves : (x : Item) (l : LetterView) (o : Option (ElementView C)) (a : Acting C) → pe.hand ≡ Some x → x.parcel ≡ Letter l
+          → found l.to pe.room ≡ o → on_letter step pack pe l x.address o ≡ Some a → After a.pe a.trace
       letter_moves x l None a h i f s = passed_moves x l x.address a h i refl s
       letter_moves x l (Some el) a h i f s = by el.progress.started s
         where
@@ -208,7 +215,8 @@ module _ {C A : Type 0} (w : WorldView C A) (p : ℕ) (pe : PeView C) (at : slic
           by true s = let same : executed step pack pe l ≡ a = cc in subst (λ (v : Acting C). After v.pe v.trace) same (executed_moves x l el h i f)
           by false s = cc
 
-      installed_moves : (x : Item) (pk : PackedView) (chare : C) → pe.hand ≡ Some x → x.parcel ≡ Element pk → found pk.index pe.room ≡ None → After (installed pe pk chare) (Trace.Installed pk.index ∷ [])
+      installed_moves : (x : Item) (pk : PackedView) (chare : C) → pe.hand ≡ Some x → x.parcel ≡ Element pk → found pk.index pe.room ≡ None
+          → After (installed pe pk chare) (Trace.Installed pk.index ∷ [])
       installed_moves x pk chare h i f =
           let mine : List LetterView = filter (is_for pk.index) pe.shelf in
           let others : List LetterView = filter (λ l. not (is_for pk.index l)) pe.shelf in
@@ -233,17 +241,20 @@ module _ {C A : Type 0} (w : WorldView C A) (p : ℕ) (pe : PeView C) (at : slic
           )
 
       module _ (unpack : List ℕ → Result (C × ℕ) PupError) where
-        installing_moves : (x : Item) (pk : PackedView) (u : Result (C × ℕ) PupError) (a : Acting C) → pe.hand ≡ Some x → x.parcel ≡ Element pk → found pk.index pe.room ≡ None → installing step pack unpack pe pk u ≡ Some a → After a.pe a.trace
+        installing_moves : (x : Item) (pk : PackedView) (u : Result (C × ℕ) PupError) (a : Acting C) → pe.hand ≡ Some x → x.parcel ≡ Element pk
+            → found pk.index pe.room ≡ None → installing step pack unpack pe pk u ≡ Some a → After a.pe a.trace
         installing_moves x pk (Err z) a h i f s = cc
         installing_moves x pk (Ok y) a h i f s =
             let same : record { acted = IsInstalled; pe = installed pe pk y.0; trace = Trace.Installed pk.index ∷ [] } ≡ a = cc in
             subst (λ (v : Acting C). After v.pe v.trace) same (installed_moves x pk y.0 h i f)
 
-        element_moves : (x : Item) (pk : PackedView) (o : Option (ElementView C)) (a : Acting C) → pe.hand ≡ Some x → x.parcel ≡ Element pk → found pk.index pe.room ≡ o → on_element step pack unpack pe pk o ≡ Some a → After a.pe a.trace
+        element_moves : (x : Item) (pk : PackedView) (o : Option (ElementView C)) (a : Acting C) → pe.hand ≡ Some x → x.parcel ≡ Element pk
+            → found pk.index pe.room ≡ o → on_element step pack unpack pe pk o ≡ Some a → After a.pe a.trace
         element_moves x pk (Some el) a h i f s = cc
         element_moves x pk None a h i f s = installing_moves x pk (unpack pk.bytes) a h i f s
 
-        parcel_moves : (x : Item) (parcel : Parcel) (a : Acting C) → pe.hand ≡ Some x → x.parcel ≡ parcel → on_parcel step pack unpack pe parcel x.address ≡ Some a → After a.pe a.trace
+        parcel_moves : (x : Item) (parcel : Parcel) (a : Acting C) → pe.hand ≡ Some x → x.parcel ≡ parcel
+            → on_parcel step pack unpack pe parcel x.address ≡ Some a → After a.pe a.trace
         parcel_moves x (Letter l) a h i s = letter_moves x l (found l.to pe.room) a h i refl s
         parcel_moves x (Element pk) a h i s = element_moves x pk (found pk.index pe.room) a h i refl s
 

@@ -30,7 +30,8 @@ module _ {C A : Type 0} (step : Step C) (fits : C → Type 0) (pack : C → List
       let history : IsHistory step pack opened taken.el = of_found (IsHistory step pack opened) e taken.el taken.pe.room held.room taken.stands in
       by (phase step pack opened taken.el history history.in_order e r taken.load taken.bytes taken.p taken.marked)
     where
-      by : (chare : C) × (slice_get opened taken.el.index ≡ Some chare) × (e ≡ taken.el.index) × IsPhase step pack (length opened) taken.el.index chare taken.el.journal r taken.load taken.bytes → Measures step pack opened w snapshot e r
+      by : (chare : C) × (slice_get opened taken.el.index ≡ Some chare) × (e ≡ taken.el.index) × IsPhase step pack (length opened) taken.el.index chare taken.el.journal r taken.load taken.bytes
+          → Measures step pack opened w snapshot e r
       by (chare, opens, same, did) =
           record {
             taken = taken;

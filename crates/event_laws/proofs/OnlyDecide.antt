@@ -67,7 +67,8 @@ module _ {C : Type 0} (step : Step C) (pack : C → List ℕ) where
       let both = where_some (at.1 == p) (Some (resumed step pack pe e at.0, resume_entries step pack pe e at.0)) a t in
       subst (λ (v : PeView C × List TraceEntry). Others v.1) (same_Some (resumed step pack pe e at.0, resume_entries step pack pe e at.0) a both.1) (resume_others pe e at.0))
 
-  depart_event_others : {A : Type 0} (p : ℕ) (pe : PeView C) (words : List ℕ) (b : BoardState A) (e : ℕ) (a : PeView C × List ℕ × List TraceEntry) → depart_event step pack p pe words b e ≡ Some a → Others a.2
+  depart_event_others : {A : Type 0} (p : ℕ) (pe : PeView C) (words : List ℕ) (b : BoardState A) (e : ℕ) (a : PeView C × List ℕ × List TraceEntry)
+      → depart_event step pack p pe words b e ≡ Some a → Others a.2
   depart_event_others p pe words b e a s =
       option_and_then_some (λ (at : ℕ × ℕ). where_true (not (at.1 == p)) (Some (departed pack pe e at.1, slice_set words e at.1, Trace.Departed e ∷ []))) (due pe b e) a s
       (λ at d t.

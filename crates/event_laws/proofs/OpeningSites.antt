@@ -64,7 +64,8 @@ module _ {C : Type 0} (g : LetterWeight) (k : ElementWeight) where
       omega (arith, a, b, c)
 
   -- what an opening world weighs
-  pub opening_sites : (A : Type 0) (pes : ℕ) (chares : List C) (strategy : Strategy) → 1 ≤ pes → world_at g k (opening_world {A = A} pes chares strategy) ≡ opened_sites k (length chares) pes 0 chares
+  pub opening_sites : (A : Type 0) (pes : ℕ) (chares : List C) (strategy : Strategy) → 1 ≤ pes
+      → world_at g k (opening_world {A = A} pes chares strategy) ≡ opened_sites k (length chares) pes 0 chares
   opening_sites A pes chares strategy some =
       let n : ℕ = length chares in
       let new : List (PeView C) = map (λ q. new_pe q n) (range_with_len 0 pes) in

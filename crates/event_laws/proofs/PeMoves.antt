@@ -22,7 +22,8 @@ use Rattle.event_laws.proofs.Sites.Site.{Fresh, Chasing, Waiting, Room}
 
 -- ---- letters that are posted
 
-pub posts_gain : (g : LetterWeight) (k : ElementWeight) (me count : ℕ) (ss : List (ℕ × List ℕ)) → sum_by (item_out g k) (letters_of me count ss) ≡ sum_by (letter_in g k Fresh) (numbered me count ss)
+pub posts_gain : (g : LetterWeight) (k : ElementWeight) (me count : ℕ) (ss : List (ℕ × List ℕ))
+    → sum_by (item_out g k) (letters_of me count ss) ≡ sum_by (letter_in g k Fresh) (numbered me count ss)
 posts_gain g k me count [] = refl
 posts_gain g k me count (s ∷ ss) =
     let item : Item = record { parcel = Letter (letter_to me count s.0 s.1); address = None } in
@@ -147,7 +148,8 @@ pub none_waits : (p e : ℕ) (shelf : List LetterView) → sum_by (letter_in (wa
 none_waits p e [] = refl
 none_waits p e (l ∷ ls) = by (is_for e l) refl (none_waits p e ls)
   where
-    by : (b : Bool) → is_for e l ≡ b → sum_by (letter_in (waits_at p e) no_elements (Waiting p)) (filter (λ x. not (is_for e x)) ls) ≡ 0 → sum_by (letter_in (waits_at p e) no_elements (Waiting p)) (cond (not b) (l ∷ filter (λ x. not (is_for e x)) ls) (filter (λ x. not (is_for e x)) ls)) ≡ 0
+    by : (b : Bool) → is_for e l ≡ b → sum_by (letter_in (waits_at p e) no_elements (Waiting p)) (filter (λ x. not (is_for e x)) ls) ≡ 0
+        → sum_by (letter_in (waits_at p e) no_elements (Waiting p)) (cond (not b) (l ∷ filter (λ x. not (is_for e x)) ls) (filter (λ x. not (is_for e x)) ls)) ≡ 0
     by true t later = later
     by false t later =
         let rest : List LetterView = filter (λ x. not (is_for e x)) ls in

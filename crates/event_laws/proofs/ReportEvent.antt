@@ -139,7 +139,8 @@ module _ {C A : Type 0} (n : ℕ) (w : WorldView C A) (p : ℕ) (pe : PeView C) 
         }
 
   -- the first note, whatever it is
-  note_agrees : (note : Note) (after : BoardState A) → slice_get pe.notes 0 ≡ Some note → board_after w.board note ≡ Some after → Numbered (with_board after) → Agrees n (with_board after)
+  note_agrees : (note : Note) (after : BoardState A) → slice_get pe.notes 0 ≡ Some note → board_after w.board note ≡ Some after
+      → Numbered (with_board after) → Agrees n (with_board after)
   note_agrees (Finish j) after is taken =
       let both = where_some (nat_lt j (elements m)) (Some (after_finish w.board j)) after taken in
       subst (λ (v : BoardState A). Numbered (with_board v) → Agrees n (with_board v)) (same_Some (after_finish w.board j) after both.1)

@@ -67,7 +67,9 @@ module _ {C : Type 0} where
           omega (arith, c, r)
 
   -- each value of a room but one, where that is the only one with its index
-  pub values_but : (P Q : ElementView C → Type 0) (e : ℕ) (el : ElementView C) (room : List (ℕ × ElementView C)) → AreKeyed room → count_in e room ≤ 1 → el.index ≡ e → found e room ≡ Some el → All P (values_of room) → ((x : ElementView C) → P x → x.index ≢ e → Q x) → Q el → All Q (values_of room)
+  pub values_but : (P Q : ElementView C → Type 0) (e : ℕ) (el : ElementView C) (room : List (ℕ × ElementView C)) → AreKeyed room → count_in e room ≤ 1
+      → el.index ≡ e → found e room ≡ Some el → All P (values_of room) → ((x : ElementView C) → P x → x.index ≢ e → Q x) → Q el
+      → All Q (values_of room)
   values_but P Q e el [] keyed one s at all others own = cc
   values_but P Q e el (p ∷ room) keyed one s at all others own =
       by (is_eq (nat_cmp e p.0)) refl (λ le k. values_but P Q e el room (All-tail Key p room keyed) le s k (All-tail P p.1 (values_of room) all) others own) at
@@ -75,7 +77,8 @@ module _ {C : Type 0} where
       c : count_in e (p ∷ room) ≡ one_at e p.1.index + count_in e room
       c = sum_by-cons (of_element no_letter (by_index (one_at e))) p.1 (values_of room)
 
-      by : (b : Bool) → is_eq (nat_cmp e p.0) ≡ b → (count_in e room ≤ 1 → found e room ≡ Some el → All Q (values_of room)) → cond b (Some p.1) (found e room) ≡ Some el → All Q (values_of (p ∷ room))
+      by : (b : Bool) → is_eq (nat_cmp e p.0) ≡ b → (count_in e room ≤ 1 → found e room ≡ Some el → All Q (values_of room))
+          → cond b (Some p.1) (found e room) ≡ Some el → All Q (values_of (p ∷ room))
       by true t rest k =
           let i : p.1 ≡ el = cc in
           let o : one_at e p.1.index ≡ 1 = at_one e p.1.index (ap (λ (v : ElementView C). v.index) i ∙ s) in
@@ -145,7 +148,8 @@ module _ (m : Measured) (i units bytes q : ℕ) where
   pub else_waits : (e : ℕ) (p : _) → e ≢ i → WaitsForPlace m e p → WaitsForPlace next e p
   else_waits e p ne w = record { waits = w.waits; at_round = w.at_round; silent = told_others e ne ∙ w.silent }
 
-  pub else_agrees : {C : Type 0} (me : ℕ) (notes rest : List Note) (el : ElementView C) → el.index ≢ i → ((y : Note) → Owes m me el y → Contains notes y → Contains rest y) → AgreesWith m me notes el → AgreesWith next me rest el
+  pub else_agrees : {C : Type 0} (me : ℕ) (notes rest : List Note) (el : ElementView C) → el.index ≢ i
+      → ((y : Note) → Owes m me el y → Contains notes y → Contains rest y) → AgreesWith m me notes el → AgreesWith next me rest el
   else_agrees {C} me notes rest el ne passes h =
       record { known = let k = h.known in let c = told_counts in omega (arith, k, c); fresh = h.fresh; state = by h.state }
     where
@@ -164,7 +168,8 @@ module _ (m : Measured) (i units bytes q : ℕ) where
   else_hand None h z = tt
   else_hand (Some x) h z = else_parcel x.parcel h z
 
-  else_owed : {C : Type 0} (me : ℕ) (room : List (ℕ × ElementView C)) → All (λ (el : ElementView C). one_at i el.index ≡ 0) (values_of room) → (y : Note) → IsOwed m me room y → IsOwed next me room y
+  else_owed : {C : Type 0} (me : ℕ) (room : List (ℕ × ElementView C)) → All (λ (el : ElementView C). one_at i el.index ≡ 0) (values_of room)
+      → (y : Note) → IsOwed m me room y → IsOwed next me room y
   else_owed {C} me room zero_each y k = (
     let lt : index_of y < elements m = k.0 in let c = told_counts in omega (arith, lt, c),
     λ f.

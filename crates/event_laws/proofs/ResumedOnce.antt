@@ -63,7 +63,8 @@ pub opened_once_each : {C : Type 0} (e i : ℕ) (chares : List C) → sum_by (λ
 opened_once_each {C} e i [] = let z : sum_by (λ (x : Life). one_at e x.0) (opened_lives {C = C} i []) ≡ 0 = refl in omega (arith, z)
 opened_once_each {C} e i (chare ∷ chares) = by (nat_eq i e) refl (opened_once_each e (i + 1) chares)
   where
-    by : (b : Bool) → nat_eq i e ≡ b → sum_by (λ (x : Life). one_at e x.0) (opened_lives (i + 1) chares) ≤ 1 → sum_by (λ (x : Life). one_at e x.0) ((i, []) ∷ opened_lives (i + 1) chares) ≤ 1
+    by : (b : Bool) → nat_eq i e ≡ b → sum_by (λ (x : Life). one_at e x.0) (opened_lives (i + 1) chares) ≤ 1
+        → sum_by (λ (x : Life). one_at e x.0) ((i, []) ∷ opened_lives (i + 1) chares) ≤ 1
     by true t later =
         let is : i ≡ e = grind (arith, nat_tests) in
         let a = sum_by-cons (λ (x : Life). one_at e x.0) (i, []) (opened_lives (i + 1) chares) in

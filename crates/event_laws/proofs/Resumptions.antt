@@ -40,7 +40,8 @@ counted_where : (b c : Bool) (old new : ℕ) → new ≡ old + (if c then 1 else
 counted_where true c old new h = h
 counted_where false c old new h = refl
 
-pub resumption_more : (e r i s : ℕ) (journal : List Done) → resumed_in e r (i, journal ++ Resumption s ∷ []) ≡ resumed_in e r (i, journal) + one (is_resumed e r) (Trace.Resumed i s)
+pub resumption_more : (e r i s : ℕ) (journal : List Done)
+    → resumed_in e r (i, journal ++ Resumption s ∷ []) ≡ resumed_in e r (i, journal) + one (is_resumed e r) (Trace.Resumed i s)
 resumption_more e r i s journal =
     let test : ℕ → Bool = λ v. v == r in
     let a : times test (resumptions (journal ++ Resumption s ∷ [])) ≡ times test (resumptions journal ++ s ∷ []) = ap (times test) (flat_map-append resumption_of journal (Resumption s ∷ [])) in

@@ -16,11 +16,13 @@ key_differs : (e q : ℕ) → is_eq (nat_cmp e q) ≡ false → ◌≡◌ {A = �
 key_differs e q f = grind (arith, nat_tests)
 
 module _ {X : Type 0} where
-  pub room_changed : (f : ℕ × X → ℕ) (room : List (ℕ × X)) (e : ℕ) (v x : X) → found e room ≡ Some v → ((key : ℕ) → f (key, x) ≡ f (key, v)) → sum_by f (changed e x room) ≡ sum_by f room
+  pub room_changed : (f : ℕ × X → ℕ) (room : List (ℕ × X)) (e : ℕ) (v x : X) → found e room ≡ Some v → ((key : ℕ) → f (key, x) ≡ f (key, v))
+      → sum_by f (changed e x room) ≡ sum_by f room
   room_changed f [] e v x h same = cc
   room_changed f (p ∷ ps) e v x h same = by (is_eq (nat_cmp e p.0)) h (λ later. room_changed f ps e v x later same)
     where
-      by : (b : Bool) → cond b (Some p.1) (lookup (is_at (nat_cmp e)) ps) ≡ Some v → (found e ps ≡ Some v → sum_by f (changed e x ps) ≡ sum_by f ps) → sum_by f (cond b ((p.0, x) ∷ ps) (p ∷ set_value (is_at (nat_cmp e)) ps x)) ≡ sum_by f (p ∷ ps)
+      by : (b : Bool) → cond b (Some p.1) (lookup (is_at (nat_cmp e)) ps) ≡ Some v → (found e ps ≡ Some v → sum_by f (changed e x ps) ≡ sum_by f ps)
+          → sum_by f (cond b ((p.0, x) ∷ ps) (p ∷ set_value (is_at (nat_cmp e)) ps x)) ≡ sum_by f (p ∷ ps)
       by true is rest =
           let s : p.1 ≡ v = cc in
           let a : f (p.0, x) ≡ f (p.0, p.1) = subst (λ (u : X). f (p.0, x) ≡ f (p.0, u)) (sym s) (same p.0) in
@@ -55,7 +57,9 @@ module _ {X : Type 0} where
   room_without f [] e v h = cc
   room_without f (p ∷ ps) e v h = by (is_eq (nat_cmp e p.0)) refl h (room_without f ps e v)
     where
-      by : (b : Bool) → is_eq (nat_cmp e p.0) ≡ b → cond b (Some p.1) (lookup (is_at (nat_cmp e)) ps) ≡ Some v → (found e ps ≡ Some v → sum_by f ps ≡ f (e, v) + sum_by f (without e ps)) → sum_by f (p ∷ ps) ≡ f (e, v) + sum_by f (cond b ps (p ∷ remove_entry (is_at (nat_cmp e)) ps))
+      by : (b : Bool) → is_eq (nat_cmp e p.0) ≡ b → cond b (Some p.1) (lookup (is_at (nat_cmp e)) ps) ≡ Some v
+          → (found e ps ≡ Some v → sum_by f ps ≡ f (e, v) + sum_by f (without e ps))
+          → sum_by f (p ∷ ps) ≡ f (e, v) + sum_by f (cond b ps (p ∷ remove_entry (is_at (nat_cmp e)) ps))
       by true t is rest =
           let s : p.1 ≡ v = cc in
           let a : f (p.0, p.1) ≡ f (p.0, v) = ap (λ (u : X). f (p.0, u)) s in
@@ -73,7 +77,9 @@ module _ {X : Type 0} where
   room_absent [] e h = refl
   room_absent (p ∷ ps) e h = by (is_eq (nat_cmp e p.0)) refl h (room_absent ps e)
     where
-      by : (b : Bool) → is_eq (nat_cmp e p.0) ≡ b → cond b (Some p.1) (lookup (is_at (nat_cmp e)) ps) ≡ None → (found e ps ≡ None → sum_by (λ (x : ℕ × X). if x.0 == e then 1 else 0) ps ≡ 0) → sum_by (λ (x : ℕ × X). if x.0 == e then 1 else 0) (p ∷ ps) ≡ 0
+      by : (b : Bool) → is_eq (nat_cmp e p.0) ≡ b → cond b (Some p.1) (lookup (is_at (nat_cmp e)) ps) ≡ None
+          → (found e ps ≡ None → sum_by (λ (x : ℕ × X). if x.0 == e then 1 else 0) ps ≡ 0)
+          → sum_by (λ (x : ℕ × X). if x.0 == e then 1 else 0) (p ∷ ps) ≡ 0
       by true t is rest = absurd (none-some p.1 (sym is))
       by false t is rest =
           let a : ◌≡◌ {A = ℕ} (if p.0 == e then 1 else 0) 0 = key_differs e p.0 t in

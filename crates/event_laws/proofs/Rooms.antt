@@ -37,7 +37,8 @@ module _ {X : Type 0} where
   found_changed e x y [] h = cc
   found_changed e x y (p ∷ room) h = by (is_eq (nat_cmp e p.0)) refl (found_changed e x y room) h
     where
-      by : (b : Bool) → is_eq (nat_cmp e p.0) ≡ b → (found e room ≡ Some y → found e (changed e x room) ≡ Some x) → cond b (Some p.1) (found e room) ≡ Some y → found e (cond b ((p.0, x) ∷ room) (p ∷ changed e x room)) ≡ Some x
+      by : (b : Bool) → is_eq (nat_cmp e p.0) ≡ b → (found e room ≡ Some y → found e (changed e x room) ≡ Some x)
+          → cond b (Some p.1) (found e room) ≡ Some y → found e (cond b ((p.0, x) ∷ room) (p ∷ changed e x room)) ≡ Some x
       by true t later k = rw t refl
       by false t later k = rw t (later k)
 
@@ -67,7 +68,8 @@ module _ {X : Type 0} where
   joined_other q e x [] ne = rw (differs q e ne) refl
   joined_other q e x (p ∷ room) ne = by (nat_cmp e p.0) refl (joined_other q e x room ne)
     where
-      by : (r : Ordering) → nat_cmp e p.0 ≡ r → found q (joined e x room) ≡ found q room → found q (match_ordering r ((e, x) ∷ p ∷ room) ((p.0, x) ∷ room) (p ∷ insert_entry nat_cmp room e x)) ≡ found q (p ∷ room)
+      by : (r : Ordering) → nat_cmp e p.0 ≡ r → found q (joined e x room) ≡ found q room
+          → found q (match_ordering r ((e, x) ∷ p ∷ room) ((p.0, x) ∷ room) (p ∷ insert_entry nat_cmp room e x)) ≡ found q (p ∷ room)
       by Less t later = rw (differs q e ne) refl
       by Equal t later =
           let s : e ≡ p.0 = exact_unsigned e p.0 t in

@@ -31,7 +31,8 @@ module _ {C : Type 0} (step : Step C) (pack : C → List ℕ) (n e : ℕ) (chare
     pub passed : (j : ℕ) → j < k → (r : ℕ) → Ends j r → r < due p
     pub once : (j : ℕ) → j < k → (i r : ℕ) → i < j → Ends i r → Ends j r → ⊥
 
-  past_entered : (p : Progress) (k pe : ℕ) (done : Done) (xs : List Mark) → Works step pack n e chare journal p k → Follow p (map stop_of (resumed_mark pe done ++ xs)) → Past p k → Past (entered p done) k
+  past_entered : (p : Progress) (k pe : ℕ) (done : Done) (xs : List Mark) → Works step pack n e chare journal p k
+      → Follow p (map stop_of (resumed_mark pe done ++ xs)) → Past p k → Past (entered p done) k
   past_entered p k pe (Letter l) xs w turn past = past
   past_entered p k pe (Resumption round) xs w turn past =
       let d : due p ≡ round + 1 = due_begun step pack n e chare journal p k round w turn.0 in
@@ -63,7 +64,8 @@ module _ {C : Type 0} (step : Step C) (pack : C → List ℕ) (n e : ℕ) (chare
             (λ i r lt a b. let x = past.passed i lt r a in let y = (here r b).1 in absurd (omega (arith, x, y, d)));
       }
 
-  past_on : (el : ElementView C) (x : Done × ℕ) (rest : List (Done × ℕ)) (k : ℕ) → Walks step pack n e chare journal el (x ∷ rest) k → Past el.progress k → Past (ran step pack el n x.1 x.0).progress (k + 1)
+  past_on : (el : ElementView C) (x : Done × ℕ) (rest : List (Done × ℕ)) (k : ℕ) → Walks step pack n e chare journal el (x ∷ rest) k
+      → Past el.progress k → Past (ran step pack el n x.1 x.0).progress (k + 1)
   past_on el x rest k w past =
       let h = handles step pack n e chare journal el x rest k w in
       let sync = synced_mark (note_of step pack el n x.1 x.0) in

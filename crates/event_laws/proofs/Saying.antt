@@ -64,7 +64,8 @@ module _ {C : Type 0} (step : Step C) (pack : C → List ℕ) (el : ElementView 
   ran_new h =
       by (ends_so (worked step pack el n done) el.index (length (pack (outcome_of step pack el n done).state)) me (ending_of step pack el n done) h)
     where
-      by : ((worked step pack el n done).finished ≡ true) ⊎ (note_of step pack el n me done ≡ Some (Finish el.index)) → (el.progress.finished ≡ true) ⊎ (note_of step pack el n me done ≡ Some (Finish el.index))
+      by : ((worked step pack el n done).finished ≡ true) ⊎ (note_of step pack el n me done ≡ Some (Finish el.index))
+          → (el.progress.finished ≡ true) ⊎ (note_of step pack el n me done ≡ Some (Finish el.index))
       by (inl k) = inl (sym (entered_same el.progress done) ∙ k)
       by (inr k) = inr k
 
@@ -179,7 +180,8 @@ module _ {C A : Type 0} (w : WorldView C A) (p : ℕ) (pe : PeView C) (at : slic
               done = both.1;
             }
 
-        or_new : Contains pe.notes (Finish e) ⊎ Contains (option_to_list (note_in step pack pe.room f pe.n pe.me done)) (Finish e) → IsSaid w e ⊎ StandsFinished (with_local w p then_view) e
+        or_new : Contains pe.notes (Finish e) ⊎ Contains (option_to_list (note_in step pack pe.room f pe.n pe.me done)) (Finish e)
+            → IsSaid w e ⊎ StandsFinished (with_local w p then_view) e
         or_new (inl has) = inl (mine_before has)
         or_new (inr has) = inr (new has)
 

@@ -19,7 +19,8 @@ use Rattle.event_laws.proofs.Chasing.{AreChasing}
 use Rattle.event_laws.proofs.Lags.{strays, right_is}
 
 -- a letter on a shelf weighs in its world
-shelf_weighs : {C A : Type 0} (w : WorldView C A) (g : LetterWeight) (p : ℕ) (pe : PeView C) (l : LetterView) → slice_get w.pes p ≡ Some pe → Contains pe.shelf l → letter_in g no_elements (Waiting p) l ≤ world_at g no_elements w
+shelf_weighs : {C A : Type 0} (w : WorldView C A) (g : LetterWeight) (p : ℕ) (pe : PeView C) (l : LetterView) → slice_get w.pes p ≡ Some pe
+    → Contains pe.shelf l → letter_in g no_elements (Waiting p) l ≤ world_at g no_elements w
 shelf_weighs {C} w g p pe l at (k, lt, is) =
     let any : Any (λ x. x ≡ l) pe.shelf = (k, l, lt, is, refl) in
     let a : letter_in g no_elements (Waiting p) l ≤ sum_by (letter_in g no_elements (Waiting p)) pe.shelf = any_le (letter_in g no_elements (Waiting p)) (λ x. x ≡ l) (letter_in g no_elements (Waiting p) l) pe.shelf (λ x e. same x e) any in
@@ -77,7 +78,8 @@ module _ {C A : Type 0} (n : ℕ) (w : WorldView C A) (trace : List TraceEntry) 
       let once = placed.once l.to (subst (λ (v : ℕ). l.to < v) placed.counted lt) in
       by word away once (world_at no_letters (bound_at p l.to) w) refl
     where
-      by : slice_get w.words l.to ≡ Some p → world_at no_letters (in_room p l.to) w ≡ 0 → world_at no_letters (at_index l.to) w ≡ 1 → (m : ℕ) → world_at no_letters (bound_at p l.to) w ≡ m → IsBoundFor w l.to p
+      by : slice_get w.words l.to ≡ Some p → world_at no_letters (in_room p l.to) w ≡ 0 → world_at no_letters (at_index l.to) w ≡ 1 → (m : ℕ)
+          → world_at no_letters (bound_at p l.to) w ≡ m → IsBoundFor w l.to p
       by word away once zero z =
           let x = world_zeros no_letters (in_room p l.to) no_letters (bound_at p l.to) no_letters (on_or_for p l.to) (λ s id to u v. refl) (λ s i u v. omega (arith, u, v)) w away z in
           let y = world_zeros no_letters (misnamed w.words) no_letters (on_or_for p l.to) no_letters (at_index l.to) (λ s id to u v. refl) (λ s i u v. nowhere w.words p l.to word s i (nat_eq i l.to) refl u v) w placed.named x in

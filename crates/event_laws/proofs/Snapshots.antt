@@ -82,7 +82,8 @@ pub counts_found : {C : Type 0} (e : ℕ) (room : List (ℕ × ElementView C)) �
 counts_found {C} e [] keyed le = let z : count_in {C = C} e [] ≡ 0 = refl in absurd (omega (arith, le, z))
 counts_found {C} e (p ∷ room) keyed le = by (is_eq (nat_cmp e p.0)) refl (counts_found e room (All-tail Key p room keyed))
   where
-    by : (b : Bool) → is_eq (nat_cmp e p.0) ≡ b → (1 ≤ count_in e room → (el : ElementView C) × (found e room ≡ Some el)) → (el : ElementView C) × (cond b (Some p.1) (found e room) ≡ Some el)
+    by : (b : Bool) → is_eq (nat_cmp e p.0) ≡ b → (1 ≤ count_in e room → (el : ElementView C) × (found e room ≡ Some el))
+        → (el : ElementView C) × (cond b (Some p.1) (found e room) ≡ Some el)
     by true t rest = (p.1, refl)
     by false t rest =
         let i : p.1.index ≡ p.0 = All-head Key p room keyed in
@@ -184,13 +185,17 @@ module _ {C A : Type 0} (step : Step C) (pack : C → List ℕ) (unpack : List �
   pub event_snaps : (event : Event) (next : After C A) (r : ℕ) → Happens step pack unpack w event next → Contains next.1 (Decided r) → Snapped n w next.0.board r
   event_snaps event next r happens here = by (pe_of event) happens
     where
-      by : (o : Option ℕ) → MatchOption o (MayDecide w.board next.0.board next.1 × (next.0 ≡ record w { board = next.0.board })) (λ p. next ≡ or_nothing w (enabled step pack unpack w event p)) → Snapped n w next.0.board r
+      by : (o : Option ℕ)
+          → MatchOption o (MayDecide w.board next.0.board next.1 × (next.0 ≡ record w { board = next.0.board })) (λ p. next ≡ or_nothing w (enabled step pack unpack w event p))
+          → Snapped n w next.0.board r
       by None d = may_snap next.0.board next.1 r here d.0
       by (Some p) e = absurd (none_among next.1 r (subst (λ (v : After C A). Others v.1) (sym e) (enabled_others step pack unpack w event p)) here)
 
 module _ {C A : Type 0} (step : Step C) (pack : C → List ℕ) (unpack : List ℕ → Result (C × ℕ) PupError) (pes : ℕ) (chares : List C) (strategy : Strategy) (some : 1 ≤ pes) where
   -- after every list of events
-  pub run_snaps : (events : List Event) (w : WorldView C A) (trace : List TraceEntry) (event : Event) (next : After C A) (r : ℕ) → Reaches step pack unpack (opening_world pes chares strategy) events (w, trace) → Happens step pack unpack w event next → Contains next.1 (Decided r) → Snapped (length chares) w next.0.board r
+  pub run_snaps : (events : List Event) (w : WorldView C A) (trace : List TraceEntry) (event : Event) (next : After C A) (r : ℕ)
+      → Reaches step pack unpack (opening_world pes chares strategy) events (w, trace) → Happens step pack unpack w event next
+      → Contains next.1 (Decided r) → Snapped (length chares) w next.0.board r
   run_snaps events w trace event next r run happens here =
       event_snaps step pack unpack (length chares) w
       (run_sound step pack unpack (length chares) (opening_world pes chares strategy) events (w, trace) (opening_sound step pack unpack pes chares strategy some) run)

@@ -58,7 +58,8 @@ pub record Turned {C A : Type 0} (p : ℕ) (d : LocalView C A) (a : LocalView C 
 
 module _ {C A : Type 0} (step : Step C) (pack : C → List ℕ) (p : ℕ) (d : LocalView C A) where
   -- the board is the same, and nothing is decided
-  plain : (a : LocalView C A × List TraceEntry) → a.0.board ≡ d.board → ((r : ℕ) → times (is_decided r) a.1 ≡ 0) → ((e r : ℕ) → 1 ≤ r → Contains a.1 (Trace.Resumed e r) → Stood p d a.0 e r) → Turned p d a
+  plain : (a : LocalView C A × List TraceEntry) → a.0.board ≡ d.board → ((r : ℕ) → times (is_decided r) a.1 ≡ 0)
+      → ((e r : ℕ) → 1 ≤ r → Contains a.1 (Trace.Resumed e r) → Stood p d a.0 e r) → Turned p d a
   plain a same none at =
       record {
         board = inl (record { same = same; undecided = none; placed = λ e r some there. let k = at e r some there in (p, k.place) });
@@ -66,7 +67,8 @@ module _ {C A : Type 0} (step : Step C) (pack : C → List ℕ) (p : ℕ) (d : L
       }
 
   -- one trace entry, of something else
-  single : (d' : LocalView C A) (report : TraceEntry) → d'.board ≡ d.board → ((r : ℕ) → is_decided r report ≡ false) → ((e r : ℕ) → report ≡ Trace.Resumed e r → ⊥) → Turned p d (d', report ∷ [])
+  single : (d' : LocalView C A) (report : TraceEntry) → d'.board ≡ d.board → ((r : ℕ) → is_decided r report ≡ false)
+      → ((e r : ℕ) → report ≡ Trace.Resumed e r → ⊥) → Turned p d (d', report ∷ [])
   single d' report same none other =
       plain (d', report ∷ []) same
       (λ r. let a = times-cons (is_decided r) report [] in let z : one (is_decided r) report ≡ 0 = rw none refl in omega (arith, a, z))
@@ -95,7 +97,8 @@ module _ {C A : Type 0} (step : Step C) (pack : C → List ℕ) (p : ℕ) (d : L
   note_resumes_none (Sync x round units bytes pe) e r h = unlike_synced x round e r (only_member (Trace.Synced x round) (Trace.Resumed e r) h)
   note_resumes_none (Finish x) e r h = no_member (Trace.Resumed e r) h
 
-  ran_found : (room : List (ℕ × ElementView C)) (e n me : ℕ) (done : Done) (el : ElementView C) → found e room ≡ Some el → found e (ran_in step pack room e n me done) ≡ Some (ran step pack el n me done)
+  ran_found : (room : List (ℕ × ElementView C)) (e n me : ℕ) (done : Done) (el : ElementView C) → found e room ≡ Some el
+      → found e (ran_in step pack room e n me done) ≡ Some (ran step pack el n me done)
   ran_found room e n me done el at = rw at (found_changed e (ran step pack el n me done) el room at)
 
   goes_on_stood : (e round : ℕ) (el : ElementView C) → found e d.pe.room ≡ Some el → place_in d.board round e ≡ Some p
@@ -132,7 +135,8 @@ module _ {C A : Type 0} (step : Step C) (pack : C → List ℕ) (p : ℕ) (d : L
       }
 
 -- it is the element itself that is found in the room of a PE, where the board and the elements agree
-pub found_mine : {C A : Type 0} (n : ℕ) (w : WorldView C A) (p : ℕ) (pe : PeView C) (e : ℕ) (el : ElementView C) → Agrees n w → slice_get w.pes p ≡ Some pe → found e pe.room ≡ Some el → el.index ≡ e
+pub found_mine : {C A : Type 0} (n : ℕ) (w : WorldView C A) (p : ℕ) (pe : PeView C) (e : ℕ) (el : ElementView C) → Agrees n w
+    → slice_get w.pes p ≡ Some pe → found e pe.room ≡ Some el → el.index ≡ e
 found_mine n w p pe e el agrees at stands =
     let here : AgreesAt w.board.database pe = at_place (AgreesAt w.board.database) w.pes p pe agrees.pes at in
     found_index e el pe.room here.keyed stands

@@ -17,7 +17,8 @@ use Rattle.event_laws.proofs.Rooms.{of_found}
 use Rattle.event_laws.proofs.ReportEvent.{all_got}
 
 -- the tests of the board, for a note that an element waits, and for one that it has finished
-sync_passes : {A : Type 0} (b : BoardState A) (e round units bytes pe : ℕ) → pe < b.pes → e < elements b.database → round ≡ b.database.round → report_of b.database e ≡ None → IsSome (board_after b (Sync e round units bytes pe))
+sync_passes : {A : Type 0} (b : BoardState A) (e round units bytes pe : ℕ) → pe < b.pes → e < elements b.database → round ≡ b.database.round
+    → report_of b.database e ≡ None → IsSome (board_after b (Sync e round units bytes pe))
 sync_passes b e round units bytes pe below known at silent = grind (arith, nat_tests)
 
 finish_passes : {A : Type 0} (b : BoardState A) (e : ℕ) → e < elements b.database → IsSome (board_after b (Finish e))

@@ -88,7 +88,8 @@ pub record IsNumber (bytes : List ℕ) (n : ℕ) (rest : List ℕ) : Type 0 wher
   pub spelled : bytes ≡ decimal n ++ rest
   pub small : n < 10 ^ DIGITS
 
-whole_is : (value digits : ℕ) (text bytes : List ℕ) (n : ℕ) (rest : List ℕ) → IsDigits value digits text → whole value digits bytes ≡ Some (n, rest) → IsNumber (text ++ bytes) n rest
+whole_is : (value digits : ℕ) (text bytes : List ℕ) (n : ℕ) (rest : List ℕ) → IsDigits value digits text → whole value digits bytes ≡ Some (n, rest)
+    → IsNumber (text ++ bytes) n rest
 whole_is value digits text bytes n rest is read =
     elim (cases_Bool (digits == 0)) [
       | inl none ↦ absurd (let other : ◌≡◌ {A = Option (ℕ × List ℕ)} None (Some (n, rest)) = rw none at read in cc)

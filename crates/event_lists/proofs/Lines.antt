@@ -87,7 +87,8 @@ abbrev pub number_text : Bool → ℕ → List ℕ
 number_text false n = []
 number_text true n = blank_number n
 
-number_reads : (wanted : Bool) (n : ℕ) (rest : List ℕ) → n < 10 ^ DIGITS → (wanted ≡ false → n ≡ 0) → NoDigit rest → number_at wanted (number_text wanted n ++ rest) ≡ Some (n, rest)
+number_reads : (wanted : Bool) (n : ℕ) (rest : List ℕ) → n < 10 ^ DIGITS → (wanted ≡ false → n ≡ 0) → NoDigit rest
+    → number_at wanted (number_text wanted n ++ rest) ≡ Some (n, rest)
 number_reads false n rest small unused plain = ap (λ k. Some (k, rest)) (sym (unused refl))
 number_reads true n rest small unused plain = reads_number n rest small plain
 
@@ -135,7 +136,8 @@ plain_end : (wanted : Bool) (e : ℕ) (rest : List ℕ) → NoDigit (number_text
 plain_end false e rest = refl
 plain_end true e rest = refl
 
-line_parts : (name : Name) (p e : ℕ) (rest : List ℕ) → line_text name p e ++ rest ≡ name_text name ++ (number_text (has_pe name) p ++ (number_text (has_element name) e ++ 10 ∷ rest))
+line_parts : (name : Name) (p e : ℕ) (rest : List ℕ)
+    → line_text name p e ++ rest ≡ name_text name ++ (number_text (has_pe name) p ++ (number_text (has_element name) e ++ 10 ∷ rest))
 line_parts name p e rest =
     append_assoc (name_text name) (number_text (has_pe name) p ++ (number_text (has_element name) e ++ 10 ∷ [])) rest
     ∙ ap (λ t. name_text name ++ t) (append_assoc (number_text (has_pe name) p) (number_text (has_element name) e ++ 10 ∷ []) rest

@@ -20,12 +20,14 @@ use Rattle.lb_any_order.specs.declared.reordering.Reordering.{Reordering}
 use Rattle.lb_any_order.specs.declared.reordering.Reordering.TheVariants.{InAnyOrder, InOrder}
 
 -- the division that a refined decision is measured from is certified
-pub least_certified : {A : Type 0} (loads : List ℕ) (sizes : List (ℕ × ℕ)) (pes tolerance : ℕ) (r : Refined A) → IsRefined loads sizes pes tolerance r → IsCertified loads pes (refined_least r)
+pub least_certified : {A : Type 0} (loads : List ℕ) (sizes : List (ℕ × ℕ)) (pes tolerance : ℕ) (r : Refined A) → IsRefined loads sizes pes tolerance r
+    → IsCertified loads pes (refined_least r)
 least_certified loads sizes pes tolerance (Planned d) right = right.0.right.division
 least_certified loads sizes pes tolerance (Near k) right = right.0.right.least
 
 -- the blocks of a plan
-pub blocks_of_plan : {A : Type 0} (loads : List ℕ) (sizes : List (ℕ × ℕ)) (pes : ℕ) (r : Reordered A) → length loads ≡ length sizes → IsReordered loads sizes pes r → AreBlocks sizes r.cuts
+pub blocks_of_plan : {A : Type 0} (loads : List ℕ) (sizes : List (ℕ × ℕ)) (pes : ℕ) (r : Reordered A) → length loads ≡ length sizes
+    → IsReordered loads sizes pes r → AreBlocks sizes r.cuts
 blocks_of_plan loads sizes pes r paired right =
     let blocks : blocks_between r.cuts ≡ pes = omega (arith, right.plan.divides.counted) in
     record {
@@ -41,7 +43,8 @@ naming_of_plan loads sizes pes r right =
     subst (λ n. IsNaming n r.names) (sym blocks) right.plan.naming
 
 -- the division of a plan, by its names
-pub division_of_plan : {A : Type 0} (loads : List ℕ) (sizes : List (ℕ × ℕ)) (pes : ℕ) (r : Reordered A) → length loads ≡ length sizes → IsReordered loads sizes pes r → IsDivision 0 (length sizes) (length r.names) r.cuts
+pub division_of_plan : {A : Type 0} (loads : List ℕ) (sizes : List (ℕ × ℕ)) (pes : ℕ) (r : Reordered A) → length loads ≡ length sizes
+    → IsReordered loads sizes pes r → IsDivision 0 (length sizes) (length r.names) r.cuts
 division_of_plan loads sizes pes r paired right =
     subst (λ n. IsDivision 0 n (length r.names) r.cuts) paired (subst (λ b. IsDivision 0 (length loads) b r.cuts) (sym right.plan.naming.counted) right.plan.divides)
 
@@ -64,24 +67,30 @@ place_below n pes cuts names divides naming few i inside =
     }
 
 -- the lesser of the two is a decision
-pub lesser_is : {A : Type 0} (loads : List ℕ) (sizes : List (ℕ × ℕ)) (pes tolerance : ℕ) (refined : Refined A) (fewest : Fewest A) (r : Reordering A) → IsRefined loads sizes pes tolerance refined → IsFewest loads sizes pes tolerance fewest → IsLesser refined fewest r → IsReordering loads sizes pes tolerance r
+pub lesser_is : {A : Type 0} (loads : List ℕ) (sizes : List (ℕ × ℕ)) (pes tolerance : ℕ) (refined : Refined A) (fewest : Fewest A) (r : Reordering A)
+    → IsRefined loads sizes pes tolerance refined → IsFewest loads sizes pes tolerance fewest → IsLesser refined fewest r
+    → IsReordering loads sizes pes tolerance r
 lesser_is loads sizes pes tolerance refined fewest (InOrder r) one other same =
     subst (IsRefined loads sizes pes tolerance) (sym same) one
 lesser_is loads sizes pes tolerance refined fewest (InAnyOrder f) one other (same, no_more) =
     subst (IsFewest loads sizes pes tolerance) (sym same) other
 
 -- and it moves no more bytes than the decision in the present order
-pub lesser_moves : {A : Type 0} (refined : Refined A) (fewest : Fewest A) (r : Reordering A) (most : ℕ) → refined_moved refined ≡ most → IsLesser refined fewest r → reordering_moved r ≤ most
+pub lesser_moves : {A : Type 0} (refined : Refined A) (fewest : Fewest A) (r : Reordering A) (most : ℕ) → refined_moved refined ≡ most
+    → IsLesser refined fewest r → reordering_moved r ≤ most
 lesser_moves refined fewest (InOrder r) most as_many same = omega (arith, ap refined_moved same, as_many)
 lesser_moves refined fewest (InAnyOrder f) most as_many (same, no_more) =
     omega (arith, ap (λ (g : Fewest _). g.moved) same, no_more, as_many)
 
 -- no block of it is above the limit
-fewest_within : {A : Type 0} (loads : List ℕ) (sizes : List (ℕ × ℕ)) (pes tolerance : ℕ) (f : Fewest A) → IsFewest loads sizes pes tolerance f → peak loads f.reordered.cuts ≤ limit_of f.reordered.least.bottleneck tolerance
+fewest_within : {A : Type 0} (loads : List ℕ) (sizes : List (ℕ × ℕ)) (pes tolerance : ℕ) (f : Fewest A) → IsFewest loads sizes pes tolerance f
+    → peak loads f.reordered.cuts ≤ limit_of f.reordered.least.bottleneck tolerance
 fewest_within loads sizes pes tolerance f few =
     subst (λ t. peak loads f.reordered.cuts ≤ limit_of f.reordered.least.bottleneck t) few.tolerance_is (peak_within loads pes (reordered_limit f.reordered) f.reordered.cuts few.right.plan.divides few.right.plan.within)
 
-pub within : {A : Type 0} (loads : List ℕ) (sizes : List (ℕ × ℕ)) (pes tolerance : ℕ) (refined : Refined A) (fewest : Fewest A) (r : Reordering A) → refined_bottleneck refined ≡ peak loads (refined_cuts refined) → refined_bottleneck refined ≤ limit_of (least_load refined) tolerance → IsFewest loads sizes pes tolerance fewest → IsLesser refined fewest r → peak loads (reordering_cuts r) ≤ limit_of (reordering_least r) tolerance
+pub within : {A : Type 0} (loads : List ℕ) (sizes : List (ℕ × ℕ)) (pes tolerance : ℕ) (refined : Refined A) (fewest : Fewest A) (r : Reordering A)
+    → refined_bottleneck refined ≡ peak loads (refined_cuts refined) → refined_bottleneck refined ≤ limit_of (least_load refined) tolerance
+    → IsFewest loads sizes pes tolerance fewest → IsLesser refined fewest r → peak loads (reordering_cuts r) ≤ limit_of (reordering_least r) tolerance
 within loads sizes pes tolerance refined fewest (InOrder r) heaviest low other same =
     subst (λ (q : Refined _). peak loads (refined_cuts q) ≤ limit_of (least_load q) tolerance) (sym same) (omega (arith, heaviest, low))
 within loads sizes pes tolerance refined fewest (InAnyOrder f) heaviest low other (same, no_more) =
@@ -93,13 +102,16 @@ below_names pes cuts names i naming place =
     record { place = place; below = naming.below (block_of cuts i) (omega (arith, place.named, naming.counted)) }
 
 -- the lesser has the places of one of the two
-pub lesser_places : {A : Type 0} (pes i : ℕ) (refined : Refined A) (fewest : Fewest A) (r : Reordering A) → HasPlaceBelow pes (refined_cuts refined) (refined_names refined) i → HasPlaceBelow pes fewest.reordered.cuts fewest.reordered.names i → IsLesser refined fewest r → HasPlaceBelow pes (reordering_cuts r) (reordering_names r) i
+pub lesser_places : {A : Type 0} (pes i : ℕ) (refined : Refined A) (fewest : Fewest A) (r : Reordering A)
+    → HasPlaceBelow pes (refined_cuts refined) (refined_names refined) i → HasPlaceBelow pes fewest.reordered.cuts fewest.reordered.names i
+    → IsLesser refined fewest r → HasPlaceBelow pes (reordering_cuts r) (reordering_names r) i
 lesser_places pes i refined fewest (InOrder r) one other same =
     subst (λ (q : Refined _). HasPlaceBelow pes (refined_cuts q) (refined_names q) i) (sym same) one
 lesser_places pes i refined fewest (InAnyOrder f) one other (same, no_more) =
     subst (λ (g : Fewest _). HasPlaceBelow pes g.reordered.cuts g.reordered.names i) (sym same) other
 
 -- the lesser has small prices, where it is the one in the present order
-pub lesser_prices : {A : Type 0} (sizes : List (ℕ × ℕ)) (refined : Refined A) (fewest : Fewest A) (r : Reordering A) → ArePricesSmall sizes refined → IsLesser refined fewest r → ArePricesSmallInOrder sizes r
+pub lesser_prices : {A : Type 0} (sizes : List (ℕ × ℕ)) (refined : Refined A) (fewest : Fewest A) (r : Reordering A) → ArePricesSmall sizes refined
+    → IsLesser refined fewest r → ArePricesSmallInOrder sizes r
 lesser_prices sizes refined fewest (InOrder r) small same = subst (ArePricesSmall sizes) (sym same) small
 lesser_prices sizes refined fewest (InAnyOrder f) small that = tt

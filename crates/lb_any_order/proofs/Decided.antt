@@ -31,7 +31,8 @@ module _ {A : Type 0} (loads : List ℕ) (sizes : List (ℕ × ℕ)) (pes tolera
   certified (InAnyOrder f) few = few.right.least
 
   -- nothing moves where the present places keep to the limit
-  pub nothing_moves : (r : Reordering A) (names present : List ℕ) → IsReordering loads sizes pes tolerance r → IsPresentOrder sizes pes names present → AreWithin loads names (limit_of (reordering_least r) tolerance) present → reordering_moved r ≡ 0
+  pub nothing_moves : (r : Reordering A) (names present : List ℕ) → IsReordering loads sizes pes tolerance r → IsPresentOrder sizes pes names present
+      → AreWithin loads names (limit_of (reordering_least r) tolerance) present → reordering_moved r ≡ 0
   nothing_moves (InOrder r) names present decided order within =
       whole loads sizes pes tolerance r names present decided order within
   nothing_moves (InAnyOrder f) names present few order within =

@@ -18,18 +18,23 @@ stays : (n blocks : ℕ) (cuts : List ℕ) (b : ℕ) → IsDivision 0 n blocks c
 stays n blocks cuts b division inside = omega (arith, division.ends, division.ordered (b + 1) blocks 0 (omega (arith, inside)) (omega (arith, division.counted)))
 
 -- the planned PE of an element of a block
-planned_in : (n blocks : ℕ) (cuts names : List ℕ) (b k : ℕ) → IsDivision 0 n blocks cuts → b < blocks → slice_index cuts b ≤ k → k < slice_index cuts (b + 1) → planned_pe cuts names k ≡ slice_index names b
+planned_in : (n blocks : ℕ) (cuts names : List ℕ) (b k : ℕ) → IsDivision 0 n blocks cuts → b < blocks → slice_index cuts b ≤ k
+    → k < slice_index cuts (b + 1) → planned_pe cuts names k ≡ slice_index names b
 planned_in n blocks cuts names b k division inside low high = ap (slice_index names) (block_of_is n blocks cuts b k division inside low high)
 
 -- the number of places in a block
-width : (n blocks : ℕ) (cuts names places filled : List ℕ) (b : ℕ) → IsDivision 0 n blocks cuts → b < blocks → length places ≡ n → filled ≡ replicate (length (between (slice_index cuts b) (slice_index cuts (b + 1)) places)) (slice_index names b) → length filled ≡ slice_index cuts (b + 1) - slice_index cuts b
+width : (n blocks : ℕ) (cuts names places filled : List ℕ) (b : ℕ) → IsDivision 0 n blocks cuts → b < blocks → length places ≡ n
+    → filled ≡ replicate (length (between (slice_index cuts b) (slice_index cuts (b + 1)) places)) (slice_index names b)
+    → length filled ≡ slice_index cuts (b + 1) - slice_index cuts b
 width n blocks cuts names places filled b division inside counted is_filled =
     ap length is_filled
     ∙ length-replicate (length (between (slice_index cuts b) (slice_index cuts (b + 1)) places)) (slice_index names b)
     ∙ length-between places (slice_index cuts b) (slice_index cuts (b + 1)) (omega (arith, stays n blocks cuts b division inside, counted))
 
 -- a block that was filled keeps its length
-pub same_count : (n blocks : ℕ) (cuts names places filled : List ℕ) (b : ℕ) → IsDivision 0 n blocks cuts → b < blocks → length places ≡ n → filled ≡ replicate (length (between (slice_index cuts b) (slice_index cuts (b + 1)) places)) (slice_index names b) → length (put_mid (slice_index cuts b) (slice_index cuts (b + 1) - slice_index cuts b) places filled) ≡ n
+pub same_count : (n blocks : ℕ) (cuts names places filled : List ℕ) (b : ℕ) → IsDivision 0 n blocks cuts → b < blocks → length places ≡ n
+    → filled ≡ replicate (length (between (slice_index cuts b) (slice_index cuts (b + 1)) places)) (slice_index names b)
+    → length (put_mid (slice_index cuts b) (slice_index cuts (b + 1) - slice_index cuts b) places filled) ≡ n
 same_count n blocks cuts names places filled b division inside counted is_filled =
     let first : ℕ = slice_index cuts b in
     let size : ℕ = slice_index cuts (b + 1) - first in
@@ -49,7 +54,10 @@ same_count n blocks cuts names places filled b division inside counted is_filled
     )
 
 -- the places up to the end of a block that was filled with its name
-pub one_more_written : (n blocks : ℕ) (cuts names places filled : List ℕ) (b : ℕ) → IsDivision 0 n blocks cuts → b < blocks → length places ≡ n → filled ≡ replicate (length (between (slice_index cuts b) (slice_index cuts (b + 1)) places)) (slice_index names b) → ((k : ℕ) → k < slice_index cuts b → slice_index places k ≡ planned_pe cuts names k) → (k : ℕ) → k < slice_index cuts (b + 1) → slice_index (put_mid (slice_index cuts b) (slice_index cuts (b + 1) - slice_index cuts b) places filled) k ≡ planned_pe cuts names k
+pub one_more_written : (n blocks : ℕ) (cuts names places filled : List ℕ) (b : ℕ) → IsDivision 0 n blocks cuts → b < blocks → length places ≡ n
+    → filled ≡ replicate (length (between (slice_index cuts b) (slice_index cuts (b + 1)) places)) (slice_index names b)
+    → ((k : ℕ) → k < slice_index cuts b → slice_index places k ≡ planned_pe cuts names k) → (k : ℕ) → k < slice_index cuts (b + 1)
+    → slice_index (put_mid (slice_index cuts b) (slice_index cuts (b + 1) - slice_index cuts b) places filled) k ≡ planned_pe cuts names k
 one_more_written n blocks cuts names places filled b division inside counted is_filled before k below =
     let first : ℕ = slice_index cuts b in
     let size : ℕ = slice_index cuts (b + 1) - first in
@@ -72,7 +80,10 @@ one_more_written n blocks cuts names places filled b division inside counted is_
     ]
 
 -- the places up to the end of a block whose places are all its name
-pub one_more_right : (n blocks : ℕ) (cuts names places : List ℕ) (b : ℕ) → IsDivision 0 n blocks cuts → b < blocks → length places ≡ n → All (λ place. place ≡ slice_index names b) (between (slice_index cuts b) (slice_index cuts (b + 1)) places) → ((k : ℕ) → k < slice_index cuts b → slice_index places k ≡ planned_pe cuts names k) → (k : ℕ) → k < slice_index cuts (b + 1) → slice_index places k ≡ planned_pe cuts names k
+pub one_more_right : (n blocks : ℕ) (cuts names places : List ℕ) (b : ℕ) → IsDivision 0 n blocks cuts → b < blocks → length places ≡ n
+    → All (λ place. place ≡ slice_index names b) (between (slice_index cuts b) (slice_index cuts (b + 1)) places)
+    → ((k : ℕ) → k < slice_index cuts b → slice_index places k ≡ planned_pe cuts names k) → (k : ℕ) → k < slice_index cuts (b + 1)
+    → slice_index places k ≡ planned_pe cuts names k
 one_more_right n blocks cuts names places b division inside counted all before k below =
     let first : ℕ = slice_index cuts b in
     elim (cases_lt k first) [
@@ -84,7 +95,9 @@ one_more_right n blocks cuts names places b division inside counted all before k
     ]
 
 -- where all places are right, those of a block are all its name
-pub all_of_block : (n blocks : ℕ) (cuts names places : List ℕ) (b : ℕ) → IsDivision 0 n blocks cuts → b < blocks → length places ≡ n → ((k : ℕ) → k < n → slice_index places k ≡ planned_pe cuts names k) → All (λ place. place ≡ slice_index names b) (between (slice_index cuts b) (slice_index cuts (b + 1)) places)
+pub all_of_block : (n blocks : ℕ) (cuts names places : List ℕ) (b : ℕ) → IsDivision 0 n blocks cuts → b < blocks → length places ≡ n
+    → ((k : ℕ) → k < n → slice_index places k ≡ planned_pe cuts names k)
+    → All (λ place. place ≡ slice_index names b) (between (slice_index cuts b) (slice_index cuts (b + 1)) places)
 all_of_block n blocks cuts names places b division inside counted placed =
     let first : ℕ = slice_index cuts b in
     let end : ℕ = slice_index cuts (b + 1) in

@@ -11,11 +11,13 @@ use Rattle.lb_certificates.proofs.LeastDivisions.{least_from_certified}
 use Rattle.lb_lists.specs.Claims.{division_of, floor_of, claimed_division, Claimed, IsBest, IsFirstFlaw, IsRightClaim}
 use Rattle.lb_lists.specs.Runs.{Listed, sizes_of}
 
-floors_agree : (A B : Type 0) (stops : List ℕ) (zero : Type 0) (fence : List ℕ → Type 0) → MatchFloor {A = A} (floor_of stops) zero fence → MatchFloor {A = B} (floor_of stops) zero fence
+floors_agree : (A B : Type 0) (stops : List ℕ) (zero : Type 0) (fence : List ℕ → Type 0) → MatchFloor {A = A} (floor_of stops) zero fence
+    → MatchFloor {A = B} (floor_of stops) zero fence
 floors_agree A B [] zero fence holds = holds
 floors_agree A B (stop ∷ stops) zero fence holds = holds
 
-pub flaws_agree : (A B : Type 0) (loads : List ℕ) (pes bottleneck : ℕ) (cuts stops : List ℕ) (flaw : Flaw) → HasFlaw loads pes (division_of {A = A} bottleneck cuts stops) flaw → HasFlaw loads pes (division_of {A = B} bottleneck cuts stops) flaw
+pub flaws_agree : (A B : Type 0) (loads : List ℕ) (pes bottleneck : ℕ) (cuts stops : List ℕ) (flaw : Flaw)
+    → HasFlaw loads pes (division_of {A = A} bottleneck cuts stops) flaw → HasFlaw loads pes (division_of {A = B} bottleneck cuts stops) flaw
 flaws_agree A B loads pes bottleneck cuts stops FenceCount flawed = floors_agree A B stops _ _ flawed
 flaws_agree A B loads pes bottleneck cuts stops FenceStart flawed = floors_agree A B stops _ _ flawed
 flaws_agree A B loads pes bottleneck cuts stops FenceOrder flawed = floors_agree A B stops _ _ flawed
@@ -25,7 +27,9 @@ flaws_agree A B loads pes bottleneck cuts stops ZeroFloor flawed = floors_agree 
 flaws_agree A B loads pes bottleneck cuts stops _ flawed = flawed
 
 -- the first flaw
-pub first_claimed : (A : Type 0) (loads : List ℕ) (pes bottleneck : ℕ) (cuts stops : List ℕ) (flaw : Flaw) → IsFirst (HasFlaw loads pes (division_of {A = A} bottleneck cuts stops)) flaw → IsFirst (HasFlaw loads pes (division_of {A = Unit {0}} bottleneck cuts stops)) flaw
+pub first_claimed : (A : Type 0) (loads : List ℕ) (pes bottleneck : ℕ) (cuts stops : List ℕ) (flaw : Flaw)
+    → IsFirst (HasFlaw loads pes (division_of {A = A} bottleneck cuts stops)) flaw
+    → IsFirst (HasFlaw loads pes (division_of {A = Unit {0}} bottleneck cuts stops)) flaw
 first_claimed A loads pes bottleneck cuts stops flaw first =
     record {
       applies_itself = flaws_agree A (Unit {0}) loads pes bottleneck cuts stops flaw first.applies_itself;
@@ -34,7 +38,8 @@ first_claimed A loads pes bottleneck cuts stops flaw first =
     }
 
 -- the certificate
-pub certified_claimed : (A : Type 0) (loads : List ℕ) (pes bottleneck : ℕ) (cuts stops : List ℕ) → IsCertified loads pes (division_of {A = A} bottleneck cuts stops) → IsCertified loads pes (division_of {A = Unit {0}} bottleneck cuts stops)
+pub certified_claimed : (A : Type 0) (loads : List ℕ) (pes bottleneck : ℕ) (cuts stops : List ℕ)
+    → IsCertified loads pes (division_of {A = A} bottleneck cuts stops) → IsCertified loads pes (division_of {A = Unit {0}} bottleneck cuts stops)
 certified_claimed A loads pes bottleneck cuts stops certified =
     record {
       divides = certified.divides;
@@ -54,6 +59,7 @@ best_from_right run pes claim right =
     }
 
 -- a claim in which no flaw was found is best
-pub best_where_none : (run : Listed) (pes : ℕ) (claim : Claimed) (found : Option Flaw) → MatchOption found (IsRightClaim run pes claim) (IsFirstFlaw run pes claim) → found ≡ None → IsBest run pes claim
+pub best_where_none : (run : Listed) (pes : ℕ) (claim : Claimed) (found : Option Flaw)
+    → MatchOption found (IsRightClaim run pes claim) (IsFirstFlaw run pes claim) → found ≡ None → IsBest run pes claim
 best_where_none run pes claim None right none = best_from_right run pes claim right
 best_where_none run pes claim (Some flaw) first none = absurd cc

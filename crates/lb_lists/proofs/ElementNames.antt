@@ -39,23 +39,29 @@ zipped_division bytes places cuts blocks =
     subst (λ n. IsDivision 0 n (blocks_between cuts) cuts) (sym (zip_length bytes places blocks.divided.paired)) blocks.divided.divides
 
 -- the cost of a naming by the matrix of its blocks is the number of bytes that it moves
-moved_by_matrix : (sizes : List (ℕ × ℕ)) (cuts names : List ℕ) (t : Table) → IsDivision 0 (length sizes) (blocks_between cuts) cuts → IsTableOf sizes cuts t → IsNaming t.blocks names → naming_cost t.blocks (cost_at t) names ≡ bytes_moved sizes cuts names
+moved_by_matrix : (sizes : List (ℕ × ℕ)) (cuts names : List ℕ) (t : Table) → IsDivision 0 (length sizes) (blocks_between cuts) cuts
+    → IsTableOf sizes cuts t → IsNaming t.blocks names → naming_cost t.blocks (cost_at t) names ≡ bytes_moved sizes cuts names
 moved_by_matrix sizes cuts names t division matrix naming =
     let by_block : naming_cost t.blocks (cost_at t) names ≡ naming_cost t.blocks (block_cost sizes cuts) names = total_same t.blocks (λ b. cost_at t b (slice_index names b)) (λ b. block_cost sizes cuts b (slice_index names b)) (λ b inside. matrix.exact b (slice_index names b) inside (naming.below b inside)) in
     by_block ∙ ap (λ n. naming_cost n (block_cost sizes cuts) names) matrix.counted ∙ sym (moved_is_cost sizes cuts names (blocks_between cuts) division)
 
-pub bytes_by_cost : (sizes : List (ℕ × ℕ)) (cuts names : List ℕ) (moved : ℕ) (t : Table) → IsDivision 0 (length sizes) (blocks_between cuts) cuts → IsTableOf sizes cuts t → IsNaming t.blocks names → moved ≡ naming_cost t.blocks (cost_at t) names → moved ≡ bytes_moved sizes cuts names
+pub bytes_by_cost : (sizes : List (ℕ × ℕ)) (cuts names : List ℕ) (moved : ℕ) (t : Table) → IsDivision 0 (length sizes) (blocks_between cuts) cuts
+    → IsTableOf sizes cuts t → IsNaming t.blocks names → moved ≡ naming_cost t.blocks (cost_at t) names → moved ≡ bytes_moved sizes cuts names
 bytes_by_cost sizes cuts names moved t division matrix naming cost =
     cost ∙ moved_by_matrix sizes cuts names t division matrix naming
 
 -- the least naming by the matrix is the least naming of the blocks
-pub least_by_matrix : (sizes : List (ℕ × ℕ)) (cuts names : List ℕ) (t : Table) → IsDivision 0 (length sizes) (blocks_between cuts) cuts → IsTableOf sizes cuts t → IsFirstCheapest t.blocks (naming_cost t.blocks (cost_at t)) names → IsLeastNaming sizes cuts (blocks_between cuts) names
+pub least_by_matrix : (sizes : List (ℕ × ℕ)) (cuts names : List ℕ) (t : Table) → IsDivision 0 (length sizes) (blocks_between cuts) cuts
+    → IsTableOf sizes cuts t → IsFirstCheapest t.blocks (naming_cost t.blocks (cost_at t)) names
+    → IsLeastNaming sizes cuts (blocks_between cuts) names
 least_by_matrix sizes cuts names t division matrix least =
     let there : IsFirstCheapest t.blocks (bytes_moved sizes cuts) names = least_by t.blocks (bytes_moved sizes cuts) (naming_cost t.blocks (cost_at t)) names (λ others naming. moved_by_matrix sizes cuts others t division matrix naming) least in
     subst (λ n. IsFirstCheapest n (bytes_moved sizes cuts) names) matrix.counted there
 
 -- prices that prove a naming by the matrix prove what it moves
-proved_by_matrix : (sizes : List (ℕ × ℕ)) (cuts names : List ℕ) (u v : List ℤ) (t : Table) → IsDivision 0 (length sizes) (blocks_between cuts) cuts → IsTableOf sizes cuts t → IsNaming t.blocks names → Proves t.blocks (cost_at t) (naming_cost t.blocks (cost_at t) names) u v → Proves (blocks_between cuts) (block_cost sizes cuts) (bytes_moved sizes cuts names) u v
+proved_by_matrix : (sizes : List (ℕ × ℕ)) (cuts names : List ℕ) (u v : List ℤ) (t : Table) → IsDivision 0 (length sizes) (blocks_between cuts) cuts
+    → IsTableOf sizes cuts t → IsNaming t.blocks names → Proves t.blocks (cost_at t) (naming_cost t.blocks (cost_at t) names) u v
+    → Proves (blocks_between cuts) (block_cost sizes cuts) (bytes_moved sizes cuts names) u v
 proved_by_matrix sizes cuts names u v t division matrix naming proved =
     let counted : t.blocks ≡ blocks_between cuts = matrix.counted in
     record {
@@ -66,7 +72,9 @@ proved_by_matrix sizes cuts names u v t division matrix naming proved =
     }
 
 -- a naming of the blocks, priced by their matrix
-pub named_by_matrix : (bytes places cuts names : List ℕ) (u v : List ℤ) (t : Table) → AreBlocksOf bytes places cuts → IsTableOf (zip bytes places) cuts t → IsNaming t.blocks names → Proves t.blocks (cost_at t) (naming_cost t.blocks (cost_at t) names) u v → IsNamedRun (zip bytes places) cuts names u v
+pub named_by_matrix : (bytes places cuts names : List ℕ) (u v : List ℤ) (t : Table) → AreBlocksOf bytes places cuts
+    → IsTableOf (zip bytes places) cuts t → IsNaming t.blocks names → Proves t.blocks (cost_at t) (naming_cost t.blocks (cost_at t) names) u v
+    → IsNamedRun (zip bytes places) cuts names u v
 named_by_matrix bytes places cuts names u v t blocks matrix naming proved =
     let division = zipped_division bytes places cuts blocks in
     record {
@@ -112,7 +120,8 @@ greatest_cost sizes cuts t matrix exact =
     }
 
 -- prices that the matrix bounds are bounded by the costs of the blocks
-pub bounded_by_matrix : (sizes : List (ℕ × ℕ)) (cuts : List ℕ) (u v : List ℤ) (t : Table) → IsMatrix t → IsTableOf sizes cuts t → AreWithin (greatest t.costs) u v → ArePricesBounded sizes cuts u v
+pub bounded_by_matrix : (sizes : List (ℕ × ℕ)) (cuts : List ℕ) (u v : List ℤ) (t : Table) → IsMatrix t → IsTableOf sizes cuts t
+    → AreWithin (greatest t.costs) u v → ArePricesBounded sizes cuts u v
 bounded_by_matrix sizes cuts u v t matrix exact within =
     record {
       most = greatest t.costs;

@@ -18,14 +18,17 @@ between_past xs first end other past more =
     ∙ sym (take_all (other - first) (drop first xs) (omega (arith, length-drop first xs, past, more)))
 
 -- one more step of a row
-pub row_more : (places rises : List ℕ) (first i : ℕ) (row : List (ℕ × ℕ)) → first ≤ i → i < length places → i < length rises → row ≡ between first i (zip places rises) → row ++ (slice_index places i, slice_index rises i) ∷ [] ≡ between first (i + 1) (zip places rises)
+pub row_more : (places rises : List ℕ) (first i : ℕ) (row : List (ℕ × ℕ)) → first ≤ i → i < length places → i < length rises
+    → row ≡ between first i (zip places rises) → row ++ (slice_index places i, slice_index rises i) ∷ [] ≡ between first (i + 1) (zip places rises)
 row_more places rises first i row from inside beside is =
     ap (λ front. front ++ (slice_index places i, slice_index rises i) ∷ []) is
     ∙ ap (λ pair. between first i (zip places rises) ++ pair ∷ []) (sym (get_or-zip places rises i (0, 0) inside beside))
     ∙ sym (between_more (zip places rises) first i (0, 0) from (omega (arith, inside, beside, length-zip places rises)))
 
 -- a row up to the end, or up to where the lists end
-pub row_done : (places rises : List ℕ) (first end last i : ℕ) (row : List (ℕ × ℕ)) → last ≡ min (min end (length places)) (length rises) → last ≤ i → first ≤ i → (first ≤ last → i ≤ last) → (last < first → i ≡ first) → row ≡ between first i (zip places rises) → row ≡ between first end (zip places rises)
+pub row_done : (places rises : List ℕ) (first end last i : ℕ) (row : List (ℕ × ℕ)) → last ≡ min (min end (length places)) (length rises) → last ≤ i
+    → first ≤ i → (first ≤ last → i ≤ last) → (last < first → i ≡ first) → row ≡ between first i (zip places rises)
+    → row ≡ between first end (zip places rises)
 row_done places rises first end last i row last_is done from inside unmoved is =
     let zipped : length (zip places rises) ≡ min (length places) (length rises) = length-zip places rises in
     elim (cases_lt last first) [
@@ -46,14 +49,17 @@ row_done places rises first end last i row last_is done from inside unmoved is =
     ]
 
 -- the rows up to one more start
-rows-more : (starts : List ℕ) (steps : List (ℕ × ℕ)) (b : ℕ) → suc b < length starts → rows_between (take (suc (suc b)) starts) steps ≡ rows_between (take (suc b) starts) steps ++ between (slice_index starts b) (slice_index starts (suc b)) steps ∷ []
+rows-more : (starts : List ℕ) (steps : List (ℕ × ℕ)) (b : ℕ) → suc b < length starts
+    → rows_between (take (suc (suc b)) starts) steps ≡ rows_between (take (suc b) starts) steps ++ between (slice_index starts b) (slice_index starts (suc b)) steps ∷ []
 rows-more [] steps b inside = absurd (omega (arith, inside))
 rows-more (x ∷ []) steps b inside = absurd (omega (arith, inside))
 rows-more (x ∷ y ∷ starts) steps zero inside = refl
 rows-more (x ∷ y ∷ starts) steps (suc b) inside =
     ap (λ rows. between x y steps ∷ rows) (rows-more (y ∷ starts) steps b (omega (arith, inside)))
 
-pub one_more_row : (starts : List ℕ) (steps : List (ℕ × ℕ)) (b : ℕ) (rows : List (List (ℕ × ℕ))) (row : List (ℕ × ℕ)) → 1 ≤ b → b < length starts → rows ≡ rows_between (take b starts) steps → row ≡ between (slice_index starts (b - 1)) (slice_index starts b) steps → rows ++ row ∷ [] ≡ rows_between (take (b + 1) starts) steps
+pub one_more_row : (starts : List ℕ) (steps : List (ℕ × ℕ)) (b : ℕ) (rows : List (List (ℕ × ℕ))) (row : List (ℕ × ℕ)) → 1 ≤ b → b < length starts
+    → rows ≡ rows_between (take b starts) steps → row ≡ between (slice_index starts (b - 1)) (slice_index starts b) steps
+    → rows ++ row ∷ [] ≡ rows_between (take (b + 1) starts) steps
 one_more_row starts steps zero rows row some inside is row_is = absurd (omega (arith, some))
 one_more_row starts steps (suc b) rows row some inside is row_is =
     let next : suc b + 1 ≡ suc (suc b) = omega arith in

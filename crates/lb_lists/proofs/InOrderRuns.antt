@@ -31,7 +31,8 @@ pub record IsPriced {A : Type 0} (kept : KeptInOrder A) (k : Kept A) : Type 0 wh
   pub moved : k.moved ≡ kept.moved
 
 -- such cuts as plain lists
-told_in_order : {A : Type 0} (run : Listed) (pes tolerance : ℕ) (kept : KeptInOrder A) (k : Kept A) → IsPriced kept k → IsKeptInOrder run.loads (sizes_of run) pes tolerance kept → IsToldInOrder run pes tolerance (told_of_kept k) (standing_of k)
+told_in_order : {A : Type 0} (run : Listed) (pes tolerance : ℕ) (kept : KeptInOrder A) (k : Kept A) → IsPriced kept k
+    → IsKeptInOrder run.loads (sizes_of run) pes tolerance kept → IsToldInOrder run pes tolerance (told_of_kept k) (standing_of k)
 told_in_order {A} run pes tolerance kept k priced is =
     let r = sym priced.refinement in
     let counted : length kept.refinement.order ≡ pes = is.order.naming.counted in
@@ -52,7 +53,9 @@ told_in_order {A} run pes tolerance kept k priced is =
     }
 
 -- the decision of the plan as plain lists, where there is no order
-pub told_as_plan : {A : Type 0} (run : Listed) (pes tolerance : ℕ) (r : RefinedInOrder A) (d : Decision A) (near : Bool) (told : Told) (standing : Standing) → r ≡ Planned d → near ≡ false → told ≡ told_of_plan d → IsRefinedInOrder run.loads (sizes_of run) pes tolerance r → HasSmallPrices (sizes_of run) r → IsInOrderRun run pes tolerance near told standing
+pub told_as_plan : {A : Type 0} (run : Listed) (pes tolerance : ℕ) (r : RefinedInOrder A) (d : Decision A) (near : Bool) (told : Told) (standing : Standing)
+    → r ≡ Planned d → near ≡ false → told ≡ told_of_plan d → IsRefinedInOrder run.loads (sizes_of run) pes tolerance r
+    → HasSmallPrices (sizes_of run) r → IsInOrderRun run pes tolerance near told standing
 told_as_plan run pes tolerance r d near told standing is near_is told_is refined small =
     let planned = subst (IsRefinedInOrder run.loads (sizes_of run) pes tolerance) is refined in
     let bounded : HasBoundedPrices (sizes_of run) d = subst (HasSmallPrices (sizes_of run)) is small in
@@ -61,7 +64,9 @@ told_as_plan run pes tolerance r d near told standing is near_is told_is refined
     subst (λ b. IsInOrderRun run pes tolerance b told standing) (sym near_is) in_told
 
 -- cuts near the present ones as plain lists
-pub told_as_near : {A : Type 0} (run : Listed) (pes tolerance : ℕ) (r : RefinedInOrder A) (kept : KeptInOrder A) (k : Kept A) (near : Bool) (told : Told) (standing : Standing) → r ≡ Near kept → IsPriced kept k → near ≡ true → told ≡ told_of_kept k → standing ≡ standing_of k → IsRefinedInOrder run.loads (sizes_of run) pes tolerance r → IsInOrderRun run pes tolerance near told standing
+pub told_as_near : {A : Type 0} (run : Listed) (pes tolerance : ℕ) (r : RefinedInOrder A) (kept : KeptInOrder A) (k : Kept A) (near : Bool) (told : Told) (standing : Standing)
+    → r ≡ Near kept → IsPriced kept k → near ≡ true → told ≡ told_of_kept k → standing ≡ standing_of k
+    → IsRefinedInOrder run.loads (sizes_of run) pes tolerance r → IsInOrderRun run pes tolerance near told standing
 told_as_near run pes tolerance r kept k near told standing is priced near_is told_is standing_is refined =
     let whole = told_in_order run pes tolerance kept k priced (subst (IsRefinedInOrder run.loads (sizes_of run) pes tolerance) is refined) in
     let in_told = subst (λ t. IsInOrderRun run pes tolerance true t (standing_of k)) (sym told_is) whole in
@@ -69,7 +74,10 @@ told_as_near run pes tolerance r kept k near told standing is priced near_is tol
     subst (λ b. IsInOrderRun run pes tolerance b told standing) (sym near_is) in_standing
 
 -- the bytes that are reported are those of the decision, so that none are where the present blocks are within the limit
-pub whole_told : {A : Type 0} (loads : List ℕ) (sizes : List (ℕ × ℕ)) (pes tolerance : ℕ) (r other : RefinedInOrder A) (least moved : ℕ) → r ≡ other → least ≡ ordered_least_load other → moved ≡ ordered_moved other → ((names present : List ℕ) → IsPresentOrder sizes pes names present → AreWithin loads names (limit_of (ordered_least_load r) tolerance) present → ordered_moved r ≡ 0) → (names present : List ℕ) → IsPresentOrder sizes pes names present → AreWithin loads names (limit_of least tolerance) present → moved ≡ 0
+pub whole_told : {A : Type 0} (loads : List ℕ) (sizes : List (ℕ × ℕ)) (pes tolerance : ℕ) (r other : RefinedInOrder A) (least moved : ℕ) → r ≡ other
+    → least ≡ ordered_least_load other → moved ≡ ordered_moved other
+    → ((names present : List ℕ) → IsPresentOrder sizes pes names present → AreWithin loads names (limit_of (ordered_least_load r) tolerance) present → ordered_moved r ≡ 0)
+    → (names present : List ℕ) → IsPresentOrder sizes pes names present → AreWithin loads names (limit_of least tolerance) present → moved ≡ 0
 whole_told loads sizes pes tolerance r other least moved is least_is moved_is whole names present order within =
     let limit : limit_of least tolerance ≡ limit_of (ordered_least_load r) tolerance = ap (λ n. limit_of n tolerance) (least_is ∙ ap ordered_least_load (sym is)) in
     moved_is ∙ ap ordered_moved (sym is) ∙ whole names present order (subst (λ n. AreWithin loads names n present) limit within)

@@ -24,7 +24,8 @@ least_power_is (suc more) first n k from to above below = elim (cases_lt first k
 ]
 
 -- the power of the bits of the greater of n and 65,536, less 1
-pub limit_by_bits : (n log : ℕ) → n < 2 ^ 32 → 2 ^ log ≤ max n 65536 - 1 → max n 65536 - 1 < 2 * 2 ^ log → (15 ≤ log) × (log < 32) × (n ≤ 2 ^ (log + 1)) × (load_limit n ≡ 2 ^ (62 - log) - 1)
+pub limit_by_bits : (n log : ℕ) → n < 2 ^ 32 → 2 ^ log ≤ max n 65536 - 1 → max n 65536 - 1 < 2 * 2 ^ log
+    → (15 ≤ log) × (log < 32) × (n ≤ 2 ^ (log + 1)) × (load_limit n ≡ 2 ^ (62 - log) - 1)
 limit_by_bits n log few reached passed =
     let low : 15 ≤ log = at_least (cases_lt log 15) in
     let high : log < 32 = at_most (cases_lt log 32) in
@@ -57,7 +58,8 @@ counts_add_up limit power loads small =
     omega (arith, sum_by-le (λ x. x) limit (counts power loads) each, ap (λ n. n * limit) (length-map loads (λ load. ticks load / 2 ^ power)))
 
 -- so scaled loads can be planned
-pub light : (bits power : ℕ) (loads : List Float) → bits ≤ 47 → length loads ≤ 2 ^ (63 - bits) → AreSmallIn (2 ^ bits - 1) power loads → sum (counts power loads) ≤ 9223372036854775807
+pub light : (bits power : ℕ) (loads : List Float) → bits ≤ 47 → length loads ≤ 2 ^ (63 - bits) → AreSmallIn (2 ^ bits - 1) power loads
+    → sum (counts power loads) ≤ 9223372036854775807
 light bits power loads few fits small =
     let most : length loads * (2 ^ bits - 1) ≤ 2 ^ (63 - bits) * (2 ^ bits - 1) = mul-le-mul_right (2 ^ bits - 1) fits in
     let together : 63 - bits + bits ≡ 63 = omega (arith, few) in

@@ -73,7 +73,9 @@ counts_in_units power [] = refl
 counts_in_units power (l ∷ loads) = ap (λ rest. ticks l / 2 ^ power ∷ rest) (counts_in_units power loads)
 
 -- a division that is least for the counts is nearly least for the loads
-pub near : (loads : List Float) (unit : Float) (scaled : List ℕ) (pes bottleneck : ℕ) (cuts others : List ℕ) → IsScaled loads unit scaled → IsLeastDivision scaled pes bottleneck cuts → IsDivision 0 (length loads) pes others → peak (in_ticks loads) cuts ≤ peak (in_ticks loads) others + length loads * ticks unit
+pub near : (loads : List Float) (unit : Float) (scaled : List ℕ) (pes bottleneck : ℕ) (cuts others : List ℕ) → IsScaled loads unit scaled
+    → IsLeastDivision scaled pes bottleneck cuts → IsDivision 0 (length loads) pes others
+    → peak (in_ticks loads) cuts ≤ peak (in_ticks loads) others + length loads * ticks unit
 near loads unit scaled pes bottleneck cuts others is least division =
     let u : ℕ = 2 ^ is.power in
     let xs : List ℕ = in_ticks loads in

@@ -17,7 +17,8 @@ places_once cuts names n places others this that =
     let below : i < n = omega (arith, inside, this.counted) in
     this.placed i below ∙ sym (that.placed i below))
 
-pub plan_once : (run : Listed) (pes : ℕ) (places others : List ℕ) (bottleneck other moved more : ℕ) → IsPlan run pes places bottleneck moved → IsPlan run pes others other more → (places ≡ others) × (bottleneck ≡ other) × (moved ≡ more)
+pub plan_once : (run : Listed) (pes : ℕ) (places others : List ℕ) (bottleneck other moved more : ℕ) → IsPlan run pes places bottleneck moved
+    → IsPlan run pes others other more → (places ≡ others) × (bottleneck ≡ other) × (moved ≡ more)
 plan_once run pes places others bottleneck other moved more this that =
     let division : division_of {A = Unit {0}} bottleneck this.cuts this.stops ≡ division_of other that.cuts that.stops = only_from_chosen run.loads pes _ that.chosen _ this.chosen in
     let cuts : this.cuts ≡ that.cuts = ap (λ (d : Division (Unit {0})). d.cuts) division in

@@ -38,7 +38,9 @@ least_same run pes one other this that =
     }
 
 -- decisions with the same cuts and names
-same_from : (run : Listed) (one other : Told) → AreLeastSame one other → one.cuts ≡ other.cuts → one.names ≡ other.names → one.moved ≡ bytes_moved (sizes_of run) one.cuts one.names → other.moved ≡ bytes_moved (sizes_of run) other.cuts other.names → AreToldSame one other
+same_from : (run : Listed) (one other : Told) → AreLeastSame one other → one.cuts ≡ other.cuts → one.names ≡ other.names
+    → one.moved ≡ bytes_moved (sizes_of run) one.cuts one.names → other.moved ≡ bytes_moved (sizes_of run) other.cuts other.names
+    → AreToldSame one other
 same_from run one other least cuts names this that =
     record {
       least = least.least;
@@ -61,7 +63,10 @@ same_plan run pes one other this that =
     same_named run pes one other (this.cuts_are ∙ least.least_cuts ∙ sym that.cuts_are) this.right that.right
 
 -- the nearest cuts in the present order are the same
-nearest_same : (run : Listed) (pes tolerance : ℕ) (one other : Told) (stood also : Standing) → one.least ≡ other.least → IsPresentOrder (sizes_of run) pes stood.order stood.present → IsPresentOrder (sizes_of run) pes also.order also.present → AreNearest run.loads (sizes_of run) stood.order stood.present (limit_of one.least tolerance) one.cuts → AreNearest run.loads (sizes_of run) also.order also.present (limit_of other.least tolerance) other.cuts → one.cuts ≡ other.cuts
+nearest_same : (run : Listed) (pes tolerance : ℕ) (one other : Told) (stood also : Standing) → one.least ≡ other.least
+    → IsPresentOrder (sizes_of run) pes stood.order stood.present → IsPresentOrder (sizes_of run) pes also.order also.present
+    → AreNearest run.loads (sizes_of run) stood.order stood.present (limit_of one.least tolerance) one.cuts
+    → AreNearest run.loads (sizes_of run) also.order also.present (limit_of other.least tolerance) other.cuts → one.cuts ≡ other.cuts
 nearest_same run pes tolerance one other stood also least order same_order this that =
     let orders = one_order (sizes_of run) pes stood.order stood.present also.order also.present order same_order in
     let limited = subst (λ n. AreNearest run.loads (sizes_of run) stood.order stood.present (limit_of n tolerance) one.cuts) least this in
@@ -69,12 +74,14 @@ nearest_same run pes tolerance one other stood also least order same_order this 
     let at_present = subst (λ ps. AreNearest run.loads (sizes_of run) also.order ps (limit_of other.least tolerance) one.cuts) orders.1 in_order in
     one_is_nearest run.loads (sizes_of run) also.order also.present (limit_of other.least tolerance) one.cuts other.cuts at_present that
 
-same_near : (run : Listed) (pes tolerance : ℕ) (one other : Told) (stood also : Standing) → IsToldNear run pes tolerance one stood → IsToldNear run pes tolerance other also → AreToldSame one other
+same_near : (run : Listed) (pes tolerance : ℕ) (one other : Told) (stood also : Standing) → IsToldNear run pes tolerance one stood
+    → IsToldNear run pes tolerance other also → AreToldSame one other
 same_near run pes tolerance one other stood also this that =
     let least = least_same run pes one other this.right.chosen that.right.chosen in
     same_named run pes one other (nearest_same run pes tolerance one other stood also least.least this.order that.order this.nearest that.nearest) this.right that.right
 
-same_in_order : (run : Listed) (pes tolerance : ℕ) (one other : Told) (stood also : Standing) → IsToldInOrder run pes tolerance one stood → IsToldInOrder run pes tolerance other also → AreToldSame one other
+same_in_order : (run : Listed) (pes tolerance : ℕ) (one other : Told) (stood also : Standing) → IsToldInOrder run pes tolerance one stood
+    → IsToldInOrder run pes tolerance other also → AreToldSame one other
 same_in_order run pes tolerance one other stood also this that =
     let least = least_same run pes one other this.chosen that.chosen in
     let orders = one_order (sizes_of run) pes stood.order stood.present also.order also.present this.order that.order in
@@ -82,7 +89,8 @@ same_in_order run pes tolerance one other stood also this that =
     same_from run one other least cuts (this.names_are ∙ orders.0 ∙ sym that.names_are) this.moved that.moved
 
 -- cuts that move fewer bytes than the plan are not there where the plan moves no more
-not_both : (run : Listed) (pes tolerance : ℕ) (one other : Told) (stood also : Standing) → IsRefinedRun run pes tolerance false one stood → IsRefinedRun run pes tolerance true other also → ⊥
+not_both : (run : Listed) (pes tolerance : ℕ) (one other : Told) (stood also : Standing) → IsRefinedRun run pes tolerance false one stood
+    → IsRefinedRun run pes tolerance true other also → ⊥
 not_both run pes tolerance one other stood also (plan, inl none) (near, less) =
     none also.order also.present near.order.naming near.order.in_order
 not_both run pes tolerance one other stood also (plan, inr (more, there, other_near, no_more)) (near, less) =
@@ -90,7 +98,8 @@ not_both run pes tolerance one other stood also (plan, inr (more, there, other_n
     absurd (omega (arith, no_more, same.moved, less one plan))
 
 -- both are near, or both are the plan
-pub same_kind : (run : Listed) (pes tolerance : ℕ) (keep near also : Bool) (one other : Told) (standing stood : Standing) → IsDecidedRun run pes tolerance keep near one standing → IsDecidedRun run pes tolerance keep also other stood → near ≡ also
+pub same_kind : (run : Listed) (pes tolerance : ℕ) (keep near also : Bool) (one other : Told) (standing stood : Standing)
+    → IsDecidedRun run pes tolerance keep near one standing → IsDecidedRun run pes tolerance keep also other stood → near ≡ also
 same_kind run pes tolerance keep true true one other standing stood this that = refl
 same_kind run pes tolerance keep false false one other standing stood this that = refl
 same_kind run pes tolerance false true false one other standing stood this that =
@@ -102,7 +111,8 @@ same_kind run pes tolerance true true false one other standing stood this (plan,
 same_kind run pes tolerance true false true one other standing stood (plan, none, bounded) that =
     absurd (none stood.order stood.present that.order.naming that.order.in_order)
 
-same_decided : (run : Listed) (pes tolerance : ℕ) (keep near : Bool) (one other : Told) (standing stood : Standing) → IsDecidedRun run pes tolerance keep near one standing → IsDecidedRun run pes tolerance keep near other stood → AreToldSame one other
+same_decided : (run : Listed) (pes tolerance : ℕ) (keep near : Bool) (one other : Told) (standing stood : Standing)
+    → IsDecidedRun run pes tolerance keep near one standing → IsDecidedRun run pes tolerance keep near other stood → AreToldSame one other
 same_decided run pes tolerance false true one other standing stood this that =
     same_near run pes tolerance one other standing stood this.0 that.0
 same_decided run pes tolerance false false one other standing stood this that =
@@ -112,12 +122,15 @@ same_decided run pes tolerance true true one other standing stood this that =
 same_decided run pes tolerance true false one other standing stood this that =
     same_plan run pes one other this.0 that.0
 
-pub same_decision : (run : Listed) (pes tolerance : ℕ) (keep near also : Bool) (one other : Told) (standing stood : Standing) → IsDecidedRun run pes tolerance keep near one standing → IsDecidedRun run pes tolerance keep also other stood → AreToldSame one other
+pub same_decision : (run : Listed) (pes tolerance : ℕ) (keep near also : Bool) (one other : Told) (standing stood : Standing)
+    → IsDecidedRun run pes tolerance keep near one standing → IsDecidedRun run pes tolerance keep also other stood → AreToldSame one other
 same_decision run pes tolerance keep near also one other standing stood this that =
     let kind = same_kind run pes tolerance keep near also one other standing stood this that in
     same_decided run pes tolerance keep near one other standing stood this (subst (λ b. IsDecidedRun run pes tolerance keep b other stood) (sym kind) that)
 
-pub same_places : (run : Listed) (pes tolerance : ℕ) (keep near also : Bool) (one other : Told) (standing stood : Standing) (places others : List ℕ) → IsDecidedRun run pes tolerance keep near one standing → IsDecidedRun run pes tolerance keep also other stood → ArePlaces one.cuts one.names (length run.loads) places → ArePlaces other.cuts other.names (length run.loads) others → places ≡ others
+pub same_places : (run : Listed) (pes tolerance : ℕ) (keep near also : Bool) (one other : Told) (standing stood : Standing) (places others : List ℕ)
+    → IsDecidedRun run pes tolerance keep near one standing → IsDecidedRun run pes tolerance keep also other stood
+    → ArePlaces one.cuts one.names (length run.loads) places → ArePlaces other.cuts other.names (length run.loads) others → places ≡ others
 same_places run pes tolerance keep near also one other standing stood places others this that placed also_placed =
     let same = same_decision run pes tolerance keep near also one other standing stood this that in
     let by_cuts = subst (λ c. ArePlaces c one.names (length run.loads) places) same.cuts placed in

@@ -20,7 +20,9 @@ use Rattle.lb_lists.specs.Runs.{sizes_of, IsRun, Listed}
 use Rattle.lb_lists.proofs.Claims.{certified_claimed, flaws_agree}
 use Rattle.lb_lists.proofs.Zipped.{zip_length}
 
-reordered_flaws_agree : (A B : Type 0) (loads : List ℕ) (sizes : List (ℕ × ℕ)) (pes thousandths : ℕ) (claim : ReorderedClaimed) (flaw : ReorderedFlaw) → HasReorderedFlaw loads sizes pes (reordered_in {A = A} pes thousandths claim) flaw → HasReorderedFlaw loads sizes pes (reordered_in {A = B} pes thousandths claim) flaw
+reordered_flaws_agree : (A B : Type 0) (loads : List ℕ) (sizes : List (ℕ × ℕ)) (pes thousandths : ℕ) (claim : ReorderedClaimed) (flaw : ReorderedFlaw)
+    → HasReorderedFlaw loads sizes pes (reordered_in {A = A} pes thousandths claim) flaw
+    → HasReorderedFlaw loads sizes pes (reordered_in {A = B} pes thousandths claim) flaw
 reordered_flaws_agree A B loads sizes pes thousandths claim (Least flaw) flawed =
     flaws_agree A B loads pes claim.least claim.least_cuts claim.decision.stops flaw flawed
 reordered_flaws_agree A B loads sizes pes thousandths claim PeCount flawed = flawed
@@ -36,7 +38,9 @@ reordered_flaws_agree A B loads sizes pes thousandths claim (Steep b y x) flawed
 reordered_flaws_agree A B loads sizes pes thousandths claim Low flawed = flawed
 
 -- the first flaw of the reordered division
-first_reordered : (A : Type 0) (loads : List ℕ) (sizes : List (ℕ × ℕ)) (pes thousandths : ℕ) (claim : ReorderedClaimed) (flaw : ReorderedFlaw) → IsFirstReorderedFlaw (HasReorderedFlaw loads sizes pes (reordered_in {A = A} pes thousandths claim)) flaw → IsFirstReorderedFlaw (HasReorderedFlaw loads sizes pes (claimed_reordered pes thousandths claim)) flaw
+first_reordered : (A : Type 0) (loads : List ℕ) (sizes : List (ℕ × ℕ)) (pes thousandths : ℕ) (claim : ReorderedClaimed) (flaw : ReorderedFlaw)
+    → IsFirstReorderedFlaw (HasReorderedFlaw loads sizes pes (reordered_in {A = A} pes thousandths claim)) flaw
+    → IsFirstReorderedFlaw (HasReorderedFlaw loads sizes pes (claimed_reordered pes thousandths claim)) flaw
 first_reordered A loads sizes pes thousandths claim flaw first =
     record {
       applies_itself = reordered_flaws_agree A (Unit {0}) loads sizes pes thousandths claim flaw first.applies_itself;
@@ -45,19 +49,25 @@ first_reordered A loads sizes pes thousandths claim flaw first =
     }
 
 -- a reordered division of a snapshot, on a run
-on_run : {A : Type 0} (run : Listed) (pes thousandths : ℕ) (claim : ReorderedClaimed) (loads : List ℕ) (sizes : List (ℕ × ℕ)) (r : Reordered A) (P : List ℕ → List (ℕ × ℕ) → Reordered A → Type 0) → loads ≡ run.loads → sizes ≡ sizes_of run → r ≡ reordered_in pes thousandths claim → P loads sizes r → P run.loads (sizes_of run) (reordered_in pes thousandths claim)
+on_run : {A : Type 0} (run : Listed) (pes thousandths : ℕ) (claim : ReorderedClaimed) (loads : List ℕ) (sizes : List (ℕ × ℕ)) (r : Reordered A) (P : List ℕ → List (ℕ × ℕ) → Reordered A → Type 0)
+    → loads ≡ run.loads → sizes ≡ sizes_of run → r ≡ reordered_in pes thousandths claim → P loads sizes r
+    → P run.loads (sizes_of run) (reordered_in pes thousandths claim)
 on_run run pes thousandths claim loads sizes r P loads_are sizes_are reordered_is holds =
     let on_loads = subst (λ l. P l sizes r) loads_are holds in
     let on_sizes = subst (λ s. P run.loads s r) sizes_are on_loads in
     subst (P run.loads (sizes_of run)) reordered_is on_sizes
 
 -- the flaw that the checker of reordered divisions reports is the first of the claim
-pub flaw_of_reordered : (A : Type 0) (run : Listed) (pes thousandths : ℕ) (claim : ReorderedClaimed) (loads : List ℕ) (sizes : List (ℕ × ℕ)) (r : Reordered A) (flaw : ReorderedFlaw) → loads ≡ run.loads → sizes ≡ sizes_of run → r ≡ reordered_in pes thousandths claim → IsFirstReorderedFlaw (HasReorderedFlaw loads sizes pes r) flaw → IsFirstClaimFlaw run pes thousandths claim (OfReordered flaw)
+pub flaw_of_reordered : (A : Type 0) (run : Listed) (pes thousandths : ℕ) (claim : ReorderedClaimed) (loads : List ℕ) (sizes : List (ℕ × ℕ)) (r : Reordered A) (flaw : ReorderedFlaw)
+    → loads ≡ run.loads → sizes ≡ sizes_of run → r ≡ reordered_in pes thousandths claim
+    → IsFirstReorderedFlaw (HasReorderedFlaw loads sizes pes r) flaw → IsFirstClaimFlaw run pes thousandths claim (OfReordered flaw)
 flaw_of_reordered A run pes thousandths claim loads sizes r flaw loads_are sizes_are reordered_is first =
     first_reordered A run.loads (sizes_of run) pes thousandths claim flaw (on_run run pes thousandths claim loads sizes r (λ l s x. IsFirstReorderedFlaw (HasReorderedFlaw l s pes x) flaw) loads_are sizes_are reordered_is first)
 
 -- the reordered division of a claim is right where the checker accepts it
-pub right_of_reordered : (A : Type 0) (run : Listed) (pes thousandths : ℕ) (claim : ReorderedClaimed) (loads : List ℕ) (sizes : List (ℕ × ℕ)) (r : Reordered A) → loads ≡ run.loads → sizes ≡ sizes_of run → r ≡ reordered_in pes thousandths claim → IsReordered loads sizes pes r → IsReorderedRight run pes thousandths claim
+pub right_of_reordered : (A : Type 0) (run : Listed) (pes thousandths : ℕ) (claim : ReorderedClaimed) (loads : List ℕ) (sizes : List (ℕ × ℕ)) (r : Reordered A)
+    → loads ≡ run.loads → sizes ≡ sizes_of run → r ≡ reordered_in pes thousandths claim → IsReordered loads sizes pes r
+    → IsReorderedRight run pes thousandths claim
 right_of_reordered A run pes thousandths claim loads sizes r loads_are sizes_are reordered_is right =
     let it = on_run run pes thousandths claim loads sizes r (λ l s x. IsReordered l s pes x) loads_are sizes_are reordered_is right in
     record {
@@ -71,14 +81,21 @@ right_of_reordered A run pes thousandths claim loads sizes r loads_are sizes_are
     }
 
 -- what is told of the bytes and the places, on a run
-pub told_of_reordered : (run : Listed) (pes thousandths : ℕ) (claim : ReorderedClaimed) (loads : List ℕ) (sizes : List (ℕ × ℕ)) (moved count : ℕ) (found : Option Flaw) → loads ≡ run.loads → sizes ≡ sizes_of run → IsReorderedRight run pes thousandths claim → claim.decision.bottleneck ≡ peak loads claim.decision.cuts → moved ≡ bytes_moved sizes claim.decision.cuts claim.decision.names → count ≡ length loads → MatchOption found (IsToldRight moved count claim.decision) (IsFlawTold moved count claim.decision) → MatchOption found (IsRightReordered run pes thousandths claim) (λ flaw. IsFirstClaimFlaw run pes thousandths claim (OfDecision flaw))
+pub told_of_reordered : (run : Listed) (pes thousandths : ℕ) (claim : ReorderedClaimed) (loads : List ℕ) (sizes : List (ℕ × ℕ)) (moved count : ℕ) (found : Option Flaw)
+    → loads ≡ run.loads → sizes ≡ sizes_of run → IsReorderedRight run pes thousandths claim
+    → claim.decision.bottleneck ≡ peak loads claim.decision.cuts → moved ≡ bytes_moved sizes claim.decision.cuts claim.decision.names
+    → count ≡ length loads → MatchOption found (IsToldRight moved count claim.decision) (IsFlawTold moved count claim.decision)
+    → MatchOption found (IsRightReordered run pes thousandths claim) (λ flaw. IsFirstClaimFlaw run pes thousandths claim (OfDecision flaw))
 told_of_reordered run pes thousandths claim loads sizes moved count found loads_are sizes_are right heavy moved_is counted told =
     let heavy_run : IsPeakRight run claim = subst (λ l. claim.decision.bottleneck ≡ peak l claim.decision.cuts) loads_are heavy in
     let moved_run : moved ≡ right_moved run claim.decision = subst (λ s. moved ≡ bytes_moved s claim.decision.cuts claim.decision.names) sizes_are moved_is in
     let counted_run : count ≡ length run.loads = subst (λ l. count ≡ length l) loads_are counted in
     told_by run pes thousandths claim found right heavy_run (subst (λ m. MatchOption found (IsToldRight m (length run.loads) claim.decision) (IsFlawTold m (length run.loads) claim.decision)) moved_run (subst (λ n. MatchOption found (IsToldRight moved n claim.decision) (IsFlawTold moved n claim.decision)) counted_run told))
   where
-    told_by : (run : Listed) (pes thousandths : ℕ) (claim : ReorderedClaimed) (found : Option Flaw) → IsReorderedRight run pes thousandths claim → IsPeakRight run claim → MatchOption found (IsToldRight (right_moved run claim.decision) (length run.loads) claim.decision) (IsFlawTold (right_moved run claim.decision) (length run.loads) claim.decision) → MatchOption found (IsRightReordered run pes thousandths claim) (λ flaw. IsFirstClaimFlaw run pes thousandths claim (OfDecision flaw))
+    told_by : (run : Listed) (pes thousandths : ℕ) (claim : ReorderedClaimed) (found : Option Flaw) → IsReorderedRight run pes thousandths claim
+        → IsPeakRight run claim
+        → MatchOption found (IsToldRight (right_moved run claim.decision) (length run.loads) claim.decision) (IsFlawTold (right_moved run claim.decision) (length run.loads) claim.decision)
+        → MatchOption found (IsRightReordered run pes thousandths claim) (λ flaw. IsFirstClaimFlaw run pes thousandths claim (OfDecision flaw))
     told_by run pes thousandths claim None right heavy told = record { reordered = right; bottleneck = heavy; moved = told.0; placed = told.1 }
     told_by run pes thousandths claim (Some flaw) right heavy told = (right, heavy, told)
 
@@ -95,6 +112,8 @@ best_of_all run pes thousandths claim is_run right =
     }
 
 -- a claim in which no flaw was found is best
-pub best_where_no_flaw : (run : Listed) (pes thousandths : ℕ) (claim : ReorderedClaimed) (found : Option ReorderedClaimFlaw) → IsRun run → MatchOption found (IsRightReordered run pes thousandths claim) (IsFirstClaimFlaw run pes thousandths claim) → found ≡ None → IsBestOfAll run pes thousandths claim
+pub best_where_no_flaw : (run : Listed) (pes thousandths : ℕ) (claim : ReorderedClaimed) (found : Option ReorderedClaimFlaw) → IsRun run
+    → MatchOption found (IsRightReordered run pes thousandths claim) (IsFirstClaimFlaw run pes thousandths claim) → found ≡ None
+    → IsBestOfAll run pes thousandths claim
 best_where_no_flaw run pes thousandths claim None is_run right none = best_of_all run pes thousandths claim is_run right
 best_where_no_flaw run pes thousandths claim (Some flaw) is_run first none = absurd cc

@@ -28,7 +28,8 @@ use Rattle.std.proofs.lemmas.List.{length-map}
 abbrev pub rows_of : {A : Type 0} → Fewest A → BoundRows
 rows_of f = record { any = f.reordered.any; free = f.reordered.free }
 
-told_fewest : {A : Type 0} (run : Listed) (pes tolerance : ℕ) (f : Fewest A) → IsFewest run.loads (sizes_of run) pes tolerance f → IsToldReordered run pes tolerance (told_of_fewest f) (rows_of f)
+told_fewest : {A : Type 0} (run : Listed) (pes tolerance : ℕ) (f : Fewest A) → IsFewest run.loads (sizes_of run) pes tolerance f
+    → IsToldReordered run pes tolerance (told_of_fewest f) (rows_of f)
 told_fewest run pes tolerance f few =
     let counted : length f.reordered.names ≡ pes = few.right.plan.naming.counted in
     record {
@@ -48,7 +49,9 @@ told_fewest run pes tolerance f few =
     }
 
 -- a decision as plain lists, where none moves fewer bytes
-pub told_as_fewest : {A : Type 0} (run : Listed) (pes tolerance thousandths : ℕ) (r : Reordering A) (f : Fewest A) (reordered near : Bool) (told : Told) (standing : Standing) → r ≡ InAnyOrder f → tolerance ≡ thousandths → reordered ≡ true → near ≡ false → told ≡ told_of_fewest f → IsReordering run.loads (sizes_of run) pes tolerance r → IsReorderedRun run pes thousandths reordered near told standing (rows_of f)
+pub told_as_fewest : {A : Type 0} (run : Listed) (pes tolerance thousandths : ℕ) (r : Reordering A) (f : Fewest A) (reordered near : Bool) (told : Told) (standing : Standing)
+    → r ≡ InAnyOrder f → tolerance ≡ thousandths → reordered ≡ true → near ≡ false → told ≡ told_of_fewest f
+    → IsReordering run.loads (sizes_of run) pes tolerance r → IsReorderedRun run pes thousandths reordered near told standing (rows_of f)
 told_as_fewest run pes tolerance thousandths r f reordered near told standing is same reordered_is near_is told_is decided =
     let few = told_fewest run pes tolerance f (subst (IsReordering run.loads (sizes_of run) pes tolerance) is decided) in
     let of_thousandths = subst (λ t. IsToldReordered run pes t (told_of_fewest f) (rows_of f)) same few in
@@ -56,7 +59,8 @@ told_as_fewest run pes tolerance thousandths r f reordered near told standing is
     subst (λ b. IsReorderedRun run pes thousandths b near told standing (rows_of f)) (sym reordered_is) (near_is, in_told)
 
 -- and where it is decided as if that was not asked for
-pub told_in_order : (run : Listed) (pes thousandths : ℕ) (reordered near : Bool) (told : Told) (standing : Standing) (rows : BoundRows) → reordered ≡ false → IsRefinedRun run pes thousandths near told standing → IsReorderedRun run pes thousandths reordered near told standing rows
+pub told_in_order : (run : Listed) (pes thousandths : ℕ) (reordered near : Bool) (told : Told) (standing : Standing) (rows : BoundRows)
+    → reordered ≡ false → IsRefinedRun run pes thousandths near told standing → IsReorderedRun run pes thousandths reordered near told standing rows
 told_in_order run pes thousandths reordered near told standing rows reordered_is refined =
     subst (λ b. IsReorderedRun run pes thousandths b near told standing rows) (sym reordered_is) refined
 
@@ -65,7 +69,8 @@ pub bounds_left : (reordered : Bool) (rows : BoundRows) (levels : ℕ) (old new 
 bounds_left reordered rows levels old new reordered_is levels_are left =
     subst (λ b. AreBoundsIn b rows levels old new) (sym reordered_is) (levels_are, left)
 
-pub bounds_written : (reordered : Bool) (rows : BoundRows) (levels : ℕ) (old new : LevelLists) → reordered ≡ true → AreLevelsIn rows levels old new → AreBoundsIn reordered rows levels old new
+pub bounds_written : (reordered : Bool) (rows : BoundRows) (levels : ℕ) (old new : LevelLists) → reordered ≡ true → AreLevelsIn rows levels old new
+    → AreBoundsIn reordered rows levels old new
 bounds_written reordered rows levels old new reordered_is written =
     subst (λ b. AreBoundsIn b rows levels old new) (sym reordered_is) written
 
@@ -79,7 +84,8 @@ one_least_load loads pes one other cuts others this that =
     omega (arith, this.peak_is, that.peak_is, this.least others that.divides, that.least cuts this.divides)
 
 -- cuts whose greatest load is least are within the limit
-within_limit : (loads : List ℕ) (pes limit bottleneck : ℕ) (cuts names : List ℕ) → bottleneck ≤ limit → IsLeastDivision loads pes bottleneck cuts → IsNaming pes names → IsWithin loads pes limit cuts names
+within_limit : (loads : List ℕ) (pes limit bottleneck : ℕ) (cuts names : List ℕ) → bottleneck ≤ limit → IsLeastDivision loads pes bottleneck cuts
+    → IsNaming pes names → IsWithin loads pes limit cuts names
 within_limit loads pes limit bottleneck cuts names above least naming =
     record {
       divides = least.divides;
@@ -88,20 +94,24 @@ within_limit loads pes limit bottleneck cuts names above least naming =
     }
 
 -- where none moves fewer bytes, the plan does not
-fewest_below_plan : (run : Listed) (pes thousandths : ℕ) (told : Told) (rows : BoundRows) → IsToldReordered run pes thousandths told rows → (places : List ℕ) (bottleneck moved : ℕ) → IsPlan run pes places bottleneck moved → told.moved ≤ moved
+fewest_below_plan : (run : Listed) (pes thousandths : ℕ) (told : Told) (rows : BoundRows) → IsToldReordered run pes thousandths told rows
+    → (places : List ℕ) (bottleneck moved : ℕ) → IsPlan run pes places bottleneck moved → told.moved ≤ moved
 fewest_below_plan run pes thousandths told rows few places bottleneck moved plan =
     let same : told.least ≡ bottleneck = one_least_load run.loads pes told.least bottleneck told.least_cuts plan.cuts (least_from_certified run.loads pes _ few.right.least) plan.least in
     let above : bottleneck ≤ limit_of told.least thousandths = omega (arith, same, above_least told.least thousandths) in
     let less = few.fewest.fewest plan.cuts plan.names (within_limit run.loads pes _ bottleneck plan.cuts plan.names above plan.least plan.naming.naming) in
     omega (arith, few.moved, less, plan.moves)
 
-pub no_more_fewest : {A : Type 0} (run : Listed) (pes tolerance : ℕ) (r : Reordering A) (f : Fewest A) (moved : ℕ) → r ≡ InAnyOrder f → moved ≡ f.moved → IsReordering run.loads (sizes_of run) pes tolerance r → (places : List ℕ) (bottleneck more : ℕ) → IsPlan run pes places bottleneck more → moved ≤ more
+pub no_more_fewest : {A : Type 0} (run : Listed) (pes tolerance : ℕ) (r : Reordering A) (f : Fewest A) (moved : ℕ) → r ≡ InAnyOrder f
+    → moved ≡ f.moved → IsReordering run.loads (sizes_of run) pes tolerance r → (places : List ℕ) (bottleneck more : ℕ)
+    → IsPlan run pes places bottleneck more → moved ≤ more
 no_more_fewest run pes tolerance r f moved is moved_is decided places bottleneck more plan =
     let few = told_fewest run pes tolerance f (subst (IsReordering run.loads (sizes_of run) pes tolerance) is decided) in
     omega (arith, moved_is, fewest_below_plan run pes tolerance (told_of_fewest f) (rows_of f) few places bottleneck more plan)
 
 -- nor does what is decided where that is not asked for
-fewest_below_refined : (run : Listed) (pes thousandths : ℕ) (told : Told) (rows : BoundRows) → IsToldReordered run pes thousandths told rows → (near : Bool) (other : Told) (stood : Standing) → IsRefinedRun run pes thousandths near other stood → told.moved ≤ other.moved
+fewest_below_refined : (run : Listed) (pes thousandths : ℕ) (told : Told) (rows : BoundRows) → IsToldReordered run pes thousandths told rows
+    → (near : Bool) (other : Told) (stood : Standing) → IsRefinedRun run pes thousandths near other stood → told.moved ≤ other.moved
 fewest_below_refined run pes thousandths told rows few true other stood (near, less) =
     let same : told.least ≡ other.least = one_least_load run.loads pes told.least other.least told.least_cuts other.least_cuts (least_from_certified run.loads pes _ few.right.least) (least_from_certified run.loads pes _ near.right.certified) in
     let counted : length stood.order ≡ pes = near.order.naming.counted in
@@ -115,7 +125,9 @@ fewest_below_refined run pes thousandths told rows few false other stood (plan, 
     let above : other.least ≤ limit_of told.least thousandths = omega (arith, same, above_least told.least thousandths) in
     omega (arith, few.moved, few.fewest.fewest other.cuts other.names (within_limit run.loads pes _ other.least other.cuts other.names above cuts plan.right.least_naming.naming), plan.right.moved)
 
-pub no_more_refined : (run : Listed) (pes thousandths : ℕ) (reordered near : Bool) (told : Told) (standing : Standing) (rows : BoundRows) → IsReorderedRun run pes thousandths reordered near told standing rows → (beside : Bool) (other : Told) (stood : Standing) → IsRefinedRun run pes thousandths beside other stood → told.moved ≤ other.moved
+pub no_more_refined : (run : Listed) (pes thousandths : ℕ) (reordered near : Bool) (told : Told) (standing : Standing) (rows : BoundRows)
+    → IsReorderedRun run pes thousandths reordered near told standing rows → (beside : Bool) (other : Told) (stood : Standing)
+    → IsRefinedRun run pes thousandths beside other stood → told.moved ≤ other.moved
 no_more_refined run pes thousandths true near told standing rows (apart, few) beside other stood that =
     fewest_below_refined run pes thousandths told rows few beside other stood that
 no_more_refined run pes thousandths false near told standing rows this beside other stood that =
@@ -123,13 +135,17 @@ no_more_refined run pes thousandths false near told standing rows this beside ot
     omega (arith, same.moved)
 
 -- so nothing moves where the present places keep to the limit
-pub nothing_told : {A : Type 0} (loads : List ℕ) (sizes : List (ℕ × ℕ)) (pes tolerance thousandths : ℕ) (r other : Reordering A) (least moved : ℕ) → r ≡ other → tolerance ≡ thousandths → least ≡ reordering_least other → moved ≡ reordering_moved other → ((names present : List ℕ) → IsPresentOrder sizes pes names present → AreWithin loads names (limit_of (reordering_least r) tolerance) present → reordering_moved r ≡ 0) → (names present : List ℕ) → IsPresentOrder sizes pes names present → AreWithin loads names (limit_of least thousandths) present → moved ≡ 0
+pub nothing_told : {A : Type 0} (loads : List ℕ) (sizes : List (ℕ × ℕ)) (pes tolerance thousandths : ℕ) (r other : Reordering A) (least moved : ℕ)
+    → r ≡ other → tolerance ≡ thousandths → least ≡ reordering_least other → moved ≡ reordering_moved other
+    → ((names present : List ℕ) → IsPresentOrder sizes pes names present → AreWithin loads names (limit_of (reordering_least r) tolerance) present → reordering_moved r ≡ 0)
+    → (names present : List ℕ) → IsPresentOrder sizes pes names present → AreWithin loads names (limit_of least thousandths) present → moved ≡ 0
 nothing_told loads sizes pes tolerance thousandths r other least moved is same least_is moved_is none names present order within =
     let limit : limit_of least thousandths ≡ limit_of (reordering_least r) tolerance = ap (λ n. limit_of n thousandths) (least_is ∙ ap reordering_least (sym is)) ∙ ap (limit_of (reordering_least r)) (sym same) in
     moved_is ∙ ap reordering_moved (sym is) ∙ none names present order (subst (λ n. AreWithin loads names n present) limit within)
 
 -- one more row in plain lists
-pub flat_more : (rows : List (List (ℕ × ℕ))) (row : List (ℕ × ℕ)) (starts places bytes : List ℕ) (count : ℕ) → AreFlat rows starts places bytes → count ≡ length (places ++ places_of row) → AreFlat (rows ++ row ∷ []) (starts ++ count ∷ []) (places ++ places_of row) (bytes ++ rises_of row)
+pub flat_more : (rows : List (List (ℕ × ℕ))) (row : List (ℕ × ℕ)) (starts places bytes : List ℕ) (count : ℕ) → AreFlat rows starts places bytes
+    → count ≡ length (places ++ places_of row) → AreFlat (rows ++ row ∷ []) (starts ++ count ∷ []) (places ++ places_of row) (bytes ++ rises_of row)
 flat_more rows row starts places bytes count flat counted =
     let all : places ++ places_of row ≡ places_of (all_steps (rows ++ row ∷ [])) = places-more rows row places flat.places_are in
     record {
@@ -138,7 +154,10 @@ flat_more rows row starts places bytes count flat counted =
       bytes_are = rises-more rows row bytes flat.bytes_are;
     }
 
-pub flat_step : (before all : List (List (ℕ × ℕ))) (i : ℕ) (row given : List (ℕ × ℕ)) (starts places bytes starts' places' bytes' : List ℕ) (count : ℕ) → take (i + 1) all ≡ take i all ++ row ∷ [] → given ≡ row → AreFlat (before ++ take i all) starts places bytes → places' ≡ places ++ places_of given → bytes' ≡ bytes ++ rises_of given → starts' ≡ starts ++ count ∷ [] → count ≡ length places' → AreFlat (before ++ take (i + 1) all) starts' places' bytes'
+pub flat_step : (before all : List (List (ℕ × ℕ))) (i : ℕ) (row given : List (ℕ × ℕ)) (starts places bytes starts' places' bytes' : List ℕ) (count : ℕ)
+    → take (i + 1) all ≡ take i all ++ row ∷ [] → given ≡ row → AreFlat (before ++ take i all) starts places bytes
+    → places' ≡ places ++ places_of given → bytes' ≡ bytes ++ rises_of given → starts' ≡ starts ++ count ∷ [] → count ≡ length places'
+    → AreFlat (before ++ take (i + 1) all) starts' places' bytes'
 flat_step before all i row given starts places bytes starts' places' bytes' count more given_is flat places_is bytes_is starts_is counted =
     let places_row : places' ≡ places ++ places_of row = places_is ∙ ap (λ r. places ++ places_of r) given_is in
     let bytes_row : bytes' ≡ bytes ++ rises_of row = bytes_is ∙ ap (λ r. bytes ++ rises_of r) given_is in
@@ -151,7 +170,12 @@ flat_step before all i row given starts places bytes starts' places' bytes' coun
     }
 
 -- the levels of these bounds, as they were written to the lists
-pub levels_in : (rows : BoundRows) (count : ℕ) (starts places bytes : List ℕ) (old new : LevelLists) → starts ≡ first_steps 0 (all_rows rows) → places ≡ places_of (all_steps (all_rows rows)) → bytes ≡ rises_of (all_steps (all_rows rows)) → count ≡ length places → (count ≤ length old.level_places → new.level_starts ≡ starts) → (count ≤ length old.level_places → take count new.level_places ≡ places) → (count ≤ length old.level_places → take count new.level_bytes ≡ bytes) → (length old.level_places < count → new.level_starts ≡ old.level_starts) → drop count new.level_places ≡ drop count old.level_places → drop count new.level_bytes ≡ drop count old.level_bytes → AreLevelsIn rows count old new
+pub levels_in : (rows : BoundRows) (count : ℕ) (starts places bytes : List ℕ) (old new : LevelLists) → starts ≡ first_steps 0 (all_rows rows)
+    → places ≡ places_of (all_steps (all_rows rows)) → bytes ≡ rises_of (all_steps (all_rows rows)) → count ≡ length places
+    → (count ≤ length old.level_places → new.level_starts ≡ starts) → (count ≤ length old.level_places → take count new.level_places ≡ places)
+    → (count ≤ length old.level_places → take count new.level_bytes ≡ bytes) → (length old.level_places < count → new.level_starts ≡ old.level_starts)
+    → drop count new.level_places ≡ drop count old.level_places → drop count new.level_bytes ≡ drop count old.level_bytes
+    → AreLevelsIn rows count old new
 levels_in rows count starts places bytes old new starts_are places_are bytes_are counted starts_in places_in bytes_in starts_left places_left bytes_left =
     record {
       counted = counted ∙ ap length places_are ∙ length-map (all_steps (all_rows rows)) (λ step. step.0);

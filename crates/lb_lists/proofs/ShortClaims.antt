@@ -14,7 +14,9 @@ use Rattle.lb_lists.specs.Claims.{claimed_division, division_of, floor_of, short
 use Rattle.lb_lists.specs.Runs.{sizes_of, Listed}
 
 -- Where two claims agree in all flaws up to a number, and both have one with that number, they have the same first flaw.
-same_first : (these those : Flaw → Type 0) (shared : Flaw) → these shared → ((flaw : Flaw) → flaw_number flaw ≤ flaw_number shared → these flaw → those flaw) → ((flaw : Flaw) → flaw_number flaw ≤ flaw_number shared → those flaw → these flaw) → (flaw : Flaw) → IsFirst these flaw → IsFirst those flaw
+same_first : (these those : Flaw → Type 0) (shared : Flaw) → these shared
+    → ((flaw : Flaw) → flaw_number flaw ≤ flaw_number shared → these flaw → those flaw)
+    → ((flaw : Flaw) → flaw_number flaw ≤ flaw_number shared → those flaw → these flaw) → (flaw : Flaw) → IsFirst these flaw → IsFirst those flaw
 same_first these those shared holds to back flaw first = elim (cases_lt (flaw_number shared) (flaw_number flaw)) [
   | inl later ↦ absurd (first.no_lower_number shared later holds)
   | inr within ↦ record {
@@ -40,11 +42,13 @@ at_cut_count : (these : Flaw → Type 0) → these CutCount → (flaw : Flaw) �
 at_cut_count these wrong CutCount few = wrong
 at_cut_count these wrong _ few = absurd (omega (arith, few))
 
-long_cuts : (loads : List ℕ) (pes bottleneck : ℕ) (cuts others stops : List ℕ) (flaw : Flaw) → length cuts ≢ pes + 1 → length others ≢ pes + 1 → IsFirst (DivisionFlaw loads pes bottleneck cuts stops) flaw → IsFirst (DivisionFlaw loads pes bottleneck others stops) flaw
+long_cuts : (loads : List ℕ) (pes bottleneck : ℕ) (cuts others stops : List ℕ) (flaw : Flaw) → length cuts ≢ pes + 1 → length others ≢ pes + 1
+    → IsFirst (DivisionFlaw loads pes bottleneck cuts stops) flaw → IsFirst (DivisionFlaw loads pes bottleneck others stops) flaw
 long_cuts loads pes bottleneck cuts others stops flaw wrong also first =
     same_first (DivisionFlaw loads pes bottleneck cuts stops) (DivisionFlaw loads pes bottleneck others stops) CutCount wrong (λ one few _. at_cut_count (DivisionFlaw loads pes bottleneck others stops) also one few) (λ one few _. at_cut_count (DivisionFlaw loads pes bottleneck cuts stops) wrong one few) flaw first
 
-cuts_as_whole : (loads : List ℕ) (pes bottleneck : ℕ) (cuts stops : List ℕ) (flaw : Flaw) → IsFirst (DivisionFlaw loads pes bottleneck (take (pes + 2) cuts) stops) flaw → IsFirst (DivisionFlaw loads pes bottleneck cuts stops) flaw
+cuts_as_whole : (loads : List ℕ) (pes bottleneck : ℕ) (cuts stops : List ℕ) (flaw : Flaw)
+    → IsFirst (DivisionFlaw loads pes bottleneck (take (pes + 2) cuts) stops) flaw → IsFirst (DivisionFlaw loads pes bottleneck cuts stops) flaw
 cuts_as_whole loads pes bottleneck cuts stops flaw first = elim (cases_lt (pes + 1) (length cuts)) [
   | inl long ↦ long_cuts loads pes bottleneck (take (pes + 2) cuts) cuts stops flaw (still_long cuts (pes + 1) (pes + 2) (omega arith) long) (λ same. absurd (omega (arith, long, same))) first
   | inr short ↦ subst (λ c. IsFirst (DivisionFlaw loads pes bottleneck c stops) flaw) (take_all (pes + 2) cuts (omega (arith, short))) first
@@ -55,7 +59,9 @@ wrong_fence : (stops : List ℕ) (n : ℕ) → 0 < length stops → length stops
 wrong_fence [] n some wrong = absurd (omega (arith, some))
 wrong_fence (stop ∷ stops) n some wrong = wrong
 
-to_fence_count : (loads : List ℕ) (pes bottleneck : ℕ) (cuts stops others : List ℕ) → MatchFloor {A = Unit {0}} (floor_of others) ⊥ (λ s. length s ≢ pes + 1) → (flaw : Flaw) → flaw_number flaw ≤ 6 → DivisionFlaw loads pes bottleneck cuts stops flaw → DivisionFlaw loads pes bottleneck cuts others flaw
+to_fence_count : (loads : List ℕ) (pes bottleneck : ℕ) (cuts stops others : List ℕ)
+    → MatchFloor {A = Unit {0}} (floor_of others) ⊥ (λ s. length s ≢ pes + 1) → (flaw : Flaw) → flaw_number flaw ≤ 6
+    → DivisionFlaw loads pes bottleneck cuts stops flaw → DivisionFlaw loads pes bottleneck cuts others flaw
 to_fence_count loads pes bottleneck cuts stops others wrong CutCount few found = found
 to_fence_count loads pes bottleneck cuts stops others wrong CutStart few found = found
 to_fence_count loads pes bottleneck cuts stops others wrong CutOrder few found = found
@@ -64,7 +70,8 @@ to_fence_count loads pes bottleneck cuts stops others wrong (Heavy b) few found 
 to_fence_count loads pes bottleneck cuts stops others wrong FenceCount few found = wrong
 to_fence_count loads pes bottleneck cuts stops others wrong _ few found = absurd (omega (arith, few))
 
-stops_as_whole : (loads : List ℕ) (pes bottleneck : ℕ) (cuts stops : List ℕ) (flaw : Flaw) → IsFirst (DivisionFlaw loads pes bottleneck cuts (take (pes + 2) stops)) flaw → IsFirst (DivisionFlaw loads pes bottleneck cuts stops) flaw
+stops_as_whole : (loads : List ℕ) (pes bottleneck : ℕ) (cuts stops : List ℕ) (flaw : Flaw)
+    → IsFirst (DivisionFlaw loads pes bottleneck cuts (take (pes + 2) stops)) flaw → IsFirst (DivisionFlaw loads pes bottleneck cuts stops) flaw
 stops_as_whole loads pes bottleneck cuts stops flaw first = elim (cases_lt (pes + 1) (length stops)) [
   | inl long ↦
       let short : List ℕ = take (pes + 2) stops in
@@ -79,14 +86,16 @@ abbrev NamesFlaw : List (ℕ × ℕ) → List ℕ → List ℕ → List ℤ → 
 NamesFlaw sizes cuts names u v = HasNamingFlawWithin PES sizes cuts names u v
 
 -- names that are too many
-to_name_count : (sizes : List (ℕ × ℕ)) (cuts names others : List ℕ) (u v : List ℤ) → length others ≢ blocks_between cuts → (flaw : Flaw) → flaw_number flaw ≤ 12 → NamesFlaw sizes cuts names u v flaw → NamesFlaw sizes cuts others u v flaw
+to_name_count : (sizes : List (ℕ × ℕ)) (cuts names others : List ℕ) (u v : List ℤ) → length others ≢ blocks_between cuts → (flaw : Flaw)
+    → flaw_number flaw ≤ 12 → NamesFlaw sizes cuts names u v flaw → NamesFlaw sizes cuts others u v flaw
 to_name_count sizes cuts names others u v wrong NameCount few found = wrong
 to_name_count sizes cuts names others u v wrong NameRange few found = absurd (omega (arith, few))
 to_name_count sizes cuts names others u v wrong NameTwice few found = absurd (omega (arith, few))
 to_name_count sizes cuts names others u v wrong PriceGap few found = absurd (omega (arith, few))
 to_name_count sizes cuts names others u v wrong _ few found = found
 
-names_as_whole : (sizes : List (ℕ × ℕ)) (cuts names : List ℕ) (u v : List ℤ) (pes : ℕ) (flaw : Flaw) → blocks_between cuts ≡ pes → IsFirst (NamesFlaw sizes cuts (take (pes + 1) names) u v) flaw → IsFirst (NamesFlaw sizes cuts names u v) flaw
+names_as_whole : (sizes : List (ℕ × ℕ)) (cuts names : List ℕ) (u v : List ℤ) (pes : ℕ) (flaw : Flaw) → blocks_between cuts ≡ pes
+    → IsFirst (NamesFlaw sizes cuts (take (pes + 1) names) u v) flaw → IsFirst (NamesFlaw sizes cuts names u v) flaw
 names_as_whole sizes cuts names u v pes flaw blocks first = elim (cases_lt pes (length names)) [
   | inl long ↦
       let short : List ℕ = take (pes + 1) names in
@@ -100,17 +109,20 @@ names_as_whole sizes cuts names u v pes flaw blocks first = elim (cases_lt pes (
 abbrev AreMiscounted : ℕ → List ℤ → List ℤ → Type 0
 AreMiscounted n u v = (length u ≢ n) ⊎ (length v ≢ n)
 
-to_price_count : (sizes : List (ℕ × ℕ)) (cuts names : List ℕ) (u v w x : List ℤ) → AreMiscounted (blocks_between cuts) w x → (flaw : Flaw) → flaw_number flaw ≤ 15 → NamesFlaw sizes cuts names u v flaw → NamesFlaw sizes cuts names w x flaw
+to_price_count : (sizes : List (ℕ × ℕ)) (cuts names : List ℕ) (u v w x : List ℤ) → AreMiscounted (blocks_between cuts) w x → (flaw : Flaw)
+    → flaw_number flaw ≤ 15 → NamesFlaw sizes cuts names u v flaw → NamesFlaw sizes cuts names w x flaw
 to_price_count sizes cuts names u v w x wrong PriceCount few found = wrong
 to_price_count sizes cuts names u v w x wrong (PriceHigh b p) few found = absurd (omega (arith, few))
 to_price_count sizes cuts names u v w x wrong PriceGap few found = absurd (omega (arith, few))
 to_price_count sizes cuts names u v w x wrong _ few found = found
 
-miscounted : (sizes : List (ℕ × ℕ)) (cuts names : List ℕ) (u v w x : List ℤ) (flaw : Flaw) → AreMiscounted (blocks_between cuts) u v → AreMiscounted (blocks_between cuts) w x → IsFirst (NamesFlaw sizes cuts names u v) flaw → IsFirst (NamesFlaw sizes cuts names w x) flaw
+miscounted : (sizes : List (ℕ × ℕ)) (cuts names : List ℕ) (u v w x : List ℤ) (flaw : Flaw) → AreMiscounted (blocks_between cuts) u v
+    → AreMiscounted (blocks_between cuts) w x → IsFirst (NamesFlaw sizes cuts names u v) flaw → IsFirst (NamesFlaw sizes cuts names w x) flaw
 miscounted sizes cuts names u v w x flaw wrong also first =
     same_first (NamesFlaw sizes cuts names u v) (NamesFlaw sizes cuts names w x) PriceCount wrong (to_price_count sizes cuts names u v w x also) (to_price_count sizes cuts names w x u v wrong) flaw first
 
-prices_as_whole : (sizes : List (ℕ × ℕ)) (cuts names : List ℕ) (u v : List ℤ) (pes : ℕ) (flaw : Flaw) → blocks_between cuts ≡ pes → IsFirst (NamesFlaw sizes cuts names (take (pes + 1) u) (take (pes + 1) v)) flaw → IsFirst (NamesFlaw sizes cuts names u v) flaw
+prices_as_whole : (sizes : List (ℕ × ℕ)) (cuts names : List ℕ) (u v : List ℤ) (pes : ℕ) (flaw : Flaw) → blocks_between cuts ≡ pes
+    → IsFirst (NamesFlaw sizes cuts names (take (pes + 1) u) (take (pes + 1) v)) flaw → IsFirst (NamesFlaw sizes cuts names u v) flaw
 prices_as_whole sizes cuts names u v pes flaw blocks first = elim (cases_lt pes (length u)) [
   | inl long ↦
       let wrong = still_long u pes (pes + 1) (omega arith) long in
@@ -140,15 +152,19 @@ stops_whole loads pes claim certified = whole claim.stops (pes + 1) (pes + 2) (o
 of_blocks : (loads : List ℕ) (pes : ℕ) (claim : Claimed) → IsCertified loads pes (claimed_division (shortened pes claim)) → blocks_between (take (pes + 2) claim.cuts) ≡ pes
 of_blocks loads pes claim certified = omega (arith, certified.divides.counted)
 
-certified_whole : (run : Listed) (pes : ℕ) (claim : Claimed) → IsCertified run.loads pes (claimed_division (shortened pes claim)) → IsCertified run.loads pes (claimed_division claim)
+certified_whole : (run : Listed) (pes : ℕ) (claim : Claimed) → IsCertified run.loads pes (claimed_division (shortened pes claim))
+    → IsCertified run.loads pes (claimed_division claim)
 certified_whole run pes claim certified =
     let with_cuts = subst (λ c. IsCertified run.loads pes (division_of {A = Unit {0}} claim.bottleneck c (take (pes + 2) claim.stops))) (cuts_whole run.loads pes claim certified) certified in
     subst (λ s. IsCertified run.loads pes (division_of {A = Unit {0}} claim.bottleneck claim.cuts s)) (stops_whole run.loads pes claim certified) with_cuts
 
-put_together : (claim : Claimed) (cuts stops names : List ℕ) (u v : List ℤ) → cuts ≡ claim.cuts → stops ≡ claim.stops → names ≡ claim.names → u ≡ claim.block_prices → v ≡ claim.pe_prices → record { bottleneck = claim.bottleneck; moved = claim.moved; new_places = claim.new_places; cuts = cuts; stops = stops; names = names; block_prices = u; pe_prices = v } ≡ claim
+put_together : (claim : Claimed) (cuts stops names : List ℕ) (u v : List ℤ) → cuts ≡ claim.cuts → stops ≡ claim.stops → names ≡ claim.names
+    → u ≡ claim.block_prices → v ≡ claim.pe_prices
+    → record { bottleneck = claim.bottleneck; moved = claim.moved; new_places = claim.new_places; cuts = cuts; stops = stops; names = names; block_prices = u; pe_prices = v } ≡ claim
 put_together claim cuts stops names u v same_cuts same_stops same_names same_u same_v = rw (same_cuts, same_stops, same_names, same_u, same_v) refl
 
-same_claim : (run : Listed) (pes : ℕ) (claim : Claimed) → IsCertified run.loads pes (claimed_division (shortened pes claim)) → IsNamedRight run (shortened pes claim) → shortened pes claim ≡ claim
+same_claim : (run : Listed) (pes : ℕ) (claim : Claimed) → IsCertified run.loads pes (claimed_division (shortened pes claim))
+    → IsNamedRight run (shortened pes claim) → shortened pes claim ≡ claim
 same_claim run pes claim certified named =
     let blocks = of_blocks run.loads pes claim certified in
     let names : take (pes + 1) claim.names ≡ claim.names = whole claim.names pes (pes + 1) (omega arith) (omega (arith, named.naming.counted, blocks)) in
@@ -156,14 +172,18 @@ same_claim run pes claim certified named =
     let v : take (pes + 1) claim.pe_prices ≡ claim.pe_prices = whole claim.pe_prices pes (pes + 1) (omega arith) (omega (arith, named.proved.pe_prices, blocks)) in
     put_together claim (take (pes + 2) claim.cuts) (take (pes + 2) claim.stops) (take (pes + 1) claim.names) (take (pes + 1) claim.block_prices) (take (pes + 1) claim.pe_prices) (cuts_whole run.loads pes claim certified) (stops_whole run.loads pes claim certified) names u v
 
-naming_as_whole : (run : Listed) (pes : ℕ) (claim : Claimed) (flaw : Flaw) → IsCertified run.loads pes (claimed_division (shortened pes claim)) → IsFirst (NamesFlaw (sizes_of run) (take (pes + 2) claim.cuts) (take (pes + 1) claim.names) (take (pes + 1) claim.block_prices) (take (pes + 1) claim.pe_prices)) flaw → IsFirst (NamesFlaw (sizes_of run) claim.cuts claim.names claim.block_prices claim.pe_prices) flaw
+naming_as_whole : (run : Listed) (pes : ℕ) (claim : Claimed) (flaw : Flaw) → IsCertified run.loads pes (claimed_division (shortened pes claim))
+    → IsFirst (NamesFlaw (sizes_of run) (take (pes + 2) claim.cuts) (take (pes + 1) claim.names) (take (pes + 1) claim.block_prices) (take (pes + 1) claim.pe_prices)) flaw
+    → IsFirst (NamesFlaw (sizes_of run) claim.cuts claim.names claim.block_prices claim.pe_prices) flaw
 naming_as_whole run pes claim flaw certified first =
     let cuts = cuts_whole run.loads pes claim certified in
     let blocks : blocks_between claim.cuts ≡ pes = ap blocks_between (sym cuts) ∙ of_blocks run.loads pes claim certified in
     let with_cuts = subst (λ c. IsFirst (NamesFlaw (sizes_of run) c (take (pes + 1) claim.names) (take (pes + 1) claim.block_prices) (take (pes + 1) claim.pe_prices)) flaw) cuts first in
     prices_as_whole (sizes_of run) claim.cuts claim.names claim.block_prices claim.pe_prices pes flaw blocks (names_as_whole (sizes_of run) claim.cuts claim.names (take (pes + 1) claim.block_prices) (take (pes + 1) claim.pe_prices) pes flaw blocks with_cuts)
 
-pub whole_claim : (run : Listed) (pes : ℕ) (claim : Claimed) (found : Option Flaw) → MatchOption found (IsRightClaim run pes (shortened pes claim)) (IsFirstFlaw run pes (shortened pes claim)) → MatchOption found (IsRightClaim run pes claim) (IsFirstFlaw run pes claim)
+pub whole_claim : (run : Listed) (pes : ℕ) (claim : Claimed) (found : Option Flaw)
+    → MatchOption found (IsRightClaim run pes (shortened pes claim)) (IsFirstFlaw run pes (shortened pes claim))
+    → MatchOption found (IsRightClaim run pes claim) (IsFirstFlaw run pes claim)
 whole_claim run pes claim None right =
     subst (IsRightClaim run pes) (same_claim run pes claim right.division right.named) right
 whole_claim run pes claim (Some flaw) (inl first) =

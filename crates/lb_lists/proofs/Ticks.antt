@@ -36,7 +36,8 @@ pub some_field : (s : Bool) (f t : ℕ) → IsMeasured (of_fields binary64 s (su
 unfolding of_fields
 some_field s f t measured = go (eqb (suc f) (ones binary64)) measured
   where
-    go : (b : Bool) → IsMeasured (cond b (cond (eqb t 0) (inf s) nan) (odd 53 s (2 ^ 52 + t) f 1074)) → ticks (cond b (cond (eqb t 0) (inf s) nan) (odd 53 s (2 ^ 52 + t) f 1074)) ≡ (2 ^ 52 + t) * 2 ^ f
+    go : (b : Bool) → IsMeasured (cond b (cond (eqb t 0) (inf s) nan) (odd 53 s (2 ^ 52 + t) f 1074))
+        → ticks (cond b (cond (eqb t 0) (inf s) nan) (odd 53 s (2 ^ 52 + t) f 1074)) ≡ (2 ^ 52 + t) * 2 ^ f
     go true never = absurd (not_finite s (eqb t 0) never)
     go false _ = ticks_of_value (odd 53 s (2 ^ 52 + t) f 1074) s ((2 ^ 52 + t) * 2 ^ f) (odd_sign 53 s (2 ^ 52 + t) f 1074)
 
@@ -58,7 +59,8 @@ zero_bits x held none =
     let read : of_fields binary64 (leb (top binary64) b) 0 (b % hid binary64) ≡ x = ap (λ f. of_fields binary64 (leb (top binary64) b) f (b % hid binary64)) (sym none) ∙ sym (of_fields_is b) ∙ of_bits-to_bits binary64 x held in
     ap ticks (sym read) ∙ zero_field (leb (top binary64) b) (b % hid binary64)
 
-pub some_bits : (x : Float) (f : ℕ) → T (fits binary64 x) → IsMeasured x → to_bits binary64 x % 9223372036854775808 / 4503599627370496 ≡ suc f → ticks x ≡ (to_bits binary64 x % 4503599627370496 + 4503599627370496) * 2 ^ f
+pub some_bits : (x : Float) (f : ℕ) → T (fits binary64 x) → IsMeasured x → to_bits binary64 x % 9223372036854775808 / 4503599627370496 ≡ suc f
+    → ticks x ≡ (to_bits binary64 x % 4503599627370496 + 4503599627370496) * 2 ^ f
 some_bits x f held measured some =
     let b : ℕ = to_bits binary64 x in
     let s : Bool = leb (top binary64) b in
@@ -188,7 +190,9 @@ smaller_in limit n j k more small =
 pub all_smaller : (limit : ℕ) (loads : List Float) (j k : ℕ) → j ≤ k → AreSmallIn limit j loads → AreSmallIn limit k loads
 all_smaller limit loads j k more small i d inside = smaller_in limit (ticks (slice_index_or loads i d)) j k more (small i d inside)
 
-pub least_of_more : (limit : ℕ) (loads : List Float) (i power needed greatest : ℕ) → i < length loads → greatest ≡ max power needed → ((p : ℕ) → p < power → ¬ (AreSmallIn limit p (take i loads))) → ((p : ℕ) → p < needed → limit < ticks (slice_index_or loads i nan) / 2 ^ p) → (p : ℕ) → p < greatest → ¬ (AreSmallIn limit p (take (i + 1) loads))
+pub least_of_more : (limit : ℕ) (loads : List Float) (i power needed greatest : ℕ) → i < length loads → greatest ≡ max power needed
+    → ((p : ℕ) → p < power → ¬ (AreSmallIn limit p (take i loads))) → ((p : ℕ) → p < needed → limit < ticks (slice_index_or loads i nan) / 2 ^ p)
+    → (p : ℕ) → p < greatest → ¬ (AreSmallIn limit p (take (i + 1) loads))
 least_of_more limit loads i power needed greatest inside is least passes p less small = elim (cases_lt p power) [
   | inl earlier ↦ least p earlier (λ k d within. rest k d within)
   | inr later ↦

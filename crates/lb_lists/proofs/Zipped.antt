@@ -12,7 +12,9 @@ pub zip_length : (xs ys : List ℕ) → length ys ≡ length xs → length (zip 
 zip_length xs ys same = omega (arith, length-zip xs ys, same)
 
 -- one more pair is written
-pub one_more_pair : (xs ys : List ℕ) (block : List (ℕ × ℕ)) (first i y : ℕ) → first ≤ i → i < length xs → i - first < length block → length ys ≡ length xs → y ≡ slice_index ys i → take (i - first) block ≡ between first i (zip xs ys) → take (i + 1 - first) (set block (i - first) (slice_index xs i, y)) ≡ between first (i + 1) (zip xs ys)
+pub one_more_pair : (xs ys : List ℕ) (block : List (ℕ × ℕ)) (first i y : ℕ) → first ≤ i → i < length xs → i - first < length block
+    → length ys ≡ length xs → y ≡ slice_index ys i → take (i - first) block ≡ between first i (zip xs ys)
+    → take (i + 1 - first) (set block (i - first) (slice_index xs i, y)) ≡ between first (i + 1) (zip xs ys)
 one_more_pair xs ys block first i y from inside room same is before =
     let next : i + 1 - first ≡ i - first + 1 = omega (arith, from) in
     ap (λ n. take n (set block (i - first) (slice_index xs i, y))) next
@@ -25,7 +27,8 @@ one_more_pair xs ys block first i y from inside room same is before =
     )
 
 -- one more block of pairs
-pub one_more_block : (pairs zipped block : List (ℕ × ℕ)) (first end : ℕ) → first ≤ end → pairs ≡ take first zipped → block ≡ between first end zipped → pairs ++ block ≡ take end zipped
+pub one_more_block : (pairs zipped block : List (ℕ × ℕ)) (first end : ℕ) → first ≤ end → pairs ≡ take first zipped → block ≡ between first end zipped
+    → pairs ++ block ≡ take end zipped
 one_more_block pairs zipped block first end ordered before more =
     ap (λ front. front ++ block) before
     ∙ ap (λ back. take first zipped ++ back) more

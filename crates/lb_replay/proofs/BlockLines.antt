@@ -19,7 +19,10 @@ behind before lines line start text held written =
     written ∙ ap (λ s. s ++ line) held ∙ append_assoc before lines line
 
 -- one more line was written
-pub line_written : (loads cuts names : List ℕ) (b weight : ℕ) (before start text : List ℕ) → weight ≡ block_load loads cuts b → start ≡ before ++ block_lines loads cuts names b → text ≡ start ++ block_line b (slice_index cuts b) (slice_index cuts (b + 1)) weight (slice_index names b) → text ≡ before ++ block_lines loads cuts names (b + 1)
+pub line_written : (loads cuts names : List ℕ) (b weight : ℕ) (before start text : List ℕ) → weight ≡ block_load loads cuts b
+    → start ≡ before ++ block_lines loads cuts names b
+    → text ≡ start ++ block_line b (slice_index cuts b) (slice_index cuts (b + 1)) weight (slice_index names b)
+    → text ≡ before ++ block_lines loads cuts names (b + 1)
 line_written loads cuts names b weight before start text is held written =
     let line : text ≡ start ++ line_of loads cuts names b = subst (λ w. text ≡ start ++ block_line b (slice_index cuts b) (slice_index cuts (b + 1)) w (slice_index names b)) is written in
     subst (λ lines. text ≡ before ++ lines) (sym (pieces_more (line_of loads cuts names) b)) (behind before (block_lines loads cuts names b) (line_of loads cuts names b) start text held line)

@@ -20,7 +20,8 @@ no_memory None rest = (tt, λ read. absurd cc)
 no_memory (Some text) rest = (inr (inl refl), λ read. absurd cc)
 
 -- a fault that a replay may report, and its line
-ends_reported : (A : Type 0) (bytes rest : Option (List ℕ)) (procs : Option ℕ) (way : Way) (old new : Option (List ℕ)) (fault : Fault) (ended : Ended) → IsReplayFault A bytes rest fault → ReportsFault old new fault ended → EndsReplay A bytes rest procs way old new ended
+ends_reported : (A : Type 0) (bytes rest : Option (List ℕ)) (procs : Option ℕ) (way : Way) (old new : Option (List ℕ)) (fault : Fault) (ended : Ended)
+    → IsReplayFault A bytes rest fault → ReportsFault old new fault ended → EndsReplay A bytes rest procs way old new ended
 ends_reported A bytes rest procs way old new fault Printed told line = absurd line
 ends_reported A bytes rest procs way old new fault (Ended.Dump e) told line = (
   subst (λ x. IsReplayFault A bytes rest x) line.0 told,
@@ -44,7 +45,9 @@ memory_reported A bytes rest (Plan e) told = (refl, told.1, told.2)
 memory_reported A bytes rest _ told = absurd told
 
 -- the line of a fault of a replay, or in its place that for out of memory
-pub ends_fault : (A : Type 0) (bytes rest : Option (List ℕ)) (procs : Option ℕ) (way : Way) (old new : Option (List ℕ)) (fault : Fault) (ended : Ended) → IsReplayFault A bytes rest fault → ReportsFault old new fault ended ⊎ ReportsFault old new (without_memory fault) ended → EndsReplay A bytes rest procs way old new ended
+pub ends_fault : (A : Type 0) (bytes rest : Option (List ℕ)) (procs : Option ℕ) (way : Way) (old new : Option (List ℕ)) (fault : Fault) (ended : Ended)
+    → IsReplayFault A bytes rest fault → ReportsFault old new fault ended ⊎ ReportsFault old new (without_memory fault) ended
+    → EndsReplay A bytes rest procs way old new ended
 ends_fault A bytes rest procs way old new fault ended told (inl line) =
     ends_reported A bytes rest procs way old new fault ended told line
 ends_fault A bytes rest procs way old new fault ended told (inr line) =
@@ -56,7 +59,8 @@ line_at (Plan PlanError.OutOfMemory) = refl
 line_at _ = refl
 
 -- what a check finds, and its line
-check_reported : (A : Type 0) (bytes rest old new : Option (List ℕ)) (fault : Fault) (ended : Ended) → Finds A bytes rest (ended_at fault) → ReportsFault old new fault ended → EndsCheck A bytes rest old new ended
+check_reported : (A : Type 0) (bytes rest old new : Option (List ℕ)) (fault : Fault) (ended : Ended) → Finds A bytes rest (ended_at fault)
+    → ReportsFault old new fault ended → EndsCheck A bytes rest old new ended
 check_reported A bytes rest old new fault Printed found line = absurd line
 check_reported A bytes rest old new fault (Ended.Dump e) found line = (
   subst (λ x. Finds A bytes rest (ended_at x)) line.0 found,
@@ -81,7 +85,8 @@ memory_found A bytes rest (Plan e) found = absurd found.1.2
 memory_found A bytes rest _ found = no_memory bytes rest
 
 -- the line of what a check finds, or in its place that for out of memory
-pub ends_check : (A : Type 0) (bytes rest old new : Option (List ℕ)) (fault : Fault) (ended : Ended) → Finds A bytes rest (ended_at fault) → ReportsFault old new fault ended ⊎ ReportsFault old new (without_memory fault) ended → EndsCheck A bytes rest old new ended
+pub ends_check : (A : Type 0) (bytes rest old new : Option (List ℕ)) (fault : Fault) (ended : Ended) → Finds A bytes rest (ended_at fault)
+    → ReportsFault old new fault ended ⊎ ReportsFault old new (without_memory fault) ended → EndsCheck A bytes rest old new ended
 ends_check A bytes rest old new fault ended found (inl line) =
     check_reported A bytes rest old new fault ended found line
 ends_check A bytes rest old new fault ended found (inr line) =

@@ -24,7 +24,8 @@ judged_right s r (Flawed flaw) right that = absurd (right_flawless s.loads s.siz
 judged_right s r NoDecision right that = absurd cc
 judged_right s r _ right that = absurd that
 
-judged_flawed : {A : Type 0} (s : Taken) (r : Recorded A) (flaw : _) (other : Ended) → IsJudged (held s (Some r)) (Flawed flaw) → IsJudged (held s (Some r)) other → Flawed flaw ≡ other
+judged_flawed : {A : Type 0} (s : Taken) (r : Recorded A) (flaw : _) (other : Ended) → IsJudged (held s (Some r)) (Flawed flaw)
+    → IsJudged (held s (Some r)) other → Flawed flaw ≡ other
 judged_flawed s r flaw Printed this that = absurd (right_flawless s.loads s.sizes r.target r.decision flaw that this)
 judged_flawed s r flaw (Flawed other) this that = ap Flawed (one_flaw s.loads s.sizes r.target r.decision flaw other this that)
 judged_flawed s r flaw NoDecision this that = absurd cc
@@ -44,7 +45,8 @@ judged_once s (Some r) NoDecision other this that = absurd cc
 judged_once s (Some r) _ other this that = absurd this
 
 -- an end is a fault of the bytes, or the judgement of the dump that they are a text of
-kinds : (A : Type 0) (bytes : List ℕ) (ended : Ended) → IsEnd A bytes ended → ((e : DumpError) × (ended ≡ Dump e) × IsFault bytes e) ⊎ ((d : Dumped A) × IsText d bytes × IsJudged d ended)
+kinds : (A : Type 0) (bytes : List ℕ) (ended : Ended) → IsEnd A bytes ended
+    → ((e : DumpError) × (ended ≡ Dump e) × IsFault bytes e) ⊎ ((d : Dumped A) × IsText d bytes × IsJudged d ended)
 kinds A bytes (Dump e) is = inl (e, refl, is)
 kinds A bytes _ is = inr is
 
@@ -64,7 +66,8 @@ one_end A bytes one other this that =
     ]
 
 -- where the bytes are known, a check ends as they determine, unless memory, the reader or the writer fails
-ends_so : (A : Type 0) (bytes : List ℕ) (rest old new : Option (List ℕ)) (result ended : Ended) → EndsCheck A (Some bytes) rest old new result → IsEnd A bytes ended → (result ≡ ended) ⊎ IsFailure result
+ends_so : (A : Type 0) (bytes : List ℕ) (rest old new : Option (List ℕ)) (result ended : Ended) → EndsCheck A (Some bytes) rest old new result
+    → IsEnd A bytes ended → (result ≡ ended) ⊎ IsFailure result
 ends_so A bytes rest old new WriteFailed ended ends is = inr (inr (inr refl))
 ends_so A bytes rest old new (Dump e) ended ends is =
     elim ends.0.0 [
@@ -77,6 +80,7 @@ ends_so A bytes rest old new (Plan e) ended ends is = absurd ends.0.1.2
 ends_so A bytes rest old new (Flawed flaw) ended ends is = inl (one_end A bytes (Flawed flaw) ended ends.0.1 is)
 ends_so A bytes rest old new NoDecision ended ends is = inl (one_end A bytes NoDecision ended ends.0.1 is)
 
-pub exact : (A : Type 0) (bytes rest old new : Option (List ℕ)) (result : Ended) → EndsCheck A bytes rest old new result → IfSome bytes (λ bytes. (ended : Ended) → IsEnd A bytes ended → (result ≡ ended) ⊎ IsFailure result)
+pub exact : (A : Type 0) (bytes rest old new : Option (List ℕ)) (result : Ended) → EndsCheck A bytes rest old new result
+    → IfSome bytes (λ bytes. (ended : Ended) → IsEnd A bytes ended → (result ≡ ended) ⊎ IsFailure result)
 exact A None rest old new result ends = tt
 exact A (Some bytes) rest old new result ends = λ ended is. ends_so A bytes rest old new result ended ends is

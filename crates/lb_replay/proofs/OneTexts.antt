@@ -34,7 +34,8 @@ one_planned A s blocks text other this that =
 
 module _ {A : Type 0} (s : Taken) (pes tolerance : ℕ) where
   -- decisions within a tolerance that agree in what is printed have one text
-  same_within : (least least' : Division A) (cuts cuts' names names' : List ℕ) (moved moved' : ℕ) → least ≡ least' → cuts ≡ cuts' → names ≡ names' → moved ≡ moved' → text_within s pes tolerance least cuts names moved ≡ text_within s pes tolerance least' cuts' names' moved'
+  same_within : (least least' : Division A) (cuts cuts' names names' : List ℕ) (moved moved' : ℕ) → least ≡ least' → cuts ≡ cuts' → names ≡ names'
+      → moved ≡ moved' → text_within s pes tolerance least cuts names moved ≡ text_within s pes tolerance least' cuts' names' moved'
   same_within least least' cuts cuts' names names' moved moved' divided cut named moves =
       ap (λ division. text_within s pes tolerance division cuts names moved) divided
       ∙ ap (λ cuts. text_within s pes tolerance least' cuts names moved) cut
@@ -57,7 +58,8 @@ module _ {A : Type 0} (s : Taken) (pes tolerance : ℕ) where
       let same : AreSameInOrder this.decision that.decision = one_in_order s.loads s.sizes pes tolerance this.decision that.decision this.refined that.refined in
       this.printed ∙ same_within _ _ _ _ _ _ _ _ least same.cuts same.names same.moved ∙ sym that.printed
 
-one_decided : (A : Type 0) (s : Taken) (blocks : ℕ) (way : Way) (text other : List ℕ) → HasOneText way → IsDecided A s blocks way text → IsDecided A s blocks way other → text ≡ other
+one_decided : (A : Type 0) (s : Taken) (blocks : ℕ) (way : Way) (text other : List ℕ) → HasOneText way → IsDecided A s blocks way text
+    → IsDecided A s blocks way other → text ≡ other
 one_decided A s blocks Least text other one this that = one_planned A s blocks text other this that
 one_decided A s blocks (Within tolerance) text other one this that =
     one_within {A = A} s blocks tolerance text other this that
@@ -65,7 +67,8 @@ one_decided A s blocks (InOrder tolerance) text other one this that =
     one_ordered {A = A} s blocks tolerance text other this that
 one_decided A s blocks (InAnyOrder tolerance) text other one this that = absurd one
 
-pub one_text : (A : Type 0) (procs : Option ℕ) (way : Way) (bytes text other : List ℕ) → HasOneText way → IsReplay A (Some bytes) procs way text → IsReplay A (Some bytes) procs way other → text ≡ other
+pub one_text : (A : Type 0) (procs : Option ℕ) (way : Way) (bytes text other : List ℕ) → HasOneText way → IsReplay A (Some bytes) procs way text
+    → IsReplay A (Some bytes) procs way other → text ≡ other
 one_text A procs way bytes text other one this that =
     let same : that.dump ≡ this.dump = one_dump that.dump this.dump bytes that.read this.read in
     one_decided A this.dump.snapshot (blocks_of procs this.dump.snapshot) way text other one this.decided (subst (λ (d : Dumped A). IsDecided A d.snapshot (blocks_of procs d.snapshot) way other) same that.decided)

@@ -12,12 +12,14 @@ AreCounted places i counts =
     (p : ℕ) → p < length counts → slice_index counts p ≡ elements_of (take i places) p
 
 -- the number with one more element fits its 32 bits
-pub next_count_fits : (places counts : List ℕ) (i p : ℕ) → AreCounted places i counts → length places ≤ ELEMENTS → i < length places → p < length counts → slice_index counts p + 1 < 2 ^ 32
+pub next_count_fits : (places counts : List ℕ) (i p : ℕ) → AreCounted places i counts → length places ≤ ELEMENTS → i < length places
+    → p < length counts → slice_index counts p + 1 < 2 ^ 32
 next_count_fits places counts i p counted few inside on =
     omega (arith, counted p on, count_by-le-length (λ place. eqb place p) (take i places), length-take-le i places (omega arith))
 
 -- one more is counted
-pub count_added : (places counts : List ℕ) (i : ℕ) → AreCounted places i counts → i < length places → slice_index places i < length counts → AreCounted places (i + 1) (set counts (slice_index places i) (slice_index counts (slice_index places i) + 1))
+pub count_added : (places counts : List ℕ) (i : ℕ) → AreCounted places i counts → i < length places → slice_index places i < length counts
+    → AreCounted places (i + 1) (set counts (slice_index places i) (slice_index counts (slice_index places i) + 1))
 count_added places counts i counted next on p inside =
     let place : ℕ = slice_index places i in
     let count : ℕ = slice_index counts place + 1 in

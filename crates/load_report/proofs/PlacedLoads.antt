@@ -56,12 +56,14 @@ AreAdded loads places n sums =
     (p : ℕ) → p < length sums → slice_index sums p ≡ total n (load_at loads places p)
 
 -- the sum with one more load fits its 64 bits
-pub next_load_fits : (loads places sums : List ℕ) (n p : ℕ) → AreAdded loads places n sums → IsLoads loads → n < length loads → p < length sums → slice_index sums p + slice_index loads n < 2 ^ 64
+pub next_load_fits : (loads places sums : List ℕ) (n p : ℕ) → AreAdded loads places n sums → IsLoads loads → n < length loads → p < length sums
+    → slice_index sums p + slice_index loads n < 2 ^ 64
 next_load_fits loads places sums n p added within inside on =
     omega (arith, added p on, sum_small loads places p n within.small (omega arith), within.small n 0 inside, mul-le-mul_right LOAD within.few, mul-le-mul_right LOAD inside)
 
 -- one more load is added
-pub load_added : (loads places sums : List ℕ) (n : ℕ) → AreAdded loads places n sums → slice_index places n < length sums → AreAdded loads places (n + 1) (set sums (slice_index places n) (slice_index sums (slice_index places n) + slice_index loads n))
+pub load_added : (loads places sums : List ℕ) (n : ℕ) → AreAdded loads places n sums → slice_index places n < length sums
+    → AreAdded loads places (n + 1) (set sums (slice_index places n) (slice_index sums (slice_index places n) + slice_index loads n))
 load_added loads places sums n added on p inside =
     let place : ℕ = slice_index places n in
     let sum : ℕ = slice_index sums place + slice_index loads n in

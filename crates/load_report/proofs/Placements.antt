@@ -41,6 +41,7 @@ module _ (loads : List ℕ) (sizes : List (ℕ × ℕ)) (p : ℕ) (cuts names : 
         few_pes = omega (arith, counted, named.blocks.few_blocks);
       }
 
-pub planned_placed : {A : Type 0} (loads : List ℕ) (sizes : List (ℕ × ℕ)) (p : ℕ) (d : Decision A) → IsRight loads sizes p d → length loads ≡ length sizes → IsPlacement loads (planned_places d.division.cuts d.naming (length sizes)) p
+pub planned_placed : {A : Type 0} (loads : List ℕ) (sizes : List (ℕ × ℕ)) (p : ℕ) (d : Decision A) → IsRight loads sizes p d
+    → length loads ≡ length sizes → IsPlacement loads (planned_places d.division.cuts d.naming (length sizes)) p
 planned_placed loads sizes p d right paired =
     named_placed loads sizes p d.division.cuts d.naming d.prices.u d.prices.v right.named (omega (arith, right.division.divides.counted)) paired

@@ -102,7 +102,8 @@ module _ (loads cuts names : List ℕ) (blocks n p : ℕ) (division : IsDivision
       ∙ blocks_before blocks (omega arith)
 
 -- where the blocks have the names of the PEs, the greatest load of a PE is that of a block
-pub placed_greatest : (loads cuts names : List ℕ) (pes n : ℕ) → n ≡ length loads → IsDivision 0 n pes cuts → IsNaming pes names → greatest pes (load_of loads (planned_places cuts names n)) ≡ peak loads cuts
+pub placed_greatest : (loads cuts names : List ℕ) (pes n : ℕ) → n ≡ length loads → IsDivision 0 n pes cuts → IsNaming pes names
+    → greatest pes (load_of loads (planned_places cuts names n)) ≡ peak loads cuts
 placed_greatest loads cuts names pes n whole division naming = omega (arith, above, below)
   where
     on : (p : ℕ) → load_of loads (planned_places cuts names n) p ≡ total pes (λ b. when (slice_index names b) p (block_load loads cuts b))

@@ -21,7 +21,8 @@ module _ {A : Type 0} (loads : List ℕ) (sizes : List (ℕ × ℕ)) (p : ℕ) w
   pub place_from_refined : (r : Refined A) → IsRefinedFor loads sizes p r → (i : ℕ) → i < length sizes → HasPlace (refined_cuts r) (refined_names r) i
   place_from_refined r (t, refined) = places loads sizes p t r refined
 
-  pub refined_placed : (r : Refined A) → IsRefinedFor loads sizes p r → length loads ≡ length sizes → IsPlacement loads (planned_places (refined_cuts r) (refined_names r) (length sizes)) p
+  pub refined_placed : (r : Refined A) → IsRefinedFor loads sizes p r → length loads ≡ length sizes
+      → IsPlacement loads (planned_places (refined_cuts r) (refined_names r) (length sizes)) p
   refined_placed (Planned d) (t, refined) paired = planned_placed loads sizes p d refined.0.right paired
   refined_placed (Near k) (t, refined) paired =
       let kept = refined.0 in

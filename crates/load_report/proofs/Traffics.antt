@@ -11,7 +11,8 @@ use Rattle.load_report.specs.Figures.{IsPlacement, moving}
 abbrev pub moving_below : List (ℕ × ℕ) → List ℕ → ℕ → List ℕ
 moving_below sizes places n = map (λ i. moved_bytes (slice_index_or sizes i (0, 0)) (slice_index places i)) (range_with_len 0 n)
 
-pub moving_more : (sizes : List (ℕ × ℕ)) (places : List ℕ) (i : ℕ) → moving_below sizes places (i + 1) ≡ moving_below sizes places i ++ moved_bytes (slice_index_or sizes i (0, 0)) (slice_index places i) ∷ []
+pub moving_more : (sizes : List (ℕ × ℕ)) (places : List ℕ) (i : ℕ)
+    → moving_below sizes places (i + 1) ≡ moving_below sizes places i ++ moved_bytes (slice_index_or sizes i (0, 0)) (slice_index places i) ∷ []
 moving_more sizes places i =
     map-range_with_len_more (λ k. moved_bytes (slice_index_or sizes k (0, 0)) (slice_index places k)) 0 i i (omega arith)
 

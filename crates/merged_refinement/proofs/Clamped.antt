@@ -40,14 +40,18 @@ later : (first end blocks : ℕ) (cuts : List ℕ) (i j : ℕ) → IsDivision fi
 later first end blocks cuts i j h onward inside =
     h.ordered i j 0 onward (omega (arith, h.counted))
 
-clamp_rises : (loads : List ℕ) (sizes : List (ℕ × ℕ)) (names present : List ℕ) (limit : ℕ) (near far cuts : List ℕ) (i j : ℕ) → IsBounded loads sizes names present limit near far → IsDivision 0 (length loads) (length names) cuts → i ≤ j → j ≤ length names → clamp near far cuts i ≤ clamp near far cuts j
+clamp_rises : (loads : List ℕ) (sizes : List (ℕ × ℕ)) (names present : List ℕ) (limit : ℕ) (near far cuts : List ℕ) (i j : ℕ)
+    → IsBounded loads sizes names present limit near far → IsDivision 0 (length loads) (length names) cuts → i ≤ j → j ≤ length names
+    → clamp near far cuts i ≤ clamp near far cuts j
 clamp_rises loads sizes names present limit near far cuts i j h divides onward inside =
     let a = later 0 (length loads) (length names) cuts i j divides onward inside in
     let b = later 0 (slice_index near (length names)) (length names) near i j h.bounds.near_divides onward inside in
     let c = later (slice_index far 0) (length loads) (length names) far i j h.bounds.far_divides onward inside in
     omega (arith, a, b, c)
 
-clamped_divides : (loads : List ℕ) (sizes : List (ℕ × ℕ)) (names present : List ℕ) (limit : ℕ) (near far cuts : List ℕ) → IsBounded loads sizes names present limit near far → IsDivision 0 (length loads) (length names) cuts → IsDivision 0 (length loads) (length names) (clamped (length names) near far cuts)
+clamped_divides : (loads : List ℕ) (sizes : List (ℕ × ℕ)) (names present : List ℕ) (limit : ℕ) (near far cuts : List ℕ)
+    → IsBounded loads sizes names present limit near far → IsDivision 0 (length loads) (length names) cuts
+    → IsDivision 0 (length loads) (length names) (clamped (length names) near far cuts)
 clamped_divides loads sizes names present limit near far cuts h divides =
     let blocks : ℕ = length names in
     let counted : length (clamped blocks near far cuts) ≡ blocks + 1 = length-map-range_with_len (clamp near far cuts) 0 (blocks + 1) in
@@ -67,7 +71,9 @@ clamped_divides loads sizes names present limit near far cuts h divides =
       );
     }
 
-clamp_light : (loads : List ℕ) (sizes : List (ℕ × ℕ)) (names present : List ℕ) (limit : ℕ) (near far cuts : List ℕ) (b : ℕ) → IsBounded loads sizes names present limit near far → AreWithin loads names limit cuts → b < length names → load loads (clamp near far cuts b) (clamp near far cuts (b + 1)) ≤ limit
+clamp_light : (loads : List ℕ) (sizes : List (ℕ × ℕ)) (names present : List ℕ) (limit : ℕ) (near far cuts : List ℕ) (b : ℕ)
+    → IsBounded loads sizes names present limit near far → AreWithin loads names limit cuts → b < length names
+    → load loads (clamp near far cuts b) (clamp near far cuts (b + 1)) ≤ limit
 clamp_light loads sizes names present limit near far cuts b h within inside =
     let here : slice_index near b ≤ slice_index far b = omega (arith, h.bounds.near_before b (omega arith), h.bounds.far_behind b (omega arith)) in
     let next : slice_index near (b + 1) ≤ slice_index far (b + 1) = omega (arith, h.bounds.near_before (b + 1) (omega arith), h.bounds.far_behind (b + 1) (omega arith)) in
@@ -84,7 +90,9 @@ clamp_light loads sizes names present limit near far cuts b h within inside =
     ]
 
 -- they are still within the limit
-pub clamped_within : (loads : List ℕ) (sizes : List (ℕ × ℕ)) (names present : List ℕ) (limit : ℕ) (near far cuts : List ℕ) → IsBounded loads sizes names present limit near far → AreWithin loads names limit cuts → AreWithin loads names limit (clamped (length names) near far cuts)
+pub clamped_within : (loads : List ℕ) (sizes : List (ℕ × ℕ)) (names present : List ℕ) (limit : ℕ) (near far cuts : List ℕ)
+    → IsBounded loads sizes names present limit near far → AreWithin loads names limit cuts
+    → AreWithin loads names limit (clamped (length names) near far cuts)
 clamped_within loads sizes names present limit near far cuts h within =
     record {
       divides = clamped_divides loads sizes names present limit near far cuts h within.divides;
@@ -92,7 +100,9 @@ clamped_within loads sizes names present limit near far cuts h within =
           rw (clamped_at (length names) near far cuts b (omega arith), clamped_at (length names) near far cuts (b + 1) (omega arith)) (clamp_light loads sizes names present limit near far cuts b h within inside);
     }
 
-clamp_cheaper : (loads : List ℕ) (sizes : List (ℕ × ℕ)) (names present : List ℕ) (limit : ℕ) (near far cuts : List ℕ) (b : ℕ) → IsBounded loads sizes names present limit near far → IsDivision 0 (length loads) (length names) cuts → b + 1 < length names → cut_cost sizes names b (clamp near far cuts (b + 1)) ≤ cut_cost sizes names b (slice_index cuts (b + 1))
+clamp_cheaper : (loads : List ℕ) (sizes : List (ℕ × ℕ)) (names present : List ℕ) (limit : ℕ) (near far cuts : List ℕ) (b : ℕ)
+    → IsBounded loads sizes names present limit near far → IsDivision 0 (length loads) (length names) cuts → b + 1 < length names
+    → cut_cost sizes names b (clamp near far cuts (b + 1)) ≤ cut_cost sizes names b (slice_index cuts (b + 1))
 clamp_cheaper loads sizes names present limit near far cuts b h divides inside =
     let cut : ℕ = slice_index cuts (b + 1) in
     let before = h.bounds.near_before (b + 1) (omega arith) in
@@ -114,7 +124,9 @@ clamp_cheaper loads sizes names present limit near far cuts b h divides inside =
     ]
 
 -- and move no more bytes
-pub clamped_cheaper : (loads : List ℕ) (sizes : List (ℕ × ℕ)) (names present : List ℕ) (limit : ℕ) (near far cuts : List ℕ) → IsBounded loads sizes names present limit near far → IsDivision 0 (length loads) (length names) cuts → bytes_moved sizes (clamped (length names) near far cuts) names ≤ bytes_moved sizes cuts names
+pub clamped_cheaper : (loads : List ℕ) (sizes : List (ℕ × ℕ)) (names present : List ℕ) (limit : ℕ) (near far cuts : List ℕ)
+    → IsBounded loads sizes names present limit near far → IsDivision 0 (length loads) (length names) cuts
+    → bytes_moved sizes (clamped (length names) near far cuts) names ≤ bytes_moved sizes cuts names
 clamped_cheaper loads sizes names present limit near far cuts h divides =
     let bounded : List ℕ = clamped (length names) near far cuts in
     let costs = total_le (length names - 1) (λ b. cut_cost sizes names b (slice_index bounded (b + 1))) (λ b. cut_cost sizes names b (slice_index cuts (b + 1))) (λ b inside.

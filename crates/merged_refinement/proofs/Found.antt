@@ -19,7 +19,9 @@ use Rattle.merged_refinement.proofs.StandingCosts.{cost_few, cost_is}
 use Rattle.merged_refinement.proofs.Tables.{cut_inside, read_begins}
 
 -- between the bounds are places of rows
-spans_of : (loads present near far : List ℕ) (blocks limit : ℕ) (start : ℕ → ℕ) → 0 < blocks → IsDivision 0 (length loads) blocks present → AreStarts loads limit start → AreBounds loads present blocks limit near far → AreSpans present blocks (length loads) start (slice_index near) (slice_index far)
+spans_of : (loads present near far : List ℕ) (blocks limit : ℕ) (start : ℕ → ℕ) → 0 < blocks → IsDivision 0 (length loads) blocks present
+    → AreStarts loads limit start → AreBounds loads present blocks limit near far
+    → AreSpans present blocks (length loads) start (slice_index near) (slice_index far)
 spans_of loads present near far blocks limit start some divides starts h =
     let present_in : (b : ℕ) → b ≤ blocks → slice_index present b ≤ length loads = λ b inside. omega (arith, divides.ordered b blocks 0 inside (omega (arith, divides.counted)), divides.ends) in
     let near_rises : (b : ℕ) → b < blocks → slice_index near b ≤ slice_index near (b + 1) = λ b inside. h.near_divides.ordered b (b + 1) 0 (omega arith) (omega (arith, h.near_divides.counted)) in
@@ -53,7 +55,10 @@ pub record IsFound (loads bytes : List ℕ) (limit : ℕ) (t : Table) (cuts : Li
   pub read : IsReadOff bytes t cuts
 
 -- by the lists that the search keeps
-pub found_of : (loads bytes : List ℕ) (limit : ℕ) (t : Table) (starts cuts : List ℕ) → t.starts.now ≡ starts → length starts ≡ length loads + 1 → AreStarts loads limit (slice_index starts) → 2 ≤ length t.near.now → length bytes ≡ length loads → sum bytes < 2 ^ 61 → IsDivision 0 (length loads) (length t.near.now - 1) t.present.now → AreBounds loads t.present.now (length t.near.now - 1) limit t.near.now t.far.now → IsReadOff bytes t cuts → IsFound loads bytes limit t cuts
+pub found_of : (loads bytes : List ℕ) (limit : ℕ) (t : Table) (starts cuts : List ℕ) → t.starts.now ≡ starts → length starts ≡ length loads + 1
+    → AreStarts loads limit (slice_index starts) → 2 ≤ length t.near.now → length bytes ≡ length loads → sum bytes < 2 ^ 61
+    → IsDivision 0 (length loads) (length t.near.now - 1) t.present.now
+    → AreBounds loads t.present.now (length t.near.now - 1) limit t.near.now t.far.now → IsReadOff bytes t cuts → IsFound loads bytes limit t cuts
 found_of loads bytes limit t starts cuts same counted are some paired light divides bounds read =
     record {
       some_block = some;
@@ -106,12 +111,15 @@ is_search loads bytes limit t cuts h =
       table = subst (λ n. ArePiled (sizes_on bytes t.present.now) (names t) (2 ^ 62) (slice_index t.starts.now) (slice_index t.near.now) (slice_index t.far.now) n (rows_at h.read.rows)) count h.read.piled;
     }
 
-reading : (loads bytes : List ℕ) (limit : ℕ) (t : Table) (cuts : List ℕ) (h : IsFound loads bytes limit t cuts) → AreRead (length (names t)) t.present.now (length loads) (slice_index t.starts.now) (rows_at h.read.rows) cuts
+reading : (loads bytes : List ℕ) (limit : ℕ) (t : Table) (cuts : List ℕ) (h : IsFound loads bytes limit t cuts)
+    → AreRead (length (names t)) t.present.now (length loads) (slice_index t.starts.now) (rows_at h.read.rows) cuts
 reading loads bytes limit t cuts h =
     subst (λ n. AreRead (length (names t)) t.present.now n (slice_index t.starts.now) (rows_at h.read.rows) cuts) h.paired (subst (λ n. AreRead n t.present.now (length bytes) (slice_index t.starts.now) (rows_at h.read.rows) cuts) (sym (names_counted (blocks t))) h.read.read)
 
 -- what some cuts cost
-costs_by : (bytes present cuts : List ℕ) (ranks n : ℕ) → IsDivision 0 (length bytes) ranks present → IsDivision 0 (length bytes) ranks cuts → n < ranks → total n (λ b. cut_cost (sizes_on bytes present) (in_order ranks) b (slice_index cuts (b + 1))) ≤ load bytes 0 (slice_index present n) + load bytes 0 (slice_index present (n + 1))
+costs_by : (bytes present cuts : List ℕ) (ranks n : ℕ) → IsDivision 0 (length bytes) ranks present → IsDivision 0 (length bytes) ranks cuts
+    → n < ranks
+    → total n (λ b. cut_cost (sizes_on bytes present) (in_order ranks) b (slice_index cuts (b + 1))) ≤ load bytes 0 (slice_index present n) + load bytes 0 (slice_index present (n + 1))
 costs_by bytes present cuts ranks zero divides within few = omega arith
 costs_by bytes present cuts ranks (suc n) divides within few =
     let one = block_within (length bytes) ranks present n divides (omega arith) in
@@ -128,7 +136,8 @@ costs_by bytes present cuts ranks (suc n) divides within few =
     ) in
     subst (λ k. total (suc n) (λ b. cut_cost (sizes_on bytes present) (in_order ranks) b (slice_index cuts (b + 1))) ≤ load bytes 0 (slice_index present k) + load bytes 0 (slice_index present (k + 1))) (add-one n) done
 
-few_bytes : (loads bytes : List ℕ) (limit : ℕ) (t : Table) (cuts others : List ℕ) → IsFound loads bytes limit t cuts → AreWithin loads (names t) limit others → cuts_cost (sizes_on bytes t.present.now) (names t) others < 2 ^ 62
+few_bytes : (loads bytes : List ℕ) (limit : ℕ) (t : Table) (cuts others : List ℕ) → IsFound loads bytes limit t cuts
+    → AreWithin loads (names t) limit others → cuts_cost (sizes_on bytes t.present.now) (names t) others < 2 ^ 62
 few_bytes loads bytes limit t cuts others h within =
     let count : length (names t) ≡ blocks t = names_counted (blocks t) in
     let by_length : IsDivision 0 (length bytes) (blocks t) others = subst (λ n. IsDivision 0 (length bytes) n others) count (subst (λ n. IsDivision 0 n (length (names t)) others) (sym h.paired) within.divides) in
@@ -143,11 +152,13 @@ few_bytes loads bytes limit t cuts others h within =
       load_within bytes 0 (slice_index t.present.now (blocks t - 1 + 1)) (omega arith),
     )
 
-pub found_nearest : (loads bytes : List ℕ) (limit : ℕ) (t : Table) (cuts : List ℕ) → IsFound loads bytes limit t cuts → slice_index t.starts.now (slice_index cuts 1) ≤ 0 → AreNearestInOrder loads bytes t.present.now (length t.near.now - 1) limit cuts
+pub found_nearest : (loads bytes : List ℕ) (limit : ℕ) (t : Table) (cuts : List ℕ) → IsFound loads bytes limit t cuts
+    → slice_index t.starts.now (slice_index cuts 1) ≤ 0 → AreNearestInOrder loads bytes t.present.now (length t.near.now - 1) limit cuts
 found_nearest loads bytes limit t cuts h begins =
     read_nearest (searched loads bytes limit t h.read.rows) cuts (is_search loads bytes limit t cuts h) (reading loads bytes limit t cuts h) (omega (arith, begins))
 
-pub none_found : (loads bytes : List ℕ) (limit : ℕ) (t : Table) (cuts others : List ℕ) → IsFound loads bytes limit t cuts → 0 < slice_index t.starts.now (slice_index cuts 1) → ¬ (AreWithin loads (in_order (length t.near.now - 1)) limit others)
+pub none_found : (loads bytes : List ℕ) (limit : ℕ) (t : Table) (cuts others : List ℕ) → IsFound loads bytes limit t cuts
+    → 0 < slice_index t.starts.now (slice_index cuts 1) → ¬ (AreWithin loads (in_order (length t.near.now - 1)) limit others)
 none_found loads bytes limit t cuts others h late within =
     omega (arith, late, read_begins (searched loads bytes limit t h.read.rows) cuts others (is_search loads bytes limit t cuts h) (reading loads bytes limit t cuts h) within (few_bytes loads bytes limit t cuts others h within))
 
@@ -157,7 +168,8 @@ first_inside loads bytes limit t cuts h =
     cut_inside (searched loads bytes limit t h.read.rows) cuts 0 (is_search loads bytes limit t cuts h) (reading loads bytes limit t cuts h) (omega (arith, names_counted (blocks t), h.some_block))
 
 -- rows never fall
-pub rows_rise : (bytes : List ℕ) (t : Table) (ranks : ℕ) (rows : List (ℕ × List ℕ)) (b x y : ℕ) → ArePiledUp bytes t ranks rows → b < ranks → x ≤ y → rows_at rows b x ≤ rows_at rows b y
+pub rows_rise : (bytes : List ℕ) (t : Table) (ranks : ℕ) (rows : List (ℕ × List ℕ)) (b x y : ℕ) → ArePiledUp bytes t ranks rows → b < ranks → x ≤ y
+    → rows_at rows b x ≤ rows_at rows b y
 rows_rise bytes t ranks rows zero x y piled inside onward = piled.rises x y onward
 rows_rise bytes t ranks rows (suc b) x y piled inside onward =
     subst (λ n. rows_at rows n x ≤ rows_at rows n y) (add-one b) ((piled.rows b (omega arith)).rises x y onward)

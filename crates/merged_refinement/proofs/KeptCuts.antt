@@ -54,7 +54,9 @@ same_runs : (m : Merging) → IsMerging m → length m.run_bytes ≡ length m.ru
 same_runs m h = omega (arith, h.runs_weigh.counted, h.runs_hold.counted)
 
 -- cuts within the limit, both of the merged chain and of the chain
-moved_same : (m : Merging) (cuts : List ℕ) → IsMerging m → AreWithin m.runs (names m) m.limit cuts → AreWithin m.loads (names m) m.limit (unmerged m.starts cuts) → bytes_moved (sizes m) (unmerged m.starts cuts) (names m) ≡ bytes_moved (run_sizes m) cuts (names m)
+moved_same : (m : Merging) (cuts : List ℕ) → IsMerging m → AreWithin m.runs (names m) m.limit cuts
+    → AreWithin m.loads (names m) m.limit (unmerged m.starts cuts)
+    → bytes_moved (sizes m) (unmerged m.starts cuts) (names m) ≡ bytes_moved (run_sizes m) cuts (names m)
 moved_same m cuts h short long =
     same_moved m.bytes m.run_bytes m.starts m.present m.standing cuts (names m) m.ranks h.runs_hold (subst (λ n. IsDivision 0 n m.ranks m.present) (sym h.paired) h.divides) (subst (λ n. IsDivision 0 n m.ranks m.standing) (sym (same_runs m h)) h.standing_divides) h.standing_is (subst (λ n. IsDivision 0 n (length (names m)) cuts) (sym (same_runs m h)) short.divides) (subst (λ n. IsDivision 0 n (length (names m)) (unmerged m.starts cuts)) (sym h.paired) long.divides)
 
@@ -65,7 +67,9 @@ record AreMoved (m : Merging) (near far others found : List ℕ) : Type 0 where
   pub cheaper : bytes_moved (run_sizes m) found (names m) ≤ bytes_moved (sizes m) others (names m)
 
 -- each of them begins a run
-each_starts : (m : Merging) (h : IsMerging m) (cuts : List ℕ) → AreWithin m.loads (names m) m.limit (clamped (length (names m)) h.near h.far cuts) → (b : ℕ) → b < length (clamped (length (names m)) h.near h.far cuts) → IsStart m.starts (slice_index (clamped (length (names m)) h.near h.far cuts) b)
+each_starts : (m : Merging) (h : IsMerging m) (cuts : List ℕ) → AreWithin m.loads (names m) m.limit (clamped (length (names m)) h.near h.far cuts)
+    → (b : ℕ) → b < length (clamped (length (names m)) h.near h.far cuts)
+    → IsStart m.starts (slice_index (clamped (length (names m)) h.near h.far cuts) b)
 each_starts m h cuts within b inside =
     let all : List ℕ = clamped (length (names m)) h.near h.far cuts in
     let count : length (names m) ≡ m.ranks = names_counted m.ranks in
@@ -97,7 +101,8 @@ moved_to_bounds m h others within =
     let by_all : bytes_moved (sizes m) (unmerged m.starts list) (names m) ≡ bytes_moved (sizes m) all (names m) = ap (λ cuts. bytes_moved (sizes m) cuts (names m)) same in
     (list, record { same = same; within = short; cheaper = omega (arith, cost, by_all, moved_same m list h short whole) })
 
-kept_fewest_of : (m : Merging) (cuts : List ℕ) → IsMerging m → AreFewest m.runs (run_sizes m) (names m) m.limit cuts → AreFewest m.loads (sizes m) (names m) m.limit (unmerged m.starts cuts)
+kept_fewest_of : (m : Merging) (cuts : List ℕ) → IsMerging m → AreFewest m.runs (run_sizes m) (names m) m.limit cuts
+    → AreFewest m.loads (sizes m) (names m) m.limit (unmerged m.starts cuts)
 kept_fewest_of m cuts h one =
     let whole : AreWithin m.loads (names m) m.limit (unmerged m.starts cuts) = unmerged_within m.loads m.runs m.starts (names m) cuts m.limit h.runs_weigh one.within in
     record {
@@ -108,7 +113,8 @@ kept_fewest_of m cuts h one =
     }
 
 -- where these others move the fewest bytes, so do the cuts of the merged chain that stand for them
-fewest_back : (m : Merging) (near far others found : List ℕ) → IsMerging m → AreFewest m.loads (sizes m) (names m) m.limit others → AreMoved m near far others found → AreFewest m.runs (run_sizes m) (names m) m.limit found
+fewest_back : (m : Merging) (near far others found : List ℕ) → IsMerging m → AreFewest m.loads (sizes m) (names m) m.limit others
+    → AreMoved m near far others found → AreFewest m.runs (run_sizes m) (names m) m.limit found
 fewest_back m near far others found h other moved =
     record {
       within = moved.within;
@@ -123,7 +129,9 @@ IsBetween near far cuts b =
     (slice_index near b ≤ slice_index cuts b) × (slice_index cuts b ≤ slice_index far b)
 
 -- where both lists are the same behind a cut, so are the runs
-same_behind : (m : Merging) (h : IsMerging m) (cuts others found : List ℕ) (k : ℕ) → AreWithin m.runs (names m) m.limit cuts → AreMoved m h.near h.far others found → 0 < k → k ≤ length (names m) → slice_index others k ≡ slice_index (unmerged m.starts cuts) k → (k < length (names m) → IsBetween h.near h.far (unmerged m.starts cuts) k) → slice_index found k ≡ slice_index cuts k
+same_behind : (m : Merging) (h : IsMerging m) (cuts others found : List ℕ) (k : ℕ) → AreWithin m.runs (names m) m.limit cuts
+    → AreMoved m h.near h.far others found → 0 < k → k ≤ length (names m) → slice_index others k ≡ slice_index (unmerged m.starts cuts) k
+    → (k < length (names m) → IsBetween h.near h.far (unmerged m.starts cuts) k) → slice_index found k ≡ slice_index cuts k
 same_behind m h cuts others found k within moved some inside same between =
     let count : length (names m) ≡ m.ranks = names_counted m.ranks in
     let at_found : slice_index (unmerged m.starts found) k ≡ slice_index m.starts (slice_index found k) = unmerged_at m.starts found k (omega (arith, moved.within.divides.counted)) in
@@ -141,7 +149,11 @@ same_behind m h cuts others found k within moved some inside same between =
     ]
 
 -- and the cut before lies between the present one and that of the others, moved to its bounds
-between_at : (m : Merging) (h : IsMerging m) (cuts others : List ℕ) (b : ℕ) → AreNearest m.runs (run_sizes m) (names m) m.standing m.limit cuts → AreFewest m.loads (sizes m) (names m) m.limit others → b < length (names m) → ((k : ℕ) → b < k → k ≤ length (names m) → slice_index others k ≡ slice_index (unmerged m.starts cuts) k) → ((k : ℕ) → b < k → k < length (names m) → IsBetween h.near h.far (unmerged m.starts cuts) k) → LiesBetween (slice_index m.present b) (slice_index (unmerged m.starts cuts) b) (clamp h.near h.far others b)
+between_at : (m : Merging) (h : IsMerging m) (cuts others : List ℕ) (b : ℕ) → AreNearest m.runs (run_sizes m) (names m) m.standing m.limit cuts
+    → AreFewest m.loads (sizes m) (names m) m.limit others → b < length (names m)
+    → ((k : ℕ) → b < k → k ≤ length (names m) → slice_index others k ≡ slice_index (unmerged m.starts cuts) k)
+    → ((k : ℕ) → b < k → k < length (names m) → IsBetween h.near h.far (unmerged m.starts cuts) k)
+    → LiesBetween (slice_index m.present b) (slice_index (unmerged m.starts cuts) b) (clamp h.near h.far others b)
 between_at m h cuts others b one other inside same between =
     let found = moved_to_bounds m h others other.within in
     let list : List ℕ = found.0 in
@@ -168,14 +180,16 @@ between_at m h cuts others b one other inside same between =
     ]
 
 -- a cut between the present one and itself, moved to its bounds, is between these
-stays_between : (near far present cuts : List ℕ) (b : ℕ) → slice_index near b ≤ slice_index present b → slice_index present b ≤ slice_index far b → LiesBetween (slice_index present b) (slice_index cuts b) (clamp near far cuts b) → IsBetween near far cuts b
+stays_between : (near far present cuts : List ℕ) (b : ℕ) → slice_index near b ≤ slice_index present b → slice_index present b ≤ slice_index far b
+    → LiesBetween (slice_index present b) (slice_index cuts b) (clamp near far cuts b) → IsBetween near far cuts b
 stays_between near far present cuts b before behind (inl up) =
     (omega (arith, up.0, up.1, before, behind), omega (arith, up.0, up.1, before, behind))
 stays_between near far present cuts b before behind (inr down) =
     (omega (arith, down.0, down.1, before, behind), omega (arith, down.0, down.1, before, behind))
 
 -- the nearest cuts are between the bounds
-nearest_between : (m : Merging) (h : IsMerging m) (cuts : List ℕ) (left : ℕ) → AreNearest m.runs (run_sizes m) (names m) m.standing m.limit cuts → (k : ℕ) → length (names m) ≤ k + left → k < length (names m) → IsBetween h.near h.far (unmerged m.starts cuts) k
+nearest_between : (m : Merging) (h : IsMerging m) (cuts : List ℕ) (left : ℕ) → AreNearest m.runs (run_sizes m) (names m) m.standing m.limit cuts
+    → (k : ℕ) → length (names m) ≤ k + left → k < length (names m) → IsBetween h.near h.far (unmerged m.starts cuts) k
 nearest_between m h cuts zero one k from inside = absurd (omega (arith, from, inside))
 nearest_between m h cuts (suc left) one k from inside =
     let behind : (j : ℕ) → k < j → j < length (names m) → IsBetween h.near h.far (unmerged m.starts cuts) j = λ j after within. nearest_between m h cuts left one j (omega (arith, after, from)) within in
@@ -183,7 +197,9 @@ nearest_between m h cuts (suc left) one k from inside =
     stays_between h.near h.far m.present (unmerged m.starts cuts) k (h.bounds.near_before k few) (h.bounds.far_behind k few) (between_at m h cuts (unmerged m.starts cuts) k one (kept_fewest_of m cuts h one.fewest) inside (λ j after within. omega arith) behind)
 
 -- what lies between the present cut and another that is moved to its bounds lies between these two
-between_whole : (near far present others : List ℕ) (b cut : ℕ) → slice_index near b ≤ slice_index present b → slice_index present b ≤ slice_index far b → LiesBetween (slice_index present b) cut (clamp near far others b) → LiesBetween (slice_index present b) cut (slice_index others b)
+between_whole : (near far present others : List ℕ) (b cut : ℕ) → slice_index near b ≤ slice_index present b
+    → slice_index present b ≤ slice_index far b → LiesBetween (slice_index present b) cut (clamp near far others b)
+    → LiesBetween (slice_index present b) cut (slice_index others b)
 between_whole near far present others b cut before behind between =
     elim (cases_lt (slice_index others b) (slice_index present b)) [
       | inl early ↦ elim between [
@@ -196,7 +212,8 @@ between_whole near far present others b cut before behind between =
       ]
     ]
 
-kept_nearest_of : (m : Merging) (cuts : List ℕ) → IsMerging m → AreNearest m.runs (run_sizes m) (names m) m.standing m.limit cuts → AreNearest m.loads (sizes m) (names m) m.present m.limit (unmerged m.starts cuts)
+kept_nearest_of : (m : Merging) (cuts : List ℕ) → IsMerging m → AreNearest m.runs (run_sizes m) (names m) m.standing m.limit cuts
+    → AreNearest m.loads (sizes m) (names m) m.present m.limit (unmerged m.starts cuts)
 kept_nearest_of m cuts h one =
     record {
       fewest = kept_fewest_of m cuts h one.fewest;
@@ -205,10 +222,14 @@ kept_nearest_of m cuts h one =
           between_whole h.near h.far m.present others b (slice_index (unmerged m.starts cuts) b) (h.bounds.near_before b few) (h.bounds.far_behind b few) (between_at m h cuts others b one other inside same (λ k after within. nearest_between m h cuts (length (names m)) one k (omega arith) within));
     }
 
-pub kept_fewest : (loads bytes present runs run_bytes starts standing : List ℕ) (ranks limit : ℕ) (cuts : List ℕ) → IsMergedInOrder loads bytes present runs run_bytes starts standing ranks limit → AreFewestInOrder runs run_bytes standing ranks limit cuts → AreFewestInOrder loads bytes present ranks limit (unmerged starts cuts)
+pub kept_fewest : (loads bytes present runs run_bytes starts standing : List ℕ) (ranks limit : ℕ) (cuts : List ℕ)
+    → IsMergedInOrder loads bytes present runs run_bytes starts standing ranks limit → AreFewestInOrder runs run_bytes standing ranks limit cuts
+    → AreFewestInOrder loads bytes present ranks limit (unmerged starts cuts)
 kept_fewest loads bytes present runs run_bytes starts standing ranks limit cuts h one =
     kept_fewest_of (record { loads = loads; bytes = bytes; present = present; runs = runs; run_bytes = run_bytes; starts = starts; standing = standing; ranks = ranks; limit = limit }) cuts h one
 
-pub kept_nearest : (loads bytes present runs run_bytes starts standing : List ℕ) (ranks limit : ℕ) (cuts : List ℕ) → IsMergedInOrder loads bytes present runs run_bytes starts standing ranks limit → AreNearestInOrder runs run_bytes standing ranks limit cuts → AreNearestInOrder loads bytes present ranks limit (unmerged starts cuts)
+pub kept_nearest : (loads bytes present runs run_bytes starts standing : List ℕ) (ranks limit : ℕ) (cuts : List ℕ)
+    → IsMergedInOrder loads bytes present runs run_bytes starts standing ranks limit → AreNearestInOrder runs run_bytes standing ranks limit cuts
+    → AreNearestInOrder loads bytes present ranks limit (unmerged starts cuts)
 kept_nearest loads bytes present runs run_bytes starts standing ranks limit cuts h one =
     kept_nearest_of (record { loads = loads; bytes = bytes; present = present; runs = runs; run_bytes = run_bytes; starts = starts; standing = standing; ranks = ranks; limit = limit }) cuts h one

@@ -62,7 +62,8 @@ starts_none loads limit starts first x inside =
     let same : 0 ≡ x = omega arith in
     subst (λ n. IsLeastStart loads n limit (slice_index starts n)) same (subst (λ s. IsLeastStart loads 0 limit s) (sym first) (starts_at_0 loads limit))
 
-pub starts_more : (loads : List ℕ) (limit end start : ℕ) (starts : List ℕ) → AreStartsTo loads limit end starts → IsLeastStart loads (end + 1) limit start → end + 1 < length starts → AreStartsTo loads limit (end + 1) (set starts (end + 1) start)
+pub starts_more : (loads : List ℕ) (limit end start : ℕ) (starts : List ℕ) → AreStartsTo loads limit end starts
+    → IsLeastStart loads (end + 1) limit start → end + 1 < length starts → AreStartsTo loads limit (end + 1) (set starts (end + 1) start)
 starts_more loads limit end start starts before here room x inside =
     elim (cases_eq x (end + 1)) [
       | inl met ↦

@@ -39,7 +39,8 @@ pub unmerged_counted : (starts cuts : List ℕ) → length (unmerged starts cuts
 unmerged_counted starts cuts = length-map cuts (λ cut. slice_index starts cut)
 
 -- cuts of the merged chain within a limit are cuts of the chain within it
-pub unmerged_within : (loads runs starts names cuts : List ℕ) (limit : ℕ) → AreRuns loads runs starts → AreWithin runs names limit cuts → AreWithin loads names limit (unmerged starts cuts)
+pub unmerged_within : (loads runs starts names cuts : List ℕ) (limit : ℕ) → AreRuns loads runs starts → AreWithin runs names limit cuts
+    → AreWithin loads names limit (unmerged starts cuts)
 unmerged_within loads runs starts names cuts limit h within =
     record {
       divides = record {
@@ -65,7 +66,8 @@ abbrev pub AreInside : List ℕ → List ℕ → Type 0
 AreInside runs cuts = (b : ℕ) → b < length cuts → slice_index cuts b ≤ length runs
 
 -- and the other way round
-pub merged_within : (loads runs starts names cuts : List ℕ) (limit : ℕ) → AreRuns loads runs starts → AreInside runs cuts → AreWithin loads names limit (unmerged starts cuts) → AreWithin runs names limit cuts
+pub merged_within : (loads runs starts names cuts : List ℕ) (limit : ℕ) → AreRuns loads runs starts → AreInside runs cuts
+    → AreWithin loads names limit (unmerged starts cuts) → AreWithin runs names limit cuts
 merged_within loads runs starts names cuts limit h inside within =
     let counted : length cuts ≡ length names + 1 = sym (unmerged_counted starts cuts) ∙ within.divides.counted in
     let rises : (i j : ℕ) → i ≤ j → j < length cuts → slice_index cuts i ≤ slice_index cuts j = λ i j onward few.
@@ -92,7 +94,8 @@ inside_cons n x xs first rest zero inside = first
 inside_cons n x xs first rest (suc b) inside = rest b (omega arith)
 
 -- cuts that each begin a run are cuts of the merged chain
-pub runs_at : (starts cuts : List ℕ) (n : ℕ) → length starts ≡ n + 1 → ((b : ℕ) → b < length cuts → IsStart starts (slice_index cuts b)) → (found : List ℕ) × (unmerged starts found ≡ cuts) × ((b : ℕ) → b < length found → slice_index found b ≤ n)
+pub runs_at : (starts cuts : List ℕ) (n : ℕ) → length starts ≡ n + 1 → ((b : ℕ) → b < length cuts → IsStart starts (slice_index cuts b))
+    → (found : List ℕ) × (unmerged starts found ≡ cuts) × ((b : ℕ) → b < length found → slice_index found b ≤ n)
 runs_at starts [] n counted kept = ([], refl, λ b inside. absurd (omega arith))
 runs_at starts (cut ∷ cuts) n counted kept =
     let first = kept 0 (omega arith) in
@@ -102,7 +105,8 @@ runs_at starts (cut ∷ cuts) n counted kept =
     (first.0 ∷ rest.0, cc, inside_cons n first.0 rest.0 (omega (arith, first.1, counted)) rest.2)
 
 -- what a range of elements moves
-range_moves : (bytes present : List ℕ) (to a b : ℕ) → a ≤ b → b ≤ length bytes → moved_up_to bytes present to a + sum_by (λ size. moved_bytes size to) (slice_range (sizes_on bytes present) a b) ≡ moved_up_to bytes present to b
+range_moves : (bytes present : List ℕ) (to a b : ℕ) → a ≤ b → b ≤ length bytes
+    → moved_up_to bytes present to a + sum_by (λ size. moved_bytes size to) (slice_range (sizes_on bytes present) a b) ≡ moved_up_to bytes present to b
 range_moves bytes present to a b onward inside =
     omega (
       arith,
@@ -112,7 +116,10 @@ range_moves bytes present to a b onward inside =
     )
 
 -- a block of runs moves to a rank what the block of their elements moves
-block_moves : (bytes run_bytes starts present standing cuts : List ℕ) (ranks blocks to b : ℕ) → AreRuns bytes run_bytes starts → IsDivision 0 (length bytes) ranks present → IsDivision 0 (length run_bytes) ranks standing → present ≡ unmerged starts standing → IsDivision 0 (length run_bytes) blocks cuts → b < blocks → block_cost (sizes_on bytes present) (unmerged starts cuts) b to ≡ block_cost (sizes_on run_bytes standing) cuts b to
+block_moves : (bytes run_bytes starts present standing cuts : List ℕ) (ranks blocks to b : ℕ) → AreRuns bytes run_bytes starts
+    → IsDivision 0 (length bytes) ranks present → IsDivision 0 (length run_bytes) ranks standing → present ≡ unmerged starts standing
+    → IsDivision 0 (length run_bytes) blocks cuts → b < blocks
+    → block_cost (sizes_on bytes present) (unmerged starts cuts) b to ≡ block_cost (sizes_on run_bytes standing) cuts b to
 block_moves bytes run_bytes starts present standing cuts ranks blocks to b runs divides standing_divides are cut inside =
     let block = block_within (length run_bytes) blocks cuts b cut inside in
     let one : ℕ = slice_index cuts b in
@@ -130,7 +137,10 @@ block_moves bytes run_bytes starts present standing cuts ranks blocks to b runs 
     ))
 
 -- so cuts of the merged chain move what those of the chain move
-pub same_moved : (bytes run_bytes starts present standing cuts names : List ℕ) (ranks : ℕ) → AreRuns bytes run_bytes starts → IsDivision 0 (length bytes) ranks present → IsDivision 0 (length run_bytes) ranks standing → present ≡ unmerged starts standing → IsDivision 0 (length run_bytes) (length names) cuts → IsDivision 0 (length bytes) (length names) (unmerged starts cuts) → bytes_moved (sizes_on bytes present) (unmerged starts cuts) names ≡ bytes_moved (sizes_on run_bytes standing) cuts names
+pub same_moved : (bytes run_bytes starts present standing cuts names : List ℕ) (ranks : ℕ) → AreRuns bytes run_bytes starts
+    → IsDivision 0 (length bytes) ranks present → IsDivision 0 (length run_bytes) ranks standing → present ≡ unmerged starts standing
+    → IsDivision 0 (length run_bytes) (length names) cuts → IsDivision 0 (length bytes) (length names) (unmerged starts cuts)
+    → bytes_moved (sizes_on bytes present) (unmerged starts cuts) names ≡ bytes_moved (sizes_on run_bytes standing) cuts names
 same_moved bytes run_bytes starts present standing cuts names ranks runs divides standing_divides are cut whole =
     let blocks : ℕ = length names in
     let long = moved_is_cost (sizes_on bytes present) (unmerged starts cuts) names blocks (subst (λ n. IsDivision 0 n blocks (unmerged starts cuts)) (sym (sizes_counted bytes present)) whole) in

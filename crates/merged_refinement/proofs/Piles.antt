@@ -13,7 +13,9 @@ use Rattle.merged_refinement.specs.declared.pile.Table.{Table}
 use Rattle.merged_refinement.proofs.StandingCosts.{cost_few, cost_is}
 
 -- rows of the same numbers
-row_same : (near far : ℕ) (start cost cost₂ below above below₂ above₂ : ℕ → ℕ) → ((x : ℕ) → x ≤ far → cost₂ x ≡ cost x) → ((x : ℕ) → below₂ x ≡ below x) → ((x : ℕ) → above₂ x ≡ above x) → IsRow near far start cost below above → IsRow near far start cost₂ below₂ above₂
+row_same : (near far : ℕ) (start cost cost₂ below above below₂ above₂ : ℕ → ℕ) → ((x : ℕ) → x ≤ far → cost₂ x ≡ cost x)
+    → ((x : ℕ) → below₂ x ≡ below x) → ((x : ℕ) → above₂ x ≡ above x) → IsRow near far start cost below above
+    → IsRow near far start cost₂ below₂ above₂
 row_same near far start cost cost₂ below above below₂ above₂ costs lower upper row =
     record {
       flat = λ x early. omega (arith, row.flat x early, upper x, upper near);
@@ -66,7 +68,8 @@ abbrev pub IsRowOn : List ℕ → Table → ℕ → List (ℕ × List ℕ) → �
 IsRowOn bytes t b rows row =
     IsRow (slice_index t.near.now (b + 1)) (slice_index t.far.now (b + 1)) (slice_index t.starts.now) (standing_cost bytes (slice_index t.present.now b) (slice_index t.present.now (b + 1)) (slice_index t.present.now (b + 1 + 1))) (row_at (slice_index_or rows b (0, []))) (row_at row)
 
-pub piled_more : (bytes : List ℕ) (t : Table) (b : ℕ) (rows : List (ℕ × List ℕ)) (row : ℕ × List ℕ) → IsTable bytes t → b + 2 < length t.near.now → length rows ≡ b + 1 → ArePiledUp bytes t (b + 1) rows → IsRowOn bytes t b rows row → ArePiledUp bytes t (b + 1 + 1) (rows ++ row ∷ [])
+pub piled_more : (bytes : List ℕ) (t : Table) (b : ℕ) (rows : List (ℕ × List ℕ)) (row : ℕ × List ℕ) → IsTable bytes t → b + 2 < length t.near.now
+    → length rows ≡ b + 1 → ArePiledUp bytes t (b + 1) rows → IsRowOn bytes t b rows row → ArePiledUp bytes t (b + 1 + 1) (rows ++ row ∷ [])
 piled_more bytes t b rows row h inside counted piled next =
     record {
       first = row_kept rows row 0 0 (omega arith) ∙ piled.first;
@@ -85,11 +88,13 @@ piled_more bytes t b rows row h inside counted piled next =
     }
 
 -- the present cuts around one of them
-pub cut_ordered : (bytes : List ℕ) (t : Table) (b : ℕ) → IsTable bytes t → b + 1 < length t.near.now → (slice_index t.present.now b ≤ slice_index t.present.now (b + 1)) × (slice_index t.present.now (b + 1) ≤ length bytes)
+pub cut_ordered : (bytes : List ℕ) (t : Table) (b : ℕ) → IsTable bytes t → b + 1 < length t.near.now
+    → (slice_index t.present.now b ≤ slice_index t.present.now (b + 1)) × (slice_index t.present.now (b + 1) ≤ length bytes)
 cut_ordered bytes t b h inside =
     block_within (length bytes) (length t.near.now - 1) t.present.now b h.divides (omega arith)
 
-pub small_more : (bytes : List ℕ) (t : Table) (b : ℕ) (rows : List (ℕ × List ℕ)) (row : ℕ × List ℕ) → IsTable bytes t → b + 2 < length t.near.now → length rows ≡ b + 1 → AreSmall bytes t b rows → IsRowOn bytes t b rows row → AreSmall bytes t (b + 1) (rows ++ row ∷ [])
+pub small_more : (bytes : List ℕ) (t : Table) (b : ℕ) (rows : List (ℕ × List ℕ)) (row : ℕ × List ℕ) → IsTable bytes t → b + 2 < length t.near.now
+    → length rows ≡ b + 1 → AreSmall bytes t b rows → IsRowOn bytes t b rows row → AreSmall bytes t (b + 1) (rows ++ row ∷ [])
 small_more bytes t b rows row h inside counted small next x =
     let far : ℕ = slice_index t.far.now (b + 1) in
     let one = cut_ordered bytes t b h (omega arith) in
@@ -112,7 +117,8 @@ small_more bytes t b rows row h inside counted small next x =
     )
 
 -- so sums with it fit 64 bits
-pub small_below : (bytes : List ℕ) (t : Table) (b : ℕ) (rows : List (ℕ × List ℕ)) → IsTable bytes t → b + 1 < length t.near.now → AreSmall bytes t b rows → (x : ℕ) → rows_at rows b x ≤ 2 ^ 63
+pub small_below : (bytes : List ℕ) (t : Table) (b : ℕ) (rows : List (ℕ × List ℕ)) → IsTable bytes t → b + 1 < length t.near.now
+    → AreSmall bytes t b rows → (x : ℕ) → rows_at rows b x ≤ 2 ^ 63
 small_below bytes t b rows h inside small x =
     omega (
       arith,

@@ -68,7 +68,8 @@ moved_up_to bytes present to n =
     total n (λ i. moved_bytes (slice_index bytes i, block_of present i) to)
 
 -- elements of one rank move what their bytes together move
-moved_of_block : (bytes present : List ℕ) (to on a b held : ℕ) → a ≤ b → b ≤ length bytes → ((i : ℕ) → a ≤ i → i < b → block_of present i ≡ on) → held ≡ load bytes a b → moved_up_to bytes present to b ≡ moved_up_to bytes present to a + moved_bytes (held, on) to
+moved_of_block : (bytes present : List ℕ) (to on a b held : ℕ) → a ≤ b → b ≤ length bytes → ((i : ℕ) → a ≤ i → i < b → block_of present i ≡ on)
+    → held ≡ load bytes a b → moved_up_to bytes present to b ≡ moved_up_to bytes present to a + moved_bytes (held, on) to
 moved_of_block bytes present to on a b held onward inside stands is =
     let here : ℕ → ℕ = λ i. moved_bytes (slice_index bytes i, block_of present i) to in
     let same : ℕ → ℕ = λ i. moved_bytes (slice_index bytes i, on) to in
@@ -83,12 +84,16 @@ moved_of_block bytes present to on a b held onward inside stands is =
     )
 
 -- the first elements move to a rank what the list of their sizes says
-pub moved_of_sizes : (bytes present : List ℕ) (to n : ℕ) → n ≤ length bytes → sum_by (λ size. moved_bytes size to) (take n (sizes_on bytes present)) ≡ moved_up_to bytes present to n
+pub moved_of_sizes : (bytes present : List ℕ) (to n : ℕ) → n ≤ length bytes
+    → sum_by (λ size. moved_bytes size to) (take n (sizes_on bytes present)) ≡ moved_up_to bytes present to n
 moved_of_sizes bytes present to n inside =
     sym (total_take (λ size. moved_bytes size to) (sizes_on bytes present) (0, 0) n (omega (arith, sizes_counted bytes present))) ∙ total_same n (λ i. moved_bytes (slice_index_or (sizes_on bytes present) i (0, 0)) to) (λ i. moved_bytes (slice_index bytes i, block_of present i) to) (λ i below. ap (λ size. moved_bytes size to) (size_at bytes present i (omega arith)))
 
 -- the runs before one move to a rank what the elements before its start move
-pub runs_move : (bytes run_bytes starts present standing : List ℕ) (ranks to : ℕ) → AreRuns bytes run_bytes starts → IsDivision 0 (length bytes) ranks present → IsDivision 0 (length run_bytes) ranks standing → ((b : ℕ) → b ≤ ranks → slice_index present b ≡ slice_index starts (slice_index standing b)) → (j : ℕ) → j ≤ length run_bytes → moved_up_to run_bytes standing to j ≡ moved_up_to bytes present to (slice_index starts j)
+pub runs_move : (bytes run_bytes starts present standing : List ℕ) (ranks to : ℕ) → AreRuns bytes run_bytes starts
+    → IsDivision 0 (length bytes) ranks present → IsDivision 0 (length run_bytes) ranks standing
+    → ((b : ℕ) → b ≤ ranks → slice_index present b ≡ slice_index starts (slice_index standing b)) → (j : ℕ) → j ≤ length run_bytes
+    → moved_up_to run_bytes standing to j ≡ moved_up_to bytes present to (slice_index starts j)
 runs_move bytes run_bytes starts present standing ranks to runs divides standing_divides are zero inside =
     ap (λ n. moved_up_to bytes present to n) (sym runs.begins)
 runs_move bytes run_bytes starts present standing ranks to runs divides standing_divides are (suc j) inside =

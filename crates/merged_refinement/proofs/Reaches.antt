@@ -18,7 +18,8 @@ not_inside loads limit a b c d heavy light before behind =
     ]
 
 -- no cut lies before its first place
-pub not_before : (loads names cuts first last : List ℕ) (limit : ℕ) (left : ℕ) → AreReaches loads (length names) limit first last → AreWithin loads names limit cuts → (b : ℕ) → length names ≤ b + left → b ≤ length names → slice_index first b ≤ slice_index cuts b
+pub not_before : (loads names cuts first last : List ℕ) (limit : ℕ) (left : ℕ) → AreReaches loads (length names) limit first last
+    → AreWithin loads names limit cuts → (b : ℕ) → length names ≤ b + left → b ≤ length names → slice_index first b ≤ slice_index cuts b
 not_before loads names cuts first last limit zero h within b from inside =
     let end : length names ≡ b = omega (arith, from, inside) in
     subst (λ n. slice_index first n ≤ slice_index cuts n) end (omega (arith, h.first_ends, within.divides.ends))
@@ -37,7 +38,8 @@ not_before loads names cuts first last limit (suc left) h within b from inside =
     ]
 
 -- and none behind its last place
-pub not_behind : (loads names cuts first last : List ℕ) (limit : ℕ) → AreReaches loads (length names) limit first last → AreWithin loads names limit cuts → (b : ℕ) → b ≤ length names → slice_index cuts b ≤ slice_index last b
+pub not_behind : (loads names cuts first last : List ℕ) (limit : ℕ) → AreReaches loads (length names) limit first last
+    → AreWithin loads names limit cuts → (b : ℕ) → b ≤ length names → slice_index cuts b ≤ slice_index last b
 not_behind loads names cuts first last limit h within zero inside = omega (arith, within.divides.starts)
 not_behind loads names cuts first last limit h within (suc b) inside =
     let inner : b < length names = omega (arith, inside) in
@@ -52,7 +54,8 @@ not_behind loads names cuts first last limit h within (suc b) inside =
     ] in
     subst (λ n. slice_index cuts n ≤ slice_index last n) (add-one b) here
 
-pub places_keep : (loads starts near far first last : List ℕ) (blocks limit : ℕ) → AreReaches loads blocks limit first last → KeepsPlaces starts blocks near far first last → KeepsCuts loads starts blocks limit near far
+pub places_keep : (loads starts near far first last : List ℕ) (blocks limit : ℕ) → AreReaches loads blocks limit first last
+    → KeepsPlaces starts blocks near far first last → KeepsCuts loads starts blocks limit near far
 places_keep loads starts near far first last blocks limit h kept cuts b within some few from to =
     let count : length (in_order blocks) ≡ blocks = names_counted blocks in
     let reaches : AreReaches loads (length (in_order blocks)) limit first last = subst (λ n. AreReaches loads n limit first last) (sym count) h in

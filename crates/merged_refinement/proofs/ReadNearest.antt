@@ -13,7 +13,8 @@ use Rattle.refinement_search.specs.Tables.{IsLevel, IsSearch, Searched}
 use Rattle.merged_refinement.proofs.Tables.{cost_to, IsReading, read_bound, read_cost, read_within, rises_at, table_bounds, top}
 
 -- a level ends at a place between the present cut and any other place on the level
-level_between : (at : ℕ → ℕ) (present low cut other : ℕ) → ((x y : ℕ) → x ≤ y → at x ≤ at y) → IsLevel at present low cut → low ≤ other → at other ≤ at low → LiesBetween present cut other
+level_between : (at : ℕ → ℕ) (present low cut other : ℕ) → ((x y : ℕ) → x ≤ y → at x ≤ at y) → IsLevel at present low cut → low ≤ other
+    → at other ≤ at low → LiesBetween present cut other
 level_between at present low cut other rises level behind no_higher =
     elim (cases_lt (max present low) other) [
       | inr inner ↦
@@ -34,12 +35,15 @@ level_between at present low cut other rises level behind no_higher =
     ]
 
 -- cuts that agree behind a place cost as much there
-rest_same : (sizes : List (ℕ × ℕ)) (names cuts others : List ℕ) (b left : ℕ) → ((k : ℕ) → b < k → k ≤ b + left → slice_index others k ≡ slice_index cuts k) → total (b + left) (λ k. cut_cost sizes names k (slice_index others (k + 1))) + total b (λ k. cut_cost sizes names k (slice_index cuts (k + 1))) ≡ total b (λ k. cut_cost sizes names k (slice_index others (k + 1))) + total (b + left) (λ k. cut_cost sizes names k (slice_index cuts (k + 1)))
+rest_same : (sizes : List (ℕ × ℕ)) (names cuts others : List ℕ) (b left : ℕ)
+    → ((k : ℕ) → b < k → k ≤ b + left → slice_index others k ≡ slice_index cuts k)
+    → total (b + left) (λ k. cut_cost sizes names k (slice_index others (k + 1))) + total b (λ k. cut_cost sizes names k (slice_index cuts (k + 1))) ≡ total b (λ k. cut_cost sizes names k (slice_index others (k + 1))) + total (b + left) (λ k. cut_cost sizes names k (slice_index cuts (k + 1)))
 rest_same sizes names cuts others b left same =
     total_agree b left (λ k. cut_cost sizes names k (slice_index others (k + 1))) (λ k. cut_cost sizes names k (slice_index cuts (k + 1))) (λ k low high. ap (λ x. cut_cost sizes names k x) (same (k + 1) (omega arith) (omega arith)))
 
 -- cuts that move the same number of bytes cost the same
-same_cost : (s : Searched) (cuts others : List ℕ) → IsSearch s → AreFewest s.loads s.sizes s.names s.limit cuts → AreFewest s.loads s.sizes s.names s.limit others → cuts_cost s.sizes s.names others ≡ cuts_cost s.sizes s.names cuts
+same_cost : (s : Searched) (cuts others : List ℕ) → IsSearch s → AreFewest s.loads s.sizes s.names s.limit cuts
+    → AreFewest s.loads s.sizes s.names s.limit others → cuts_cost s.sizes s.names others ≡ cuts_cost s.sizes s.names cuts
 same_cost s cuts others h one other =
     omega (
       arith,
@@ -50,7 +54,10 @@ same_cost s cuts others h one other =
     )
 
 -- where other cuts that move the fewest bytes are the same behind a cut, the height is no greater at their cut
-no_higher_at : (s : Searched) (cuts others : List ℕ) (b : ℕ) → IsSearch s → IsReading s cuts → s.start (slice_index cuts 1) ≡ 0 → AreFewest s.loads s.sizes s.names s.limit cuts → AreFewest s.loads s.sizes s.names s.limit others → b < length s.names → ((k : ℕ) → b < k → k ≤ length s.names → slice_index others k ≡ slice_index cuts k) → s.at b (slice_index others b) ≤ s.at b (s.start (slice_index cuts (b + 1)))
+no_higher_at : (s : Searched) (cuts others : List ℕ) (b : ℕ) → IsSearch s → IsReading s cuts → s.start (slice_index cuts 1) ≡ 0
+    → AreFewest s.loads s.sizes s.names s.limit cuts → AreFewest s.loads s.sizes s.names s.limit others → b < length s.names
+    → ((k : ℕ) → b < k → k ≤ length s.names → slice_index others k ≡ slice_index cuts k)
+    → s.at b (slice_index others b) ≤ s.at b (s.start (slice_index cuts (b + 1)))
 no_higher_at s cuts others b h read begins one other inside same =
     let left : ℕ = length s.names - 1 - b in
     let all : b + left ≡ length s.names - 1 = omega arith in
@@ -67,7 +74,10 @@ no_higher_at s cuts others b h read begins one other inside same =
     )
 
 -- the cut of a block
-nearest_at : (s : Searched) (cuts others : List ℕ) (b : ℕ) → IsSearch s → IsReading s cuts → s.start (slice_index cuts 1) ≡ 0 → AreFewest s.loads s.sizes s.names s.limit cuts → AreFewest s.loads s.sizes s.names s.limit others → b < length s.names → ((k : ℕ) → b < k → k ≤ length s.names → slice_index others k ≡ slice_index cuts k) → LiesBetween (slice_index s.present b) (slice_index cuts b) (slice_index others b)
+nearest_at : (s : Searched) (cuts others : List ℕ) (b : ℕ) → IsSearch s → IsReading s cuts → s.start (slice_index cuts 1) ≡ 0
+    → AreFewest s.loads s.sizes s.names s.limit cuts → AreFewest s.loads s.sizes s.names s.limit others → b < length s.names
+    → ((k : ℕ) → b < k → k ≤ length s.names → slice_index others k ≡ slice_index cuts k)
+    → LiesBetween (slice_index s.present b) (slice_index cuts b) (slice_index others b)
 nearest_at s cuts others zero h read begins one other inside same =
     inl (omega (arith, h.divides.starts), omega (arith, read.starts))
 nearest_at s cuts others (suc c) h read begins one other inside same =

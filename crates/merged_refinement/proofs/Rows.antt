@@ -7,7 +7,8 @@ use Rattle.refinement_search.specs.Tables.{IsRow}
 use Rattle.merged_refinement.specs.Rows.{AreLeastFrom, row_at}
 
 -- the last number
-pub least_last : (sum : ℕ → ℕ) (heights : List ℕ) (v : ℕ) → 0 < length heights → v ≡ sum (length heights - 1) → AreLeastFrom sum (set heights (length heights - 1) v) (length heights - 1)
+pub least_last : (sum : ℕ → ℕ) (heights : List ℕ) (v : ℕ) → 0 < length heights → v ≡ sum (length heights - 1)
+    → AreLeastFrom sum (set heights (length heights - 1) v) (length heights - 1)
 least_last sum heights v some is =
     let last : ℕ = length heights - 1 in
     let here : slice_index (set heights last v) last ≡ v = get_or-set_same heights last v 0 (omega arith) in
@@ -25,7 +26,8 @@ least_last sum heights v some is =
     }
 
 -- and the one before
-pub least_before : (sum : ℕ → ℕ) (heights : List ℕ) (i v : ℕ) → 0 < i → i < length heights → AreLeastFrom sum heights i → v ≡ min (slice_index heights i) (sum (i - 1)) → AreLeastFrom sum (set heights (i - 1) v) (i - 1)
+pub least_before : (sum : ℕ → ℕ) (heights : List ℕ) (i v : ℕ) → 0 < i → i < length heights → AreLeastFrom sum heights i
+    → v ≡ min (slice_index heights i) (sum (i - 1)) → AreLeastFrom sum (set heights (i - 1) v) (i - 1)
 least_before sum heights i v some inside h is =
     let one : ℕ = i - 1 in
     let here : slice_index (set heights one v) one ≡ v = get_or-set_same heights one v 0 (omega arith) in
@@ -63,7 +65,9 @@ least_before sum heights i v some inside h is =
     }
 
 -- the numbers are a row
-pub row_of : (near far : ℕ) (start cost : ℕ → ℕ) (below : ℕ × List ℕ) (heights : List ℕ) → near ≤ far → length heights ≡ far - near + 1 → AreLeastFrom (λ i. row_at below (start (near + i)) + cost (near + i)) heights 0 → IsRow near far start cost (row_at below) (row_at (near, heights))
+pub row_of : (near far : ℕ) (start cost : ℕ → ℕ) (below : ℕ × List ℕ) (heights : List ℕ) → near ≤ far → length heights ≡ far - near + 1
+    → AreLeastFrom (λ i. row_at below (start (near + i)) + cost (near + i)) heights 0
+    → IsRow near far start cost (row_at below) (row_at (near, heights))
 row_of near far start cost below heights some counted h =
     record {
       flat = λ x early. ap (slice_index heights) (omega (arith, early));

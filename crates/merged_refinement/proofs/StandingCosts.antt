@@ -32,7 +32,8 @@ held_of_sizes bytes present on n inside =
     sym (total_take (λ size. held_bytes size on) (sizes_on bytes present) (0, 0) n (omega (arith, sizes_counted bytes present))) ∙ total_same n (λ i. held_bytes (slice_index_or (sizes_on bytes present) i (0, 0)) on) (λ i. held_bytes (slice_index bytes i, block_of present i) on) (λ i below. ap (λ size. held_bytes size on) (size_at bytes present i (omega arith)))
 
 -- a range of elements of a rank holds its bytes there
-held_of_block : (bytes present : List ℕ) (on a b : ℕ) → a ≤ b → b ≤ length bytes → ((i : ℕ) → a ≤ i → i < b → block_of present i ≡ on) → held_up_to bytes present on b ≡ held_up_to bytes present on a + load bytes a b
+held_of_block : (bytes present : List ℕ) (on a b : ℕ) → a ≤ b → b ≤ length bytes → ((i : ℕ) → a ≤ i → i < b → block_of present i ≡ on)
+    → held_up_to bytes present on b ≡ held_up_to bytes present on a + load bytes a b
 held_of_block bytes present on a b onward inside stands =
     let here : ℕ → ℕ = λ i. held_bytes (slice_index bytes i, block_of present i) on in
     let same : ℕ → ℕ = λ i. slice_index bytes i in
@@ -47,7 +48,8 @@ held_of_block bytes present on a b onward inside stands =
     )
 
 -- an element that is not between the cuts of a rank is on another one
-elsewhere : (bytes present : List ℕ) (ranks on i : ℕ) → IsDivision 0 (length bytes) ranks present → i < length bytes → (i < slice_index present on) ⊎ (slice_index present (on + 1) ≤ i) → place_of (sizes_on bytes present) i ≢ on
+elsewhere : (bytes present : List ℕ) (ranks on i : ℕ) → IsDivision 0 (length bytes) ranks present → i < length bytes
+    → (i < slice_index present on) ⊎ (slice_index present (on + 1) ≤ i) → place_of (sizes_on bytes present) i ≢ on
 elsewhere bytes present ranks on i divides within out same =
     let around = block_around present ranks i (omega (arith, divides.starts)) (omega (arith, divides.ends)) in
     let place : place_of (sizes_on bytes present) i ≡ around.0 = ap (λ (size : ℕ × ℕ). size.1) (size_at bytes present i within) ∙ block_of_is (length bytes) ranks present around.0 i divides around.1 around.2 around.3 in
@@ -58,7 +60,8 @@ elsewhere bytes present ranks on i divides within out same =
     ]
 
 -- before a place a rank holds the bytes of its elements before it
-pub held_to : (bytes present : List ℕ) (ranks on x : ℕ) → IsDivision 0 (length bytes) ranks present → on < ranks → x ≤ length bytes → held_before (sizes_on bytes present) on x ≡ load bytes (slice_index present on) (min x (slice_index present (on + 1)))
+pub held_to : (bytes present : List ℕ) (ranks on x : ℕ) → IsDivision 0 (length bytes) ranks present → on < ranks → x ≤ length bytes
+    → held_before (sizes_on bytes present) on x ≡ load bytes (slice_index present on) (min x (slice_index present (on + 1)))
 held_to bytes present ranks on x divides few inside =
     let from : ℕ = slice_index present on in
     let to : ℕ = slice_index present (on + 1) in
@@ -89,7 +92,8 @@ held_to bytes present ranks on x divides few inside =
     ]
 
 -- and from the place on the others
-held_on : (bytes present : List ℕ) (ranks on x : ℕ) → IsDivision 0 (length bytes) ranks present → on < ranks → x ≤ length bytes → held_from (sizes_on bytes present) on x ≡ load bytes (max x (slice_index present on)) (slice_index present (on + 1))
+held_on : (bytes present : List ℕ) (ranks on x : ℕ) → IsDivision 0 (length bytes) ranks present → on < ranks → x ≤ length bytes
+    → held_from (sizes_on bytes present) on x ≡ load bytes (max x (slice_index present on)) (slice_index present (on + 1))
 held_on bytes present ranks on x divides few inside =
     let from : ℕ = slice_index present on in
     let to : ℕ = slice_index present (on + 1) in
@@ -121,7 +125,8 @@ held_on bytes present ranks on x divides few inside =
     ]
 
 -- so a cut costs the bytes of its rank behind it, and those of the next rank before it
-pub cost_is : (bytes present : List ℕ) (ranks b x : ℕ) → IsDivision 0 (length bytes) ranks present → b + 1 < ranks → x ≤ length bytes → cut_cost (sizes_on bytes present) (in_order ranks) b x ≡ standing_cost bytes (slice_index present b) (slice_index present (b + 1)) (slice_index present (b + 1 + 1)) x
+pub cost_is : (bytes present : List ℕ) (ranks b x : ℕ) → IsDivision 0 (length bytes) ranks present → b + 1 < ranks → x ≤ length bytes
+    → cut_cost (sizes_on bytes present) (in_order ranks) b x ≡ standing_cost bytes (slice_index present b) (slice_index present (b + 1)) (slice_index present (b + 1 + 1)) x
 cost_is bytes present ranks b x divides few inside =
     let one : held_from (sizes_on bytes present) (slice_index (in_order ranks) b) x ≡ held_from (sizes_on bytes present) b x = ap (λ q. held_from (sizes_on bytes present) q x) (name_at ranks b (omega arith)) in
     let other : held_before (sizes_on bytes present) (slice_index (in_order ranks) (b + 1)) x ≡ held_before (sizes_on bytes present) (b + 1) x = ap (λ q. held_before (sizes_on bytes present) q x) (name_at ranks (b + 1) few) in
@@ -134,7 +139,8 @@ cost_is bytes present ranks b x divides few inside =
     )
 
 -- which is no more than the bytes of both
-pub cost_few : (bytes : List ℕ) (before here behind x : ℕ) → before ≤ here → here ≤ behind → standing_cost bytes before here behind x ≤ load bytes before here + load bytes here behind
+pub cost_few : (bytes : List ℕ) (before here behind x : ℕ) → before ≤ here → here ≤ behind
+    → standing_cost bytes before here behind x ≤ load bytes before here + load bytes here behind
 cost_few bytes before here behind x ordered onward =
     let one : load bytes (max x before) here ≤ load bytes before here = elim (cases_lt here (max x before)) [
       | inl back ↦ omega (arith, load_back bytes (max x before) here (omega (arith, back)))

@@ -98,7 +98,8 @@ pub record IsLevelCut (s : Searched) (b low cut : ℕ) : Type 0 where
   pub cost : s.at b (s.start cut) + cut_cost s.sizes s.names b cut ≡ s.at (b + 1) low
 
 -- the height that a level has is that of the block before it and what the cut costs
-pub level_cut : (s : Searched) (b low cut : ℕ) → IsSearch s → b + 1 < length s.names → low ≤ s.far (b + 1) → IsLevel (s.at (b + 1)) (slice_index s.present (b + 1)) low cut → IsLevelCut s b low cut
+pub level_cut : (s : Searched) (b low cut : ℕ) → IsSearch s → b + 1 < length s.names → low ≤ s.far (b + 1)
+    → IsLevel (s.at (b + 1)) (slice_index s.present (b + 1)) low cut → IsLevelCut s b low cut
 level_cut s b low cut h inside low_in level =
     let row : IsRow (s.near (b + 1)) (s.far (b + 1)) s.start (cut_cost s.sizes s.names b) (s.at b) (s.at (b + 1)) = h.table.rows b inside in
     let near : ℕ = s.near (b + 1) in
@@ -141,7 +142,9 @@ level_cut s b low cut h inside low_in level =
     record { near = cut_near; far = cut_far; cost = cost }
 
 -- neighboring cuts are in order
-levels_ordered : (s : Searched) (b low cut next : ℕ) → IsSearch s → b + 1 + 1 < length s.names → low ≤ s.far (b + 1 + 1) → IsLevel (s.at (b + 1)) (slice_index s.present (b + 1)) (s.start next) cut → IsLevel (s.at (b + 1 + 1)) (slice_index s.present (b + 1 + 1)) low next → cut ≤ next
+levels_ordered : (s : Searched) (b low cut next : ℕ) → IsSearch s → b + 1 + 1 < length s.names → low ≤ s.far (b + 1 + 1)
+    → IsLevel (s.at (b + 1)) (slice_index s.present (b + 1)) (s.start next) cut
+    → IsLevel (s.at (b + 1 + 1)) (slice_index s.present (b + 1 + 1)) low next → cut ≤ next
 levels_ordered s b low cut next h inside low_in level level_next =
     let there : IsLevelCut s (b + 1) low next = level_cut s (b + 1) low next h inside low_in level_next in
     let far_in : s.far (b + 1 + 1) ≤ length s.loads = h.spans.far_inside (b + 1 + 1) inside in
@@ -164,7 +167,8 @@ abbrev pub IsReading : Searched → List ℕ → Type 0
 IsReading s cuts = AreRead (length s.names) s.present (length s.loads) s.start s.at cuts
 
 -- the least start of the block that ends at a cut is a place of the row below
-low_inside : (s : Searched) (cuts : List ℕ) (left b : ℕ) → IsSearch s → IsReading s cuts → b + 1 + left ≡ length s.names → (s.start (slice_index cuts (b + 1)) ≤ s.far b) × (slice_index cuts (b + 1) ≤ length s.loads)
+low_inside : (s : Searched) (cuts : List ℕ) (left b : ℕ) → IsSearch s → IsReading s cuts → b + 1 + left ≡ length s.names
+    → (s.start (slice_index cuts (b + 1)) ≤ s.far b) × (slice_index cuts (b + 1) ≤ length s.loads)
 low_inside s cuts zero b h read same =
     let last : b + 1 ≡ length s.names = omega (arith, same) in
     let end : slice_index cuts (b + 1) ≡ length s.loads = ap (slice_index cuts) last ∙ read.ends in
@@ -185,7 +189,8 @@ pub cut_inside : (s : Searched) (cuts : List ℕ) (b : ℕ) → IsSearch s → I
 cut_inside s cuts b h read inside = (low_inside s cuts (length s.names - (b + 1)) b h read (omega arith)).1
 
 -- each block begins no earlier than the least start of its end
-block_starts : (s : Searched) (cuts : List ℕ) (b : ℕ) → IsSearch s → IsReading s cuts → s.start (slice_index cuts 1) ≡ 0 → b < length s.names → (s.start (slice_index cuts (b + 1)) ≤ slice_index cuts b) × (slice_index cuts b ≤ slice_index cuts (b + 1))
+block_starts : (s : Searched) (cuts : List ℕ) (b : ℕ) → IsSearch s → IsReading s cuts → s.start (slice_index cuts 1) ≡ 0 → b < length s.names
+    → (s.start (slice_index cuts (b + 1)) ≤ slice_index cuts b) × (slice_index cuts b ≤ slice_index cuts (b + 1))
 block_starts s cuts zero h read begins inside = (omega (arith, begins, read.starts), omega (arith, read.starts))
 block_starts s cuts (suc b) h read begins inside =
     let level = read.level b (omega arith) in
@@ -204,7 +209,8 @@ abbrev pub cost_to : Searched → List ℕ → ℕ → ℕ
 cost_to s cuts b = total b (λ k. cut_cost s.sizes s.names k (slice_index cuts (k + 1)))
 
 -- what the first cuts cost, up to the height of the least start of the next block's end
-pub read_cost : (s : Searched) (cuts : List ℕ) (b : ℕ) → IsSearch s → IsReading s cuts → b < length s.names → cost_to s cuts b + s.at 0 (s.start (slice_index cuts 1)) ≡ s.at b (s.start (slice_index cuts (b + 1)))
+pub read_cost : (s : Searched) (cuts : List ℕ) (b : ℕ) → IsSearch s → IsReading s cuts → b < length s.names
+    → cost_to s cuts b + s.at 0 (s.start (slice_index cuts 1)) ≡ s.at b (s.start (slice_index cuts (b + 1)))
 read_cost s cuts zero h read inside = omega arith
 read_cost s cuts (suc b) h read inside =
     let before : cost_to s cuts b + s.at 0 (s.start (slice_index cuts 1)) ≡ s.at b (s.start (slice_index cuts (b + 1))) = read_cost s cuts b h read (omega arith) in
@@ -248,7 +254,8 @@ read_within s cuts h read begins =
     }
 
 -- where any cuts are within the limit, the first block begins at 0
-pub read_begins : (s : Searched) (cuts others : List ℕ) → IsSearch s → IsReading s cuts → AreWithin s.loads s.names s.limit others → cuts_cost s.sizes s.names others < s.none → s.start (slice_index cuts 1) ≡ 0
+pub read_begins : (s : Searched) (cuts others : List ℕ) → IsSearch s → IsReading s cuts → AreWithin s.loads s.names s.limit others
+    → cuts_cost s.sizes s.names others < s.none → s.start (slice_index cuts 1) ≡ 0
 read_begins s cuts others h read within few =
     elim (cases_lt 0 (s.start (slice_index cuts 1))) [
       | inr none ↦ omega arith
@@ -259,7 +266,8 @@ read_begins s cuts others h read within few =
     ]
 
 -- and then the table proves them to move the fewest bytes
-pub read_bound : (s : Searched) (cuts : List ℕ) → IsSearch s → IsReading s cuts → s.start (slice_index cuts 1) ≡ 0 → IsBound s.loads s.sizes s.names s.limit s.at (cuts_cost s.sizes s.names cuts)
+pub read_bound : (s : Searched) (cuts : List ℕ) → IsSearch s → IsReading s cuts → s.start (slice_index cuts 1) ≡ 0
+    → IsBound s.loads s.sizes s.names s.limit s.at (cuts_cost s.sizes s.names cuts)
 read_bound s cuts h read begins =
     let all : cuts_cost s.sizes s.names cuts + s.at 0 (s.start (slice_index cuts 1)) ≡ top s = read_cost_all s cuts h read in
     let nothing : s.at 0 (s.start (slice_index cuts 1)) ≡ 0 = ap (s.at 0) begins ∙ h.table.first in

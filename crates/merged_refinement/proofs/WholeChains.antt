@@ -15,7 +15,8 @@ use Rattle.merged_refinement.proofs.MergedCuts.{start_later, unmerged_at, unmerg
 use Rattle.merged_refinement.proofs.Reaches.{places_keep}
 
 -- cuts of runs, where these start
-unmerged_divides : (loads runs starts cuts : List ℕ) (first end blocks : ℕ) → AreRuns loads runs starts → IsDivision first end blocks cuts → end ≤ length runs → IsDivision (slice_index starts first) (slice_index starts end) blocks (unmerged starts cuts)
+unmerged_divides : (loads runs starts cuts : List ℕ) (first end blocks : ℕ) → AreRuns loads runs starts → IsDivision first end blocks cuts
+    → end ≤ length runs → IsDivision (slice_index starts first) (slice_index starts end) blocks (unmerged starts cuts)
 unmerged_divides loads runs starts cuts first end blocks h divides inside =
     record {
       counted = unmerged_counted starts cuts ∙ divides.counted;
@@ -32,14 +33,17 @@ unmerged_divides loads runs starts cuts first end blocks h divides inside =
     }
 
 -- blocks of runs weigh what those of their elements weigh
-unmerged_light : (loads runs starts cuts : List ℕ) (first end blocks limit : ℕ) → AreRuns loads runs starts → IsDivision first end blocks cuts → end ≤ length runs → NoneAbove runs blocks limit cuts → NoneAbove loads blocks limit (unmerged starts cuts)
+unmerged_light : (loads runs starts cuts : List ℕ) (first end blocks limit : ℕ) → AreRuns loads runs starts → IsDivision first end blocks cuts
+    → end ≤ length runs → NoneAbove runs blocks limit cuts → NoneAbove loads blocks limit (unmerged starts cuts)
 unmerged_light loads runs starts cuts first end blocks limit h divides inside within b few =
     let rises : slice_index cuts b ≤ slice_index cuts (b + 1) = divides.ordered b (b + 1) 0 (omega arith) (omega (arith, divides.counted)) in
     let last : slice_index cuts (b + 1) ≤ length runs = omega (arith, divides.ordered (b + 1) blocks 0 (omega arith) (omega (arith, divides.counted)), divides.ends, inside) in
     rw (unmerged_at starts cuts b (omega (arith, divides.counted)), unmerged_at starts cuts (b + 1) (omega (arith, divides.counted))) (omega (arith, within b few, runs_weigh loads runs starts (slice_index cuts b) (slice_index cuts (b + 1)) h rises last))
 
 -- bounds of runs, where these start
-unmerged_bounds : (loads runs starts standing near far : List ℕ) (blocks limit : ℕ) → AreRuns loads runs starts → IsDivision 0 (length runs) blocks standing → AreBounds runs standing blocks limit near far → AreBounds loads (unmerged starts standing) blocks limit (unmerged starts near) (unmerged starts far)
+unmerged_bounds : (loads runs starts standing near far : List ℕ) (blocks limit : ℕ) → AreRuns loads runs starts
+    → IsDivision 0 (length runs) blocks standing → AreBounds runs standing blocks limit near far
+    → AreBounds loads (unmerged starts standing) blocks limit (unmerged starts near) (unmerged starts far)
 unmerged_bounds loads runs starts standing near far blocks limit h divides bounds =
     let standing_in : (b : ℕ) → b ≤ blocks → slice_index standing b ≤ length runs = λ b few. omega (arith, divides.ordered b blocks 0 few (omega (arith, divides.counted)), divides.ends) in
     let near_in : slice_index near blocks ≤ length runs = omega (arith, bounds.near_before blocks (omega arith), standing_in blocks (omega arith)) in
@@ -77,7 +81,8 @@ starts_onward loads runs starts a (suc n) h inside =
     subst (λ m. slice_index starts a + suc n ≤ slice_index starts m) same (omega (arith, starts_onward loads runs starts a n h (omega arith), h.onward (a + n) (omega arith)))
 
 -- where as many elements as runs lie between two starts, each of the elements is a start
-each_begins : (loads runs starts : List ℕ) (a b x : ℕ) → AreRuns loads runs starts → a ≤ b → b ≤ length runs → slice_index starts b ≡ slice_index starts a + (b - a) → slice_index starts a ≤ x → x ≤ slice_index starts b → IsStart starts x
+each_begins : (loads runs starts : List ℕ) (a b x : ℕ) → AreRuns loads runs starts → a ≤ b → b ≤ length runs
+    → slice_index starts b ≡ slice_index starts a + (b - a) → slice_index starts a ≤ x → x ≤ slice_index starts b → IsStart starts x
 each_begins loads runs starts a b x h onward inside single from to =
     let k : ℕ = x - slice_index starts a in
     let end : a + k + (b - (a + k)) ≡ b = omega (arith, single, from, to) in
@@ -87,7 +92,9 @@ each_begins loads runs starts a b x h onward inside single from to =
     (a + k, omega (arith, h.counted, end, inside), omega (arith, up, down, single, from, to, end))
 
 -- how far cuts of runs reach, where these start
-unmerged_reaches : (loads runs starts first last : List ℕ) (blocks limit : ℕ) → AreRuns loads runs starts → length first ≡ blocks + 1 → length last ≡ blocks + 1 → AreRunReaches runs starts blocks limit first last → AreReaches loads blocks limit (unmerged starts first) (unmerged starts last)
+unmerged_reaches : (loads runs starts first last : List ℕ) (blocks limit : ℕ) → AreRuns loads runs starts → length first ≡ blocks + 1
+    → length last ≡ blocks + 1 → AreRunReaches runs starts blocks limit first last
+    → AreReaches loads blocks limit (unmerged starts first) (unmerged starts last)
 unmerged_reaches loads runs starts first last blocks limit h first_counted last_counted reaches =
     let first_in : (b : ℕ) → b ≤ blocks → slice_index first b ≤ length runs = λ b few. omega (arith, reaches.first_rises b blocks 0 few (omega (arith, first_counted)), reaches.first_ends) in
     let last_in : (b : ℕ) → b ≤ blocks → slice_index last b ≤ length runs = λ b few. omega (arith, reaches.last_rises b blocks 0 few (omega (arith, last_counted)), reaches.last_ends) in
@@ -150,7 +157,10 @@ start_of_earlier starts a b x one other =
           subst (λ n. x ≤ slice_index starts n) same other
     ]
 
-single_kept : (loads runs starts standing near far first last : List ℕ) (blocks limit : ℕ) → AreRuns loads runs starts → IsDivision 0 (length runs) blocks standing → AreBounds runs standing blocks limit near far → length first ≡ blocks + 1 → length last ≡ blocks + 1 → AreRunReaches runs starts blocks limit first last → AreSingle starts blocks near far first last → KeepsPlaces starts blocks (unmerged starts near) (unmerged starts far) (unmerged starts first) (unmerged starts last)
+single_kept : (loads runs starts standing near far first last : List ℕ) (blocks limit : ℕ) → AreRuns loads runs starts
+    → IsDivision 0 (length runs) blocks standing → AreBounds runs standing blocks limit near far → length first ≡ blocks + 1
+    → length last ≡ blocks + 1 → AreRunReaches runs starts blocks limit first last → AreSingle starts blocks near far first last
+    → KeepsPlaces starts blocks (unmerged starts near) (unmerged starts far) (unmerged starts first) (unmerged starts last)
 single_kept loads runs starts standing near far first last blocks limit h divides bounds first_counted last_counted reaches single b x some few near_x first_x x_far x_last =
     let a : ℕ = from_place near first b in
     let z : ℕ = to_place far last b in
@@ -167,7 +177,11 @@ single_kept loads runs starts standing near far first last blocks limit h divide
     ] in
     each_begins loads runs starts a z x h onward z_in (single b some few onward) low high
 
-pub whole_nearest : (loads bytes runs run_bytes starts standing near far first last : List ℕ) (blocks limit : ℕ) (cuts : List ℕ) → 0 < blocks → IsDivision 0 (length runs) blocks standing → AreBounds runs standing blocks limit near far → length first ≡ blocks + 1 → length last ≡ blocks + 1 → AreRunReaches runs starts blocks limit first last → AreSingle starts blocks near far first last → AreNearestInOrder runs run_bytes standing blocks limit cuts → AreRuns loads runs starts → AreRuns bytes run_bytes starts → AreNearestInOrder loads bytes (unmerged starts standing) blocks limit (unmerged starts cuts)
+pub whole_nearest : (loads bytes runs run_bytes starts standing near far first last : List ℕ) (blocks limit : ℕ) (cuts : List ℕ) → 0 < blocks
+    → IsDivision 0 (length runs) blocks standing → AreBounds runs standing blocks limit near far → length first ≡ blocks + 1
+    → length last ≡ blocks + 1 → AreRunReaches runs starts blocks limit first last → AreSingle starts blocks near far first last
+    → AreNearestInOrder runs run_bytes standing blocks limit cuts → AreRuns loads runs starts → AreRuns bytes run_bytes starts
+    → AreNearestInOrder loads bytes (unmerged starts standing) blocks limit (unmerged starts cuts)
 whole_nearest loads bytes runs run_bytes starts standing near far first last blocks limit cuts some divides bounds first_counted last_counted reaches single nearest weigh hold =
     let as_many : length run_bytes ≡ length runs = omega (arith, weigh.counted, hold.counted) in
     let same_end : slice_index starts (length run_bytes) ≡ slice_index starts (length runs) = ap (slice_index starts) as_many in

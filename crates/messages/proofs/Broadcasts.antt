@@ -25,7 +25,8 @@ counted_after p q i body before =
     (ap (λ s. s.count) before ∙ ap (λ k. p.count + k) (length-map-range_with_len (λ j. (j, body)) 0 i), ap (λ s. s.n) before, ap (λ s. s.longest) before)
 
 -- the letters of a message to some are its pack to each
-packed_each : {M : Type 0} (pack : M → List ℕ) (message : M) (is : List ℕ) → letters pack (map {B = ℕ × M} (λ i. (i, message)) is) ≡ map {B = ℕ × List ℕ} (λ i. (i, pack message)) is
+packed_each : {M : Type 0} (pack : M → List ℕ) (message : M) (is : List ℕ)
+    → letters pack (map {B = ℕ × M} (λ i. (i, message)) is) ≡ map {B = ℕ × List ℕ} (λ i. (i, pack message)) is
 packed_each pack message [] = refl
 packed_each pack message (i ∷ is) = ap (λ v. (i, pack message) ∷ v) (packed_each pack message is)
 

@@ -4,7 +4,8 @@ use Rattle.std.proofs.lemmas.List.{get_or-map, get_or_append_left, length-map}
 use Rattle.std.proofs.Math.Seq.{get_or-append_seam}
 
 -- the elements below k, and then that at k
-pub below_more : {R : Type 0} (P : ℕ → R → Type 0) (xs : List R) (k : ℕ) (y : R) → k < length xs → ((j : ℕ) (d : R) → j < k → P j (get_or xs j d)) → P k y → (j : ℕ) (d : R) → j < k + 1 → P j (get_or (set xs k y) j d)
+pub below_more : {R : Type 0} (P : ℕ → R → Type 0) (xs : List R) (k : ℕ) (y : R) → k < length xs → ((j : ℕ) (d : R) → j < k → P j (get_or xs j d))
+    → P k y → (j : ℕ) (d : R) → j < k + 1 → P j (get_or (set xs k y) j d)
 below_more P [] k y lt done here j d below = absurd (omega arith)
 below_more P (x ∷ xs) zero y lt done here zero d below = here
 below_more P (x ∷ xs) zero y lt done here (suc j) d below = absurd (omega arith)
@@ -12,7 +13,8 @@ below_more P (x ∷ xs) (suc k) y lt done here zero d below = done 0 d (omega ar
 below_more P (x ∷ xs) (suc k) y lt done here (suc j) d below = below_more (λ j. P (suc j)) xs k y (omega arith) (λ j d l. done (suc j) d (omega arith)) here j d (omega arith)
 
 -- the elements from k + 1 up to n, and then that at k
-pub above_more : {R : Type 0} (P : ℕ → R → Type 0) (xs : List R) (k n : ℕ) (y : R) → k < length xs → ((j : ℕ) (d : R) → suc k ≤ j → j < n → P j (get_or xs j d)) → P k y → (j : ℕ) (d : R) → k ≤ j → j < n → P j (get_or (set xs k y) j d)
+pub above_more : {R : Type 0} (P : ℕ → R → Type 0) (xs : List R) (k n : ℕ) (y : R) → k < length xs
+    → ((j : ℕ) (d : R) → suc k ≤ j → j < n → P j (get_or xs j d)) → P k y → (j : ℕ) (d : R) → k ≤ j → j < n → P j (get_or (set xs k y) j d)
 above_more P [] k n y lt done here j d from below = absurd (omega arith)
 above_more P (x ∷ xs) zero n y lt done here zero d from below = here
 above_more P (x ∷ xs) zero n y lt done here (suc j) d from below = done (suc j) d (omega arith) below
@@ -32,7 +34,8 @@ pub record IsPopped {X : Type 0} (all others rest : List X) (x : X) (k : ℕ) : 
   pub at : (d : X) → x ≡ get_or all k d
   pub left : (j : ℕ) (d : X) → j < length rest → get_or rest j d ≡ get_or all j d
 
-pub popped : {X : Type 0} (all others rest : List X) (x : X) (k : ℕ) → ((j : ℕ) (d : X) → j < length others → get_or others j d ≡ get_or all j d) → others ≡ rest ++ x ∷ [] → k ≡ length rest → IsPopped all others rest x k
+pub popped : {X : Type 0} (all others rest : List X) (x : X) (k : ℕ) → ((j : ℕ) (d : X) → j < length others → get_or others j d ≡ get_or all j d)
+    → others ≡ rest ++ x ∷ [] → k ≡ length rest → IsPopped all others rest x k
 popped all others rest x k begins is left =
     let n : length others ≡ suc (length rest) = omega (arith, ap length is, length-append rest (x ∷ [])) in
     record {
@@ -42,7 +45,8 @@ popped all others rest x k begins is left =
     }
 
 -- lists whose elements look alike
-pub alike : {X Y Z : Type 0} (f : X → Z) (g : Y → Z) (xs : List X) (ys : List Y) → length xs ≡ length ys → ((j : ℕ) (d : X) (e : Y) → j < length ys → f (get_or xs j d) ≡ g (get_or ys j e)) → map f xs ≡ map g ys
+pub alike : {X Y Z : Type 0} (f : X → Z) (g : Y → Z) (xs : List X) (ys : List Y) → length xs ≡ length ys
+    → ((j : ℕ) (d : X) (e : Y) → j < length ys → f (get_or xs j d) ≡ g (get_or ys j e)) → map f xs ≡ map g ys
 alike f g [] [] same each = refl
 alike f g [] (y ∷ ys) same each = absurd (omega arith)
 alike f g (x ∷ xs) [] same each = absurd (omega arith)

@@ -159,7 +159,8 @@ module _ {T : Type 0} where
       after ∙ ap (λ y. with_take y x) before ∙ ap (λ l. traffic v.seats v.rooms v.puts l) (append_assoc v.takes left (x ∷ []))
 
   -- what is left is what was counted, less what was taken since
-  pub drained_counts : (v w : Traffic T) (left items : List T) (n : ℕ) → w ≡ drained v left → v.seats ≡ SEATS → length v.puts ≡ length v.takes + n → Seen w items → length left + length items ≡ n
+  pub drained_counts : (v w : Traffic T) (left items : List T) (n : ℕ) → w ≡ drained v left → v.seats ≡ SEATS → length v.puts ≡ length v.takes + n
+      → Seen w items → length left + length items ≡ n
   drained_counts v w left items n is all count seen =
       let c = all_counted w items seen (ap seats_in is ∙ all) in
       let p : length w.puts ≡ length v.puts = ap (λ (u : Traffic T). length u.puts) is in

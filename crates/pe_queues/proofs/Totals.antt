@@ -37,7 +37,8 @@ module _ {X : Type 0} where
       omega (arith, sum_by-cons g z zs)
 
   -- where one counts all that f counts, it counts all that g counts
-  pub all_in_one : (f g : X → ℕ) (xs : List X) (k : ℕ) (x : X) → get_elem? xs k ≡ some x → sum_by f xs ≡ f x → ((j : ℕ) (y : X) → get_elem? xs j ≡ some y → f y ≡ 0 → g y ≡ 0) → sum_by g xs ≡ g x
+  pub all_in_one : (f g : X → ℕ) (xs : List X) (k : ℕ) (x : X) → get_elem? xs k ≡ some x → sum_by f xs ≡ f x
+      → ((j : ℕ) (y : X) → get_elem? xs j ≡ some y → f y ≡ 0 → g y ≡ 0) → sum_by g xs ≡ g x
   all_in_one f g [] k x at all both = absurd (some-ne-none x (sym at))
   all_in_one f g (z ∷ zs) zero x at all both =
       let first = sum_by-cons f z zs in

@@ -37,7 +37,8 @@ module _ {C : Type 0} (step : Step C) (fits : C → Type 0) (pack : C → List �
   abbrev Cause : SendError → Type 0
   Cause error = MayRefuse step pack refuses opened error
 
-  in_room : (pe : PeView C) (e : ℕ) (input : Entry (List ℕ)) (error : SendError) → HasHistories step fits pack opened pe → RefusesIn refuses pe.room e pe.n pe.count input error → Cause error
+  in_room : (pe : PeView C) (e : ℕ) (input : Entry (List ℕ)) (error : SendError) → HasHistories step fits pack opened pe
+      → RefusesIn refuses pe.room e pe.n pe.count input error → Cause error
   in_room pe e input error h k =
       by (found e pe.room) (IfSome-lookup_from_All (IsHistory step pack opened) (is_at (nat_cmp e)) pe.room h.room) k
     where
@@ -50,7 +51,8 @@ module _ {C : Type 0} (step : Step C) (fits : C → Type 0) (pack : C → List �
   in_parcel pe (Letter l) error h k = in_room pe l.to (OfLetter l.body) error h k
   in_parcel pe (Element p) error h k = absurd k
 
-  in_hand : (pe : PeView C) (hand : Option Item) (error : SendError) → HasHistories step fits pack opened pe → MatchOption hand ⊥ (λ x. RefusesParcel refuses pe x.parcel error) → Cause error
+  in_hand : (pe : PeView C) (hand : Option Item) (error : SendError) → HasHistories step fits pack opened pe
+      → MatchOption hand ⊥ (λ x. RefusesParcel refuses pe x.parcel error) → Cause error
   in_hand pe None error h k = absurd k
   in_hand pe (Some x) error h k = in_parcel pe x.parcel error h k
 
@@ -59,13 +61,16 @@ module _ {C : Type 0} (step : Step C) (fits : C → Type 0) (pack : C → List �
   on_arrival pe (Element p) error h k = absurd k
 
   -- of Act, of Start and Resume, and of an Act on what was just received
-  pub act_cause : {V : Type 0} (pe : PeView C) (r : Result V StepError) → HasHistories step fits pack opened pe → IfErr r (RefusesStep (RefusesAct refuses pe)) → IfErr r (RefusesStep Cause)
+  pub act_cause : {V : Type 0} (pe : PeView C) (r : Result V StepError) → HasHistories step fits pack opened pe
+      → IfErr r (RefusesStep (RefusesAct refuses pe)) → IfErr r (RefusesStep Cause)
   act_cause pe r h k = each_cause (RefusesStep (RefusesAct refuses pe)) (RefusesStep Cause) (step_cause (RefusesAct refuses pe) Cause (λ error. in_hand pe pe.hand error h)) r k
 
-  pub resume_cause : (pe : PeView C) (e round : ℕ) (error : StepError) → HasHistories step fits pack opened pe → RefusesStep (RefusesResume refuses pe e round) error → RefusesStep Cause error
+  pub resume_cause : (pe : PeView C) (e round : ℕ) (error : StepError) → HasHistories step fits pack opened pe
+      → RefusesStep (RefusesResume refuses pe e round) error → RefusesStep Cause error
   resume_cause pe e round error h k = step_cause (RefusesResume refuses pe e round) Cause (λ error. in_room pe e (Resumption round) error h) error k
 
-  pub arrival_cause : (pe : PeView C) (parcel : Parcel) (error : StepError) → HasHistories step fits pack opened pe → RefusesStep (RefusesAct refuses (received pe parcel)) error → RefusesStep Cause error
+  pub arrival_cause : (pe : PeView C) (parcel : Parcel) (error : StepError) → HasHistories step fits pack opened pe
+      → RefusesStep (RefusesAct refuses (received pe parcel)) error → RefusesStep Cause error
   arrival_cause pe parcel error h k = step_cause (RefusesAct refuses (received pe parcel)) Cause (λ error. on_arrival pe parcel error h) error k
 
   -- what has a cause is neither of the two that no worker meets

@@ -34,7 +34,8 @@ module _ {C : Type 0} (step : Step C) (fits : C → Type 0) (pack : C → List �
   Kept pe' seat' = IsSeated step opened count run pe' seat'
 
   -- any call, with what it puts and takes
-  keeps_call : (call : Call C) (seat' : SeatView Parcel) → MayCall pe call → IsRunning call → seat'.post ≡ seat.post → seat'.seats ≡ seat.seats → Matches (with_call step pack unpack w.ledger pe call) seat' → Kept (after_call step pack unpack pe call) seat'
+  keeps_call : (call : Call C) (seat' : SeatView Parcel) → MayCall pe call → IsRunning call → seat'.post ≡ seat.post → seat'.seats ≡ seat.seats
+      → Matches (with_call step pack unpack w.ledger pe call) seat' → Kept (after_call step pack unpack pe call) seat'
   keeps_call call seat' may running post_is seats_is m =
       let l : IsLocalAccount step opened w.start (after_call step pack unpack pe call) (with_call step pack unpack w.ledger pe call) = local_call step fits pack opened w.start unpack pe w.ledger call may running histories keyed w.local in
       let me : (after_call step pack unpack pe call).me ≡ pe.me = l.same_me ∙ sym w.local.same_me in

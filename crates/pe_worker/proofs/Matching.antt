@@ -10,7 +10,8 @@ use Rattle.rts_core.specs.Ledgers.{Ledger, no_ledger, entered_in}
 use Rattle.pe_worker.specs.Seated.{sum_each, Matches}
 
 -- one more value in one of the lists
-pub each_more : {X : Type 0} (h : X → ℕ) (xss : List (List X)) (q : ℕ) (x : X) → q < length xss → sum_each h (slice_set xss q (slice_index_or xss q [] ++ x ∷ [])) ≡ sum_each h xss + h x
+pub each_more : {X : Type 0} (h : X → ℕ) (xss : List (List X)) (q : ℕ) (x : X) → q < length xss
+    → sum_each h (slice_set xss q (slice_index_or xss q [] ++ x ∷ [])) ≡ sum_each h xss + h x
 each_more h [] q x lt = absurd (omega arith)
 each_more h (xs ∷ xss) zero x lt =
     let a : sum_each h ((xs ++ x ∷ []) ∷ xss) ≡ sum_by h (xs ++ x ∷ []) + sum_each h xss = sum_by-cons (sum_by h) (xs ++ x ∷ []) xss in
@@ -56,7 +57,8 @@ matches_still ledger seat new m =
           omega (arith, a, b, c, d);
     }
 
-pub matches_take : (ledger : Ledger) (seat : SeatView Parcel) (q : ℕ) (parcel : Parcel) (new : List LetterView) → q < pes seat.post → Matches ledger seat → Matches (entered_in ledger (parcel ∷ []) [] new) (after_take seat q parcel)
+pub matches_take : (ledger : Ledger) (seat : SeatView Parcel) (q : ℕ) (parcel : Parcel) (new : List LetterView) → q < pes seat.post
+    → Matches ledger seat → Matches (entered_in ledger (parcel ∷ []) [] new) (after_take seat q parcel)
 matches_take ledger seat q parcel new lt m =
     record {
       all_puts = m.all_puts;
@@ -70,7 +72,8 @@ matches_take ledger seat q parcel new lt m =
           omega (arith, a, b, c, d, e);
     }
 
-pub matches_put : (ledger : Ledger) (seat : SeatView Parcel) (q : ℕ) (parcel : Parcel) (new : List LetterView) → q < pes seat.post → Matches ledger seat → Matches (entered_in ledger [] (parcel ∷ []) new) (after_put seat q parcel)
+pub matches_put : (ledger : Ledger) (seat : SeatView Parcel) (q : ℕ) (parcel : Parcel) (new : List LetterView) → q < pes seat.post
+    → Matches ledger seat → Matches (entered_in ledger [] (parcel ∷ []) new) (after_put seat q parcel)
 matches_put ledger seat q parcel new lt m =
     record {
       all_puts = length-set {A = List Parcel} seat.puts q (puts_at seat q ++ parcel ∷ []) ∙ m.all_puts;
@@ -85,7 +88,8 @@ matches_put ledger seat q parcel new lt m =
     }
 
 -- a parcel that was given away and came back at once
-pub matches_back : (ledger : Ledger) (seat : SeatView Parcel) (parcel : Parcel) (new newer : List LetterView) → Matches ledger seat → Matches (entered_in (entered_in ledger [] (parcel ∷ []) new) (parcel ∷ []) [] newer) seat
+pub matches_back : (ledger : Ledger) (seat : SeatView Parcel) (parcel : Parcel) (new newer : List LetterView) → Matches ledger seat
+    → Matches (entered_in (entered_in ledger [] (parcel ∷ []) new) (parcel ∷ []) [] newer) seat
 matches_back ledger seat parcel new newer m =
     record {
       all_puts = m.all_puts;

@@ -11,22 +11,27 @@ use Rattle.clap.specs.declared.parser.matches.ArgMatches.{ArgMatches}
 use Rattle.clap.proofs.WalkLemmas.{first_value-rows, one_text-rows}
 
 -- a program with one more argument
-pub with_argument : (old new : Command) (arg : Arg) (app : App) (rule : Rule) → app_of old ≡ app → AddsArg old arg new → FitsChain arg → rule_of arg ≡ rule → app_of new ≡ with_rule app rule
+pub with_argument : (old new : Command) (arg : Arg) (app : App) (rule : Rule) → app_of old ≡ app → AddsArg old arg new → FitsChain arg
+    → rule_of arg ≡ rule → app_of new ≡ with_rule app rule
 with_argument old new arg app rule is added fits ruled = added.shape fits.1 ∙ ap (with_rule (app_of old)) ruled ∙ ap (λ a. with_rule a rule) is
 
 -- clap refuses the arguments for the same reason as the program
-pub refused_by : {T : Type 0} (program app : App) (words : List Text) (r : Result T Error) → is_simple_and_free program ≡ true → app ≡ program → (is_simple_and_free app ≡ true → FailsBy (fault_of app words) r) → FailsBy (fault_of program words) r
+pub refused_by : {T : Type 0} (program app : App) (words : List Text) (r : Result T Error) → is_simple_and_free program ≡ true → app ≡ program
+    → (is_simple_and_free app ≡ true → FailsBy (fault_of app words) r) → FailsBy (fault_of program words) r
 refused_by program app words r free is fails = subst (λ a. FailsBy (fault_of a words) r) is (fails (ap is_simple_and_free is ∙ free))
 
 -- what was found is what the program reads from the arguments
-pub found_by : (program app : App) (words : List Text) (m : ArgMatches) → is_simple program ≡ true → app ≡ program → HasMatchesOf app words m → rows_of (found_of m) ≡ matches_of program words
+pub found_by : (program app : App) (words : List Text) (m : ArgMatches) → is_simple program ≡ true → app ≡ program → HasMatchesOf app words m
+    → rows_of (found_of m) ≡ matches_of program words
 found_by program app words m simple is matches = (matches (ap is_simple is ∙ simple)).0 ∙ ap (λ a. matches_of a words) is
 
 -- and so the first value of an argument, and its only value
-pub first_word : (program : App) (words : List Text) (m : ArgMatches) (name : Text) → rows_of (found_of m) ≡ matches_of program words → first_value (found_of m) name ≡ first_of name (matches_of program words)
+pub first_word : (program : App) (words : List Text) (m : ArgMatches) (name : Text) → rows_of (found_of m) ≡ matches_of program words
+    → first_value (found_of m) name ≡ first_of name (matches_of program words)
 first_word program words m name rows = first_value-rows (found_of m) name ∙ ap (first_of name) rows
 
-pub one_word : (program : App) (words : List Text) (m : ArgMatches) (name : Text) → rows_of (found_of m) ≡ matches_of program words → one_text (found_of m) name ≡ one_of name (matches_of program words)
+pub one_word : (program : App) (words : List Text) (m : ArgMatches) (name : Text) → rows_of (found_of m) ≡ matches_of program words
+    → one_text (found_of m) name ≡ one_of name (matches_of program words)
 one_word program words m name rows = one_text-rows (found_of m) name ∙ ap (one_of name) rows
 
 -- the text is one of these

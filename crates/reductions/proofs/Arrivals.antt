@@ -51,7 +51,8 @@ module _ {V : Type 0} (combined : V → V → V) (n : ℕ) (outs : List V) (gone
     kept_got p = at_by (λ y. y.got ≡ (x.members p).got) x.members i keeper p (λ same. ap (λ t. (x.members t).got) (sym same)) (λ other. refl)
 
     -- a part that is there now was there, or is the one that came
-    now_there : (j2 : ℕ) (w : V) (o : Option V) → part_in j2 (x.members i).node.parts ≡ o → part_in j2 ((x.members i).node.parts ++ (j, v) ∷ []) ≡ Some w → IsPart combined n outs gone x i j2 w
+    now_there : (j2 : ℕ) (w : V) (o : Option V) → part_in j2 (x.members i).node.parts ≡ o
+        → part_in j2 ((x.members i).node.parts ++ (j, v) ∷ []) ≡ Some w → IsPart combined n outs gone x i j2 w
     now_there j2 w (Some w2) there e =
         let first : part_in j2 ((x.members i).node.parts ++ (j, v) ∷ []) ≡ Some w2 = part_first j2 (x.members i).node.parts ((j, v) ∷ []) w2 there in
         let same : w2 ≡ w = cc in

@@ -94,7 +94,8 @@ module _ {V : Type 0} where
   AreDistinct [] = Unit {0}
   AreDistinct (x ∷ xs) = AllOf (Differs x) xs × AreDistinct xs
 
-  pub distinct_split : (before : List (Way V)) (x : Way V) (after : List (Way V)) → AreDistinct (before ++ x ∷ after) → AllOf (Differs x) (before ++ after) × AreDistinct (before ++ after)
+  pub distinct_split : (before : List (Way V)) (x : Way V) (after : List (Way V)) → AreDistinct (before ++ x ∷ after)
+      → AllOf (Differs x) (before ++ after) × AreDistinct (before ++ after)
   distinct_split [] x after all = all
   distinct_split (y ∷ before) x after all =
       let rest = distinct_split before x after all.1 in

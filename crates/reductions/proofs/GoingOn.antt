@@ -294,7 +294,8 @@ module _ {V : Type 0} (combined : V → V → V) (n : ℕ) (few : n ≤ ELEMENTS
       one_more : length outs_now ≡ length outs + 1
       one_more = length-append outs (value ∷ [])
 
-      member_now : (g : Bool) (m : Member V) → IsMember combined n outs g m → length m.gave ≡ length outs + 1 → ((w : V) → m.node.own ≡ Some w → ⊥) → IsMember combined n outs_now false m
+      member_now : (g : Bool) (m : Member V) → IsMember combined n outs g m → length m.gave ≡ length outs + 1 → ((w : V) → m.node.own ≡ Some w → ⊥)
+          → IsMember combined n outs_now false m
       member_now g m is gave none =
           record {
             few = omega (arith, gave, one_more);

@@ -50,11 +50,13 @@ and_passed_on {M = M} p q r pack value_pack sends n i goes_on same array first s
     ∙ ap (λ g. posted p (letters (tree_pack pack value_pack) (as_user sends ++ passed_on {M = M} n i g))) value
 
 -- two lists of posts, one after the other
-pub some_posted : {P : Type 0} (p q r : Posting P) → (xs : List (ℕ × List ℕ)) × (q ≡ posted p xs) → (ys : List (ℕ × List ℕ)) × (r ≡ posted q ys) → (zs : List (ℕ × List ℕ)) × (r ≡ posted p zs)
+pub some_posted : {P : Type 0} (p q r : Posting P) → (xs : List (ℕ × List ℕ)) × (q ≡ posted p xs) → (ys : List (ℕ × List ℕ)) × (r ≡ posted q ys)
+    → (zs : List (ℕ × List ℕ)) × (r ≡ posted p zs)
 some_posted p q r first second = (first.0 ++ second.0, posted_both p q r first.0 second.0 first.1 second.1)
 
 -- a post that is refused posts nothing
-pub posts_or_none : {P : Type 0} (p q : Posting P) (result : Result ⊤ SendError) (sends : List (ℕ × List ℕ)) → OnOk result (q ≡ posted p sends) → OnErr result (q ≡ p) → (out : List (ℕ × List ℕ)) × (q ≡ posted p out)
+pub posts_or_none : {P : Type 0} (p q : Posting P) (result : Result ⊤ SendError) (sends : List (ℕ × List ℕ)) → OnOk result (q ≡ posted p sends)
+    → OnErr result (q ≡ p) → (out : List (ℕ × List ℕ)) × (q ≡ posted p out)
 posts_or_none p q (Ok _) sends ok err = (sends, ok)
 posts_or_none p q (Err e) sends ok err = ([], err ∙ sym (posted_none p))
 

@@ -3,7 +3,8 @@ use Rattle.std.proofs.Common.{◌≡◌, ℕ, ◌+◌, List, [], ◌∷◌, ◌+
 use Rattle.reductions.specs.Nodes.{gathered, joined, part_in}
 use Rattle.reductions.specs.Trees.{has_child}
 
-first_by : {V : Type 0} (b : Bool) (x value : V) (rest longer : Option V) → (rest ≡ Some value → longer ≡ Some value) → (if b then Some x else rest) ≡ Some value → (if b then Some x else longer) ≡ Some value
+first_by : {V : Type 0} (b : Bool) (x value : V) (rest longer : Option V) → (rest ≡ Some value → longer ≡ Some value)
+    → (if b then Some x else rest) ≡ Some value → (if b then Some x else longer) ≡ Some value
 first_by true x value rest longer more first = first
 first_by false x value rest longer more first = more first
 
@@ -12,7 +13,8 @@ pub part_first : {V : Type 0} (slot : ℕ) (parts more : List (ℕ × V)) (value
 part_first slot [] more value first = cc
 part_first slot (x ∷ xs) more value first = first_by (x.0 == slot) x.1 value (part_in slot xs) (part_in slot (xs ++ more)) (part_first slot xs more value) first
 
-later_by : {V : Type 0} (b : Bool) (x : V) (rest longer other : Option V) → (rest ≡ None → longer ≡ other) → (if b then Some x else rest) ≡ None → (if b then Some x else longer) ≡ other
+later_by : {V : Type 0} (b : Bool) (x : V) (rest longer other : Option V) → (rest ≡ None → longer ≡ other) → (if b then Some x else rest) ≡ None
+    → (if b then Some x else longer) ≡ other
 later_by true x rest longer other more none = cc
 later_by false x rest longer other more none = more none
 

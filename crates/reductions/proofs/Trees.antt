@@ -80,7 +80,8 @@ parents n i positive within few =
 
 module _ {V : Type 0} (combined : V → V → V) (contribution : ℕ → V) where
   -- two runs of indices, one after the other
-  after : IsAssociative combined → (i k m : ℕ) → in_order combined contribution i (k + suc m) ≡ combined (in_order combined contribution i k) (in_order combined contribution (i + suc k) m)
+  after : IsAssociative combined → (i k m : ℕ)
+      → in_order combined contribution i (k + suc m) ≡ combined (in_order combined contribution i k) (in_order combined contribution (i + suc k) m)
   unfolding in_order
   after assoc i k zero = let e : k + suc zero ≡ suc k = omega arith in ap (in_order combined contribution i) e
   after assoc i k (suc m) =
@@ -164,7 +165,8 @@ module _ {V : Type 0} (combined : V → V → V) (n i : ℕ) (contribution : ℕ
       let is_false : nat_lt (child i s) n ≡ false = grind (arith, nat_tests, test) in
       rw is_false (ih value e)
 
-  right_below : (s : ℕ) (value : V) → s ≤ slot i → AreParts combined n contribution i parts → gathered combined n i (Some (contribution i)) parts s ≡ Some value → value ≡ tree_fold combined n contribution i s
+  right_below : (s : ℕ) (value : V) → s ≤ slot i → AreParts combined n contribution i parts
+      → gathered combined n i (Some (contribution i)) parts s ≡ Some value → value ≡ tree_fold combined n contribution i s
   unfolding gathered tree_fold
   right_below zero value few right e = cc
   right_below (suc s) value few right e =

@@ -96,7 +96,8 @@ module _ {A : Type 0} (b : BoardState A) (e : ℕ) where
       })
 
   -- a note for a round that is not decided is right where that is the one under way
-  pub under_way : (reached n i round units bytes pe : ℕ) → kept_of b.rounds round ≡ None → i ≡ e → round ≡ reached + 1 → n ≡ length b.rounds → IsTrue (nat_eq reached n) ↔ (IsSyncOf b e (Sync i round units bytes pe) × (round_reached (Synced (Sync i round units bytes pe)) ≡ Some (reached + 1)))
+  pub under_way : (reached n i round units bytes pe : ℕ) → kept_of b.rounds round ≡ None → i ≡ e → round ≡ reached + 1 → n ≡ length b.rounds
+      → IsTrue (nat_eq reached n) ↔ (IsSyncOf b e (Sync i round units bytes pe) × (round_reached (Synced (Sync i round units bytes pe)) ≡ Some (reached + 1)))
   under_way reached n i round units bytes pe none own next count =
       let last : IsTrue (nat_eq reached n) → round ≡ length b.rounds + 1 = λ t. omega (arith, eqb-true reached n t) in (
         λ t. ((own, rw none (last t)), ap Some next),

@@ -50,7 +50,8 @@ module _ {C : Type 0} (step : Step C) (pack : C → List ℕ) where
         refl refl refl refl refl,
   )
 
-  pub passing_moved : (pe : PeView C) (x : Item) (l : LetterView) (look : Option ℕ) (a : Acting C) → pe.hand ≡ Some x → x.parcel ≡ Letter l → passing pe l look ≡ Some a → Acts step pe a
+  pub passing_moved : (pe : PeView C) (x : Item) (l : LetterView) (look : Option ℕ) (a : Acting C) → pe.hand ≡ Some x → x.parcel ≡ Letter l
+      → passing pe l look ≡ Some a → Acts step pe a
   passing_moved pe x l None a h p e = cc
   passing_moved pe x l (Some q) a h p e =
       let s : (if q == pe.me then shelving pe l else forwarding pe l q) ≡ a = cc in

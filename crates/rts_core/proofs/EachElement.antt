@@ -69,7 +69,8 @@ module _ {C : Type 0} (step : Step C) (pack : C → List ℕ) (F : ℕ → Eleme
   -- ---- what a PE does to it
 
   module _ (pe : PeView C) (h : PeKept F K pe) where
-    handled_kept : (e : ℕ) (done : Done) (hand : Option Item) (el : ElementView C) → found e pe.room ≡ Some el → F e (ran step pack el pe.n pe.me done) → IfSome hand (ItemKept K) → PeKept F K (handled step pack pe e done hand)
+    handled_kept : (e : ℕ) (done : Done) (hand : Option Item) (el : ElementView C) → found e pe.room ≡ Some el
+        → F e (ran step pack el pe.n pe.me done) → IfSome hand (ItemKept K) → PeKept F K (handled step pack pe e done hand)
     handled_kept e done hand el at is held =
         let room : EachAt F (changed e (ran step pack el pe.n pe.me done) pe.room) = each_changed F e (ran step pack el pe.n pe.me done) pe.room is h.room in
         let there : ran_in step pack pe.room e pe.n pe.me done ≡ changed e (ran step pack el pe.n pe.me done) pe.room = rw at refl in
@@ -91,7 +92,8 @@ module _ {C : Type 0} (step : Step C) (pack : C → List ℕ) (F : ℕ → Eleme
         at_front [] k = k
         at_front (x ∷ xs) k = All-cons (ItemKept K) (at_pe q x) xs (All-head (ItemKept K) x xs k) (All-tail (ItemKept K) x xs k)
 
-    leaving_kept : (q : ℕ) (o : Option (ElementView C)) → IfSome o (λ el. K (packed pack el)) → All (ItemKept K) (option_to_list (option_map (element_at q) (option_map (packed pack) o)))
+    leaving_kept : (q : ℕ) (o : Option (ElementView C)) → IfSome o (λ el. K (packed pack el))
+        → All (ItemKept K) (option_to_list (option_map (element_at q) (option_map (packed pack) o)))
     leaving_kept q None k = All-nil (ItemKept K)
     leaving_kept q (Some el) k = All-cons (ItemKept K) (element_at q (packed pack el)) [] k (All-nil (ItemKept K))
 

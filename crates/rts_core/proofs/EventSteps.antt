@@ -63,7 +63,8 @@ module _ {C : Type 0} (step : Step C) (pack : C → List ℕ) where
       option_and_then_some (λ (el : ElementView C). option_and_then (λ round. option_and_then (λ q. Some (round, q)) (place_in b round e)) (waits_for el)) (found e pe.room) at d
       (λ el is rest. runs_at pe e at.0 el a is (some_same (resumed step pack pe e at.0, resume_entries step pack pe e at.0) a (where_some (at.1 == p) (Some (resumed step pack pe e at.0, resume_entries step pack pe e at.0)) a s).1)))
 
-  pub depart_event_makes : {A : Type 0} (p : ℕ) (pe : PeView C) (words : List ℕ) (b : BoardState A) (e : ℕ) (a : PeView C × List ℕ × List TraceEntry) → depart_event step pack p pe words b e ≡ Some a → Moved step pe a.0 a.2 None [] []
+  pub depart_event_makes : {A : Type 0} (p : ℕ) (pe : PeView C) (words : List ℕ) (b : BoardState A) (e : ℕ) (a : PeView C × List ℕ × List TraceEntry)
+      → depart_event step pack p pe words b e ≡ Some a → Moved step pe a.0 a.2 None [] []
   depart_event_makes p pe words b e a h =
       option_and_then_some (λ (at : ℕ × ℕ). where_true (not (at.1 == p)) (Some (departed pack pe e at.1, slice_set words e at.1, Departed e ∷ []))) (due pe b e) a h
       (λ at d s.
@@ -125,7 +126,8 @@ module _ {C : Type 0} (step : Step C) where
   note_executes (Sync e round units bytes pe) = refl
   note_executes (Finish e) = refl
 
-  pub report_event_makes : {A : Type 0} (pe : PeView C) (b : BoardState A) (a : PeView C × BoardState A × List TraceEntry) → report_event pe b ≡ Some a → Moved step pe a.0 a.2 None [] []
+  pub report_event_makes : {A : Type 0} (pe : PeView C) (b : BoardState A) (a : PeView C × BoardState A × List TraceEntry)
+      → report_event pe b ≡ Some a → Moved step pe a.0 a.2 None [] []
   report_event_makes {A} pe b a h =
       option_and_then_some (λ note. option_and_then (λ after. Some (noted pe, after, note_entries note)) (board_after b note)) (slice_get pe.notes 0) a h
       (λ note is s.
@@ -143,10 +145,12 @@ pub record Desks {C A : Type 0} (step : Step C) (d : LocalView C A) (a : LocalVi
 
 module _ {C A : Type 0} (step : Step C) (pack : C → List ℕ) (unpack : List ℕ → Result (C × ℕ) PupError) (d : LocalView C A) where
   -- a step that passes no parcel
-  pub local : (pe : PeView C) (words : List ℕ) (board : BoardState A) (rs : List TraceEntry) → Makes step pack d.pe (pe, rs) → Desks step d (record { pe = pe; queues = d.queues; words = words; board = board }, rs)
+  pub local : (pe : PeView C) (words : List ℕ) (board : BoardState A) (rs : List TraceEntry) → Makes step pack d.pe (pe, rs)
+      → Desks step d (record { pe = pe; queues = d.queues; words = words; board = board }, rs)
   local pe words board rs m = record { work = m.0; came = []; gone = []; moved = m.1; passes = λ g k. refl }
 
-  pub then_local : {X : Type 0} (o : Option X) (f : X → LocalView C A × List TraceEntry) (a : LocalView C A × List TraceEntry) → option_and_then (λ x. Some (f x)) o ≡ Some a → ((x : X) → o ≡ Some x → Desks step d (f x)) → Desks step d a
+  pub then_local : {X : Type 0} (o : Option X) (f : X → LocalView C A × List TraceEntry) (a : LocalView C A × List TraceEntry)
+      → option_and_then (λ x. Some (f x)) o ≡ Some a → ((x : X) → o ≡ Some x → Desks step d (f x)) → Desks step d a
   then_local None f a h k = cc
   then_local (Some x) f a h k = subst (λ (v : LocalView C A × List TraceEntry). Desks step d v) (some_same (f x) a h) (k x refl)
 
@@ -157,7 +161,8 @@ module _ {C A : Type 0} (step : Step C) (pack : C → List ℕ) (unpack : List �
       by None at s = cc
       by (Some x) at s = subst (λ (v : PeView C × List TraceEntry). Makes step pack d.pe v) (some_same (x.pe, x.trace) a s) (acting_moved step pack unpack d.pe x at)
 
-  pub delivered_local : (p : ℕ) (a : PeView C × List (List Parcel)) → deliver_event d.pe d.queues p ≡ Some a → Desks step d (record { pe = a.0; queues = a.1; words = d.words; board = d.board }, [])
+  pub delivered_local : (p : ℕ) (a : PeView C × List (List Parcel)) → deliver_event d.pe d.queues p ≡ Some a
+      → Desks step d (record { pe = a.0; queues = a.1; words = d.words; board = d.board }, [])
   delivered_local p a h =
       option_and_then_some (λ queue. option_and_then (λ after. Some (after.0, slice_set d.queues p after.1)) (delivered d.pe queue)) (slice_get d.queues p) a h
       (λ queue there s.
@@ -177,7 +182,8 @@ module _ {C A : Type 0} (step : Step C) (pack : C → List ℕ) (unpack : List �
             omega (arith, x, y, z);
       })))
 
-  pub flush_event_local : (a : PeView C × List (List Parcel)) → flush_event d.pe d.queues ≡ Some a → Desks step d (record { pe = a.0; queues = a.1; words = d.words; board = d.board }, [])
+  pub flush_event_local : (a : PeView C × List (List Parcel)) → flush_event d.pe d.queues ≡ Some a
+      → Desks step d (record { pe = a.0; queues = a.1; words = d.words; board = d.board }, [])
   flush_event_local a h = let m = flush_event_makes step d.pe d.queues a h in record { work = None; came = []; gone = m.parcel ∷ []; moved = m.moved; passes = m.passes }
 
   pub local_makes : (event : Event) (a : LocalView C A × List TraceEntry) → local_step step pack unpack event d ≡ Some a → Desks step d a
@@ -223,6 +229,8 @@ module _ {C A : Type 0} (step : Step C) (pack : C → List ℕ) (unpack : List �
   pub happens_good : (event : Event) (a : After C A) → Happens step pack unpack w event a → Good a
   happens_good event a h = by (pe_of event) h
     where
-      by : (o : Option ℕ) → MatchOption o (MayDecide w.board a.0.board a.1 × (a.0 ≡ record w { board = a.0.board })) (λ p. a ≡ or_nothing w (enabled step pack unpack w event p)) → Good a
+      by : (o : Option ℕ)
+          → MatchOption o (MayDecide w.board a.0.board a.1 × (a.0 ≡ record w { board = a.0.board })) (λ p. a ≡ or_nothing w (enabled step pack unpack w event p))
+          → Good a
       by None d = decided_good a d.0 d.1
       by (Some p) e = subst (λ (v : After C A). Good v) (sym e) (enabled_good event p)

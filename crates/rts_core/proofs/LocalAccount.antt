@@ -35,21 +35,25 @@ use Rattle.at_sync.specs.declared.strategy.Strategy.TheVariants.{Least}
 pub lives_joined : (k : Life → ℕ) (xs ys : List Parcel) → sum_by k (flat_map lives_in (xs ++ ys)) ≡ sum_by k (flat_map lives_in xs) + sum_by k (flat_map lives_in ys)
 lives_joined k xs ys = ap (sum_by k) (flat_map-append lives_in xs ys) ∙ sum_by-append k (flat_map lives_in xs) (flat_map lives_in ys)
 
-pub sends_joined : {C : Type 0} (step : Step C) (opened : List C) (w : ℕ × List ℕ → ℕ) (xs ys : List Parcel) → sum_by w (flat_map (sends_of step opened) (flat_map lives_in (xs ++ ys))) ≡ sum_by w (flat_map (sends_of step opened) (flat_map lives_in xs)) + sum_by w (flat_map (sends_of step opened) (flat_map lives_in ys))
+pub sends_joined : {C : Type 0} (step : Step C) (opened : List C) (w : ℕ × List ℕ → ℕ) (xs ys : List Parcel)
+    → sum_by w (flat_map (sends_of step opened) (flat_map lives_in (xs ++ ys))) ≡ sum_by w (flat_map (sends_of step opened) (flat_map lives_in xs)) + sum_by w (flat_map (sends_of step opened) (flat_map lives_in ys))
 sends_joined step opened w xs ys =
     ap (λ (v : List Life). sum_by w (flat_map (sends_of step opened) v)) (flat_map-append lives_in xs ys)
     ∙ (ap (sum_by w) (flat_map-append (sends_of step opened) (flat_map lives_in xs) (flat_map lives_in ys))
     ∙ sum_by-append w (flat_map (sends_of step opened) (flat_map lives_in xs)) (flat_map (sends_of step opened) (flat_map lives_in ys)))
 
 -- an element weighs the same after what it handles, by a weight that no handler changes
-steady_work : {C : Type 0} (k : Life → ℕ) → IsSteady k → (pe : PeView C) → IsKeyed pe.room → (work : Option (Work C)) → IfSome work (λ x. (e : ℕ) × (found e pe.room ≡ Some x.0) × All (λ l. l.to ≡ e) (letters_of_entry x.1)) → after k work ≡ before k work
+steady_work : {C : Type 0} (k : Life → ℕ) → IsSteady k → (pe : PeView C) → IsKeyed pe.room → (work : Option (Work C))
+    → IfSome work (λ x. (e : ℕ) × (found e pe.room ≡ Some x.0) × All (λ l. l.to ≡ e) (letters_of_entry x.1)) → after k work ≡ before k work
 steady_work k steady pe keyed None stood = refl
 steady_work {C} k steady pe keyed (Some x) stood =
     let here : IfSome (Some x.0) (λ (el : ElementView C). el.index ≡ stood.0) = subst (λ (o : Option (ElementView C)). IfSome o (λ el. el.index ≡ stood.0)) stood.1 (keyed stood.0) in
     steady x.0.index x.0.journal x.1 (subst (λ (v : ℕ). All (λ (l : LetterView). l.to ≡ v) (letters_of_entry x.1)) (sym here) stood.2)
 
 module _ {C : Type 0} (step : Step C) (fits : C → Type 0) (pack : C → List ℕ) (opened : List C) (start : PeView C) where
-  work_history : (pe : PeView C) (work : Option (Work C)) → IfSome work (λ x. (e : ℕ) × (found e pe.room ≡ Some x.0) × All (λ l. l.to ≡ e) (letters_of_entry x.1)) → HasHistories step fits pack opened pe → IfSome work (λ x. IsHistory step pack opened x.0)
+  work_history : (pe : PeView C) (work : Option (Work C))
+      → IfSome work (λ x. (e : ℕ) × (found e pe.room ≡ Some x.0) × All (λ l. l.to ≡ e) (letters_of_entry x.1)) → HasHistories step fits pack opened pe
+      → IfSome work (λ x. IsHistory step pack opened x.0)
   work_history pe None stood h = tt
   work_history pe (Some x) stood h =
       let all : IfSome (found stood.0 pe.room) (IsHistory step pack opened) = IfSome-lookup_from_All (IsHistory step pack opened) (is_at (nat_cmp stood.0)) pe.room h.room in

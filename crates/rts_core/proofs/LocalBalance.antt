@@ -42,7 +42,8 @@ parcels_all g parcels =
     ∙ (sum_by-same (λ p. sum_by (weigh g) (all_letters_in p)) (λ p. of_parcel g no_life p + of_parcel no_letter (in_journal g) p) (parcel_all g) parcels
     ∙ sum_by-both (of_parcel g no_life) (of_parcel no_letter (in_journal g)) parcels)
 
-pub joined_all : (g : Weight) (xs ys : List Parcel) → sum_by (weigh g) (flat_map all_letters_in (xs ++ ys)) ≡ sum_by (weigh g) (flat_map all_letters_in xs) + sum_by (weigh g) (flat_map all_letters_in ys)
+pub joined_all : (g : Weight) (xs ys : List Parcel)
+    → sum_by (weigh g) (flat_map all_letters_in (xs ++ ys)) ≡ sum_by (weigh g) (flat_map all_letters_in xs) + sum_by (weigh g) (flat_map all_letters_in ys)
 joined_all g xs ys = ap (sum_by (weigh g)) (flat_map-append all_letters_in xs ys) ∙ sum_by-append (weigh g) (flat_map all_letters_in xs) (flat_map all_letters_in ys)
 
 -- ---- numbers
@@ -73,7 +74,8 @@ ids_join me count old ss h =
 
 module _ {C : Type 0} (step : Step C) where
   -- a step of the PE keeps the account
-  pub balance_moved : (pe pe' : PeView C) (rs : List TraceEntry) (work : Option (Work C)) (came gone : List Parcel) (ledger : Ledger) → Moved step pe pe' rs work came gone → AddsUp pe ledger → AddsUp pe' (entered_in ledger came gone (posted step pe work))
+  pub balance_moved : (pe pe' : PeView C) (rs : List TraceEntry) (work : Option (Work C)) (came gone : List Parcel) (ledger : Ledger)
+      → Moved step pe pe' rs work came gone → AddsUp pe ledger → AddsUp pe' (entered_in ledger came gone (posted step pe work))
   balance_moved pe pe' rs work came gone ledger m h =
       record {
         conserved = λ g.

@@ -21,11 +21,13 @@ posted_numbered me k [] = refl
 posted_numbered me k (send ∷ sends) = ap (λ (v : List LetterView). letter_to me k send.0 send.1 ∷ v) (posted_numbered me (k + 1) sends)
 
 -- what a step posts
-pub step_posts : {C : Type 0} (step : Step C) (pe pe' : PeView C) (came gone : List Parcel) (sends : List (ℕ × List ℕ)) (s : IsStep step pe pe' came gone sends) → numbered pe.me pe.count (work_sends step pe.n s.work) ≡ posted_as pe.me pe.count sends
+pub step_posts : {C : Type 0} (step : Step C) (pe pe' : PeView C) (came gone : List Parcel) (sends : List (ℕ × List ℕ)) (s : IsStep step pe pe' came gone sends)
+    → numbered pe.me pe.count (work_sends step pe.n s.work) ≡ posted_as pe.me pe.count sends
 step_posts step pe pe' came gone sends s = posted_numbered pe.me pe.count (work_sends step pe.n s.work) ∙ ap (posted_as pe.me pe.count) s.sent
 
 module _ {C : Type 0} (step : Step C) (ledger : Ledger) where
-  pub balance_step : (pe pe' : PeView C) (came gone : List Parcel) (sends : List (ℕ × List ℕ)) → IsStep step pe pe' came gone sends → AddsUp pe ledger → AddsUp pe' (entered_in ledger came gone (posted_as pe.me pe.count sends))
+  pub balance_step : (pe pe' : PeView C) (came gone : List Parcel) (sends : List (ℕ × List ℕ)) → IsStep step pe pe' came gone sends → AddsUp pe ledger
+      → AddsUp pe' (entered_in ledger came gone (posted_as pe.me pe.count sends))
   balance_step pe pe' came gone sends s b =
       subst (λ (v : List LetterView). AddsUp pe' (entered_in ledger came gone v)) (step_posts step pe pe' came gone sends s)
       (balance_moved step pe pe' s.reports s.work came gone ledger s.moved b)
@@ -47,7 +49,8 @@ module _ {C : Type 0} (step : Step C) (ledger : Ledger) where
       }
 
   module _ (pack : C → List ℕ) (unpack : List ℕ → Result (C × ℕ) PupError) where
-    running_call : (pe : PeView C) (call : Call C) → MayCall pe call → IsRunning call → AddsUp pe ledger → AddsUp (after_call step pack unpack pe call) (with_call step pack unpack ledger pe call)
+    running_call : (pe : PeView C) (call : Call C) → MayCall pe call → IsRunning call → AddsUp pe ledger
+        → AddsUp (after_call step pack unpack pe call) (with_call step pack unpack ledger pe call)
     running_call pe call may running b = balance_step pe (after_call step pack unpack pe call) (came_in call) (gone_in pe call) (sent_in step pack unpack pe call) (call_step step pack pe unpack call may running) b
 
     -- any call
@@ -64,7 +67,8 @@ module _ {C : Type 0} (step : Step C) (ledger : Ledger) where
     kept_call pe Refused may b = running_call pe Refused may tt b
 
 module _ {C : Type 0} (step : Step C) (pack : C → List ℕ) (unpack : List ℕ → Result (C × ℕ) PupError) where
-  pub kept_calls : (ledger : Ledger) (pe : PeView C) (calls : List (Call C)) → MayMake step pack unpack pe calls → AddsUp pe ledger → AddsUp (after_calls step pack unpack pe calls) (with_calls step pack unpack ledger pe calls)
+  pub kept_calls : (ledger : Ledger) (pe : PeView C) (calls : List (Call C)) → MayMake step pack unpack pe calls → AddsUp pe ledger
+      → AddsUp (after_calls step pack unpack pe calls) (with_calls step pack unpack ledger pe calls)
   kept_calls ledger pe [] may b = b
   kept_calls ledger pe (call ∷ calls) (may, more) b =
       kept_calls (with_call step pack unpack ledger pe call) (after_call step pack unpack pe call) calls more (kept_call step ledger pack unpack pe call may b)
@@ -73,5 +77,6 @@ module _ {C : Type 0} (step : Step C) (pack : C → List ℕ) (unpack : List ℕ
   pub nothing_yet : (me n : ℕ) → AddsUp (new_pe {C = C} me n) no_ledger
   nothing_yet me n = record { conserved = λ g. refl; numbered = refl }
 
-  pub all_calls : (me n : ℕ) (calls : List (Call C)) → MayMake step pack unpack (new_pe me n) calls → AddsUp (after_calls step pack unpack (new_pe me n) calls) (with_calls step pack unpack no_ledger (new_pe me n) calls)
+  pub all_calls : (me n : ℕ) (calls : List (Call C)) → MayMake step pack unpack (new_pe me n) calls
+      → AddsUp (after_calls step pack unpack (new_pe me n) calls) (with_calls step pack unpack no_ledger (new_pe me n) calls)
   all_calls me n calls may = kept_calls no_ledger (new_pe me n) calls may (nothing_yet me n)

@@ -47,7 +47,8 @@ module _ {C : Type 0} (step : Step C) where
       (quiet step pe (gave_up pe) [] [] [] (λ g k. omega (arith, none_in_front g k pe.outbox h)) refl refl refl refl refl)
 
 module _ {C : Type 0} (step : Step C) (pack : C → List ℕ) (pe : PeView C) where
-  resumed_step : (e round : ℕ) (o : Option (ElementView C)) → found e pe.room ≡ o → IsStep step pe (resumed step pack pe e round) [] [] (sends_in step pack pe.room e pe.n (Resumption round))
+  resumed_step : (e round : ℕ) (o : Option (ElementView C)) → found e pe.room ≡ o
+      → IsStep step pe (resumed step pack pe e round) [] [] (sends_in step pack pe.room e pe.n (Resumption round))
   resumed_step e round (Some el) h =
       record {
         reports = resume_entries step pack pe e round;
@@ -122,7 +123,8 @@ module _ {C : Type 0} (step : Step C) (pack : C → List ℕ) (pe : PeView C) wh
     acting_step None e = same_step step pe
 
     -- any call except the placing of a chare
-    pub call_step : (call : Call C) → MayCall pe call → IsRunning call → IsStep step pe (after_call step pack unpack pe call) (came_in call) (gone_in pe call) (sent_in step pack unpack pe call)
+    pub call_step : (call : Call C) → MayCall pe call → IsRunning call
+        → IsStep step pe (after_call step pack unpack pe call) (came_in call) (gone_in pe call) (sent_in step pack unpack pe call)
     call_step (Place e chare) may running = absurd running
     call_step (Receive parcel) may running = still step pe (received pe parcel) [] (parcel ∷ []) [] (received_moved step pe parcel may)
     call_step (HandBack parcel) may running = still step pe (handed_back pe parcel) [] (parcel ∷ []) [] (handed_back_moved step pe parcel)

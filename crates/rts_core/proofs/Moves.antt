@@ -46,7 +46,8 @@ posted step pe work = numbered pe.me pe.count (work_sends step pe.n work)
 -- a step of a PE to another state, with these trace entries, that runs this handler, receives these parcels and gives
 -- these away
 pub record Moved {C : Type 0} (step : Step C) (pe pe' : PeView C) (rs : List TraceEntry) (work : Option (Work C)) (came gone : List Parcel) : Type 0 where
-  pub weighs : (g : Weight) (k : Life → ℕ) → of_pe g k pe' + (sum_by (weigh g) (work_letters work) + (before k work + of_queue g k gone)) ≡ of_pe g k pe + (sum_by (weigh g) (posted step pe work) + (after k work + of_queue g k came))
+  pub weighs : (g : Weight) (k : Life → ℕ)
+      → of_pe g k pe' + (sum_by (weigh g) (work_letters work) + (before k work + of_queue g k gone)) ≡ of_pe g k pe + (sum_by (weigh g) (posted step pe work) + (after k work + of_queue g k came))
   pub stood : IfSome work (λ x. (e : ℕ) × (found e pe.room ≡ Some x.0) × All (λ l. l.to ≡ e) (letters_of_entry x.1))
   pub tells_posts : (r : Said → ℕ) → sum_by r (posts rs) ≡ sum_by (λ l. r (l.id, l.to)) (posted step pe work)
   pub tells_executions : (r : Said → ℕ) → sum_by r (executions rs) ≡ sum_by (λ l. r (l.id, l.to)) (work_letters work)
@@ -95,7 +96,8 @@ looked_in_moved step pe q None = quiet step pe (looked_in pe q None) [] [] [] (�
 pub looked_moved : {C : Type 0} (step : Step C) (pe : PeView C) (q : ℕ) → Moved step pe (looked pe q) [] None [] []
 looked_moved step pe q = looked_in_moved step pe q (hand_wants pe)
 
-pub box_front : (g : Weight) (k : Life → ℕ) (parcel : Parcel) (outbox : List Item) → front_parcel outbox ≡ Some parcel → sum_by (of_item g k) (drop 1 outbox) + of_parcel g k parcel ≡ sum_by (of_item g k) outbox
+pub box_front : (g : Weight) (k : Life → ℕ) (parcel : Parcel) (outbox : List Item) → front_parcel outbox ≡ Some parcel
+    → sum_by (of_item g k) (drop 1 outbox) + of_parcel g k parcel ≡ sum_by (of_item g k) outbox
 box_front g k parcel [] h = cc
 box_front g k parcel (x ∷ xs) h =
     let e : x.parcel ≡ parcel = cc in

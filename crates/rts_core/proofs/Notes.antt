@@ -11,7 +11,8 @@ use Rattle.lb_database.specs.Measuring.{elements}
 use Rattle.lb_database.specs.Refusals.{IsReport, RefusesReport}
 use Rattle.rts_core.specs.Events.{board_after}
 
-pub sync_taken : {A : Type 0} (b : BoardState A) (e round units bytes pe : ℕ) → pe < b.pes → IsReport b.database e round bytes → board_after b (Sync e round units bytes pe) ≡ Some (after_report b e units bytes pe)
+pub sync_taken : {A : Type 0} (b : BoardState A) (e round units bytes pe : ℕ) → pe < b.pes → IsReport b.database e round bytes
+    → board_after b (Sync e round units bytes pe) ≡ Some (after_report b e units bytes pe)
 sync_taken b e round units bytes pe below h =
     let a = h.known in
     let r = h.for_round in
@@ -21,7 +22,8 @@ sync_taken b e round units bytes pe below h =
 pub sync_elsewhere : {A : Type 0} (b : BoardState A) (e round units bytes pe : ℕ) → b.pes ≤ pe → board_after b (Sync e round units bytes pe) ≡ None
 sync_elsewhere b e round units bytes pe h = grind (arith, nat_tests)
 
-pub sync_refused : {A : Type 0} (b : BoardState A) (e round units bytes pe : ℕ) (error : BoardError) → bytes ≤ STATE_BYTES → RefusesReport b.database e round bytes (database_error_of error) → board_after b (Sync e round units bytes pe) ≡ None
+pub sync_refused : {A : Type 0} (b : BoardState A) (e round units bytes pe : ℕ) (error : BoardError) → bytes ≤ STATE_BYTES
+    → RefusesReport b.database e round bytes (database_error_of error) → board_after b (Sync e round units bytes pe) ≡ None
 sync_refused b e round units bytes pe Stranger small h = grind (arith, nat_tests)
 sync_refused b e round units bytes pe WrongRound small h = let n = h.1 in grind (arith, nat_tests)
 sync_refused b e round units bytes pe Twice small h = let s = h.2 in grind (arith, nat_tests)

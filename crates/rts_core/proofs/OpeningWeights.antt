@@ -55,7 +55,8 @@ open_placed n e q pe chare h =
       lower = All-keys-insert_entry nat_cmp e (opening_element e chare) (λ i. i < e + 1) pe.room (all_below_next e (keys_of pe.room) h.lower) (omega arith);
     }
 
-pub placed_open : {C : Type 0} (n e : ℕ) (pes : List (PeView C)) (q : ℕ) (chare : C) (o : Option (PeView C)) → slice_get pes q ≡ o → AllOpen n e pes → AllOpen n (e + 1) (placed_on pes q e chare o)
+pub placed_open : {C : Type 0} (n e : ℕ) (pes : List (PeView C)) (q : ℕ) (chare : C) (o : Option (PeView C)) → slice_get pes q ≡ o → AllOpen n e pes
+    → AllOpen n (e + 1) (placed_on pes q e chare o)
 placed_open n e pes q chare None at h = λ i x is. open_next n e i x (h i x is)
 placed_open n e pes q chare (Some pe) at h = λ i x. each_set pes q pe (placed pe e chare) at (λ j v. Opens n (e + 1) j v) (λ j v is. open_next n e j v (h j v is)) (open_placed n e q pe chare (h q pe at)) i x (nat_eq i q) refl
 
@@ -201,7 +202,8 @@ pub opened_once : {C : Type 0} (e i : ℕ) (chares : List C) → i ≤ e → e <
 opened_once {C} e i [] le lt = let z : length {A = C} [] ≡ 0 = refl in absurd (omega (arith, le, lt, z))
 opened_once {C} e i (chare ∷ chares) le lt = by (nat_eq i e) refl (λ next. opened_once e (i + 1) chares next (omega (arith, lt)))
   where
-    by : (b : Bool) → nat_eq i e ≡ b → (i + 1 ≤ e → sum_by (λ (x : Life). one_at e x.0) (opened_lives (i + 1) chares) ≡ 1) → sum_by (λ (x : Life). one_at e x.0) ((i, []) ∷ opened_lives (i + 1) chares) ≡ 1
+    by : (b : Bool) → nat_eq i e ≡ b → (i + 1 ≤ e → sum_by (λ (x : Life). one_at e x.0) (opened_lives (i + 1) chares) ≡ 1)
+        → sum_by (λ (x : Life). one_at e x.0) ((i, []) ∷ opened_lives (i + 1) chares) ≡ 1
     by true t rest =
         let s : i ≡ e = grind (arith, nat_tests) in
         let o : one_at e i ≡ 1 = subst (λ (v : ℕ). one_at e v ≡ 1) (sym s) (one_there e) in

@@ -61,7 +61,8 @@ lacks_at {X} e (p ∷ ps) all =
     (lacks_at e ps (All-tail (λ (k : ℕ). k < e) p.0 (keys_of ps) all))
 
 -- one more PE of those that are made
-pub pes_more : {C : Type 0} (n q me : ℕ) (made made' : List (PeView C)) (pe : PeView C) → made' ≡ made ++ pe ∷ [] → made ≡ map (λ k. new_pe k n) (range_with_len 0 q) → pe ≡ new_pe me n → me ≡ q → made' ≡ map (λ k. new_pe k n) (range_with_len 0 (q + 1))
+pub pes_more : {C : Type 0} (n q me : ℕ) (made made' : List (PeView C)) (pe : PeView C) → made' ≡ made ++ pe ∷ []
+    → made ≡ map (λ k. new_pe k n) (range_with_len 0 q) → pe ≡ new_pe me n → me ≡ q → made' ≡ map (λ k. new_pe k n) (range_with_len 0 (q + 1))
 pes_more {C} n q me made made' pe pushed all made_pe same =
     pushed ∙ (rw (all, made_pe, same, list_more (λ (k : ℕ). new_pe {C = C} k n) q) refl)
 
@@ -72,11 +73,14 @@ place_all_step n e i pes pes' chare left left' last same items placed inv = rw (
 
 module _ {C : Type 0} (step : Step C) (fits : C → Type 0) (pack : C → List ℕ) (opened : List C) where
   -- after a call that places it, unless it is refused
-  pub placed_ok : {V E : Type 0} (pes : List (PeView C)) (q e : ℕ) (chare : C) (pe pe' : PeView C) (r : Result V E) → slice_get pes q ≡ Some pe → OnOk r (pe' ≡ placed pe e chare) → OnOk r (slice_set pes q pe' ≡ placed_on pes q e chare (slice_get pes q))
+  pub placed_ok : {V E : Type 0} (pes : List (PeView C)) (q e : ℕ) (chare : C) (pe pe' : PeView C) (r : Result V E) → slice_get pes q ≡ Some pe
+      → OnOk r (pe' ≡ placed pe e chare) → OnOk r (slice_set pes q pe' ≡ placed_on pes q e chare (slice_get pes q))
   placed_ok pes q e chare pe pe' (Ok v) at ok = rw at (ap (slice_set pes q) ok)
   placed_ok pes q e chare pe pe' (Err error) at ok = tt
 
-  pub placed_histories : {V E : Type 0} (pes : List (PeView C)) (q e : ℕ) (chare : C) (pe pe' : PeView C) (r : Result V E) → HasHistories step fits pack opened pe → slice_get opened e ≡ Some chare → All (HasHistories step fits pack opened) pes → OnOk r (pe' ≡ placed pe e chare) → OnOk r (All (HasHistories step fits pack opened) (slice_set pes q pe'))
+  pub placed_histories : {V E : Type 0} (pes : List (PeView C)) (q e : ℕ) (chare : C) (pe pe' : PeView C) (r : Result V E)
+      → HasHistories step fits pack opened pe → slice_get opened e ≡ Some chare → All (HasHistories step fits pack opened) pes
+      → OnOk r (pe' ≡ placed pe e chare) → OnOk r (All (HasHistories step fits pack opened) (slice_set pes q pe'))
   placed_histories pes q e chare pe pe' (Ok v) h at all ok =
       All-set (HasHistories step fits pack opened) pes q pe' (subst (HasHistories step fits pack opened) (sym ok) (placed_holds step fits pack opened pe e chare h at)) all
   placed_histories pes q e chare pe pe' (Err error) h at all ok = tt
@@ -88,7 +92,8 @@ KeysBelow e pe = All (λ k. k < e) (keys_of pe.room)
 keys_more : {C : Type 0} (e : ℕ) (pe : PeView C) → KeysBelow e pe → KeysBelow (e + 1) pe
 keys_more e pe h = All-weaker (λ (k : ℕ). k < e) (λ (k : ℕ). k < e + 1) (λ k below. omega (arith, below)) (keys_of pe.room) h
 
-pub placed_before : {C V E : Type 0} (pes : List (PeView C)) (q e : ℕ) (chare : C) (pe pe' : PeView C) (r : Result V E) → KeysBelow e pe → All (KeysBelow e) pes → OnOk r (pe' ≡ placed pe e chare) → OnOk r (All (KeysBelow (e + 1)) (slice_set pes q pe'))
+pub placed_before : {C V E : Type 0} (pes : List (PeView C)) (q e : ℕ) (chare : C) (pe pe' : PeView C) (r : Result V E) → KeysBelow e pe
+    → All (KeysBelow e) pes → OnOk r (pe' ≡ placed pe e chare) → OnOk r (All (KeysBelow (e + 1)) (slice_set pes q pe'))
 placed_before {C} pes q e chare pe pe' (Ok v) h all ok =
     All-set (KeysBelow (e + 1)) pes q pe'
     (subst (KeysBelow (e + 1)) (sym ok) (All-keys-insert_entry nat_cmp e (opening_element e chare) (λ (k : ℕ). k < e + 1) pe.room (keys_more e pe h) (omega arith)))
@@ -100,13 +105,16 @@ pub opening_keys : (C : Type 0) (n pes : ℕ) → All (KeysBelow {C = C} 0) (map
 opening_keys C n pes =
     All-map (KeysBelow {C = C} 0) (λ (q : ℕ). new_pe {C = C} q n) (range_with_len 0 pes) (λ k d inside. All-nil (λ (e : ℕ). e < 0))
 
-pub opening_histories : {C : Type 0} (step : Step C) (fits : C → Type 0) (pack : C → List ℕ) (opened : List C) (n pes : ℕ) → n ≡ length opened → All (HasHistories step fits pack opened) (map (λ (q : ℕ). new_pe q n) (range_with_len 0 pes))
+pub opening_histories : {C : Type 0} (step : Step C) (fits : C → Type 0) (pack : C → List ℕ) (opened : List C) (n pes : ℕ) → n ≡ length opened
+    → All (HasHistories step fits pack opened) (map (λ (q : ℕ). new_pe q n) (range_with_len 0 pes))
 opening_histories {C} step fits pack opened n pes same =
     All-map (HasHistories step fits pack opened) (λ (q : ℕ). new_pe {C = C} q n) (range_with_len 0 pes)
     (λ k d inside. new_holds step fits pack opened (get_or (range_with_len 0 pes) k d) n same)
 
 -- the opening is a world, and of the run that it opens
-pub opening_is_world : {C A : Type 0} (n pes : ℕ) (strategy : Strategy) (states : List (PeView C)) (words : List ℕ) → 1 ≤ pes → pes ≤ PES → n ≤ ELEMENTS → length states ≡ pes → words ≡ map (λ e. home e n pes) (range_with_len 0 n) → All (λ q. q < pes) words → IsWorld {C = C} {A = A} n pes (record { pes = states; queues = replicate pes []; words = words; board = new_board n pes strategy })
+pub opening_is_world : {C A : Type 0} (n pes : ℕ) (strategy : Strategy) (states : List (PeView C)) (words : List ℕ) → 1 ≤ pes → pes ≤ PES
+    → n ≤ ELEMENTS → length states ≡ pes → words ≡ map (λ e. home e n pes) (range_with_len 0 n) → All (λ q. q < pes) words
+    → IsWorld {C = C} {A = A} n pes (record { pes = states; queues = replicate pes []; words = words; board = new_board n pes strategy })
 opening_is_world n pes strategy states words some few_pes few counted made named =
     record {
       some_pe = some;
@@ -120,7 +128,9 @@ opening_is_world n pes strategy states words some few_pes few counted made named
       board_pes = refl;
     }
 
-pub opening_run : {C A : Type 0} (step : Step C) (fits : C → Type 0) (pack : C → List ℕ) (opened : List C) (pes : ℕ) (states : List (PeView C)) (words : List ℕ) (b : BoardState A) → All (HasHistories step fits pack opened) states → AreHistories step fits pack opened (record { pes = states; queues = replicate pes []; words = words; board = b })
+pub opening_run : {C A : Type 0} (step : Step C) (fits : C → Type 0) (pack : C → List ℕ) (opened : List C) (pes : ℕ) (states : List (PeView C)) (words : List ℕ) (b : BoardState A)
+    → All (HasHistories step fits pack opened) states
+    → AreHistories step fits pack opened (record { pes = states; queues = replicate pes []; words = words; board = b })
 opening_run step fits pack opened pes states words b h =
     record {
       pes = h;

@@ -135,7 +135,9 @@ module _ {C A : Type 0} (step : Step C) (pack : C → List ℕ) (unpack : List �
       kept_accounted last.0 last.1 (run_keeps step pack unpack (length chares) (opening_world pes chares strategy) events last (opening_of A pes chares strategy some) run)
 
   -- and after one more event
-  pub accounted_next : (events : List Event) (w : WorldView C A) (trace : List TraceEntry) (event : Event) (next : After C A) → Reaches step pack unpack (opening_world pes chares strategy) events (w, trace) → Happens step pack unpack w event next → Accounted (length chares) next.0 (trace ++ next.1)
+  pub accounted_next : (events : List Event) (w : WorldView C A) (trace : List TraceEntry) (event : Event) (next : After C A)
+      → Reaches step pack unpack (opening_world pes chares strategy) events (w, trace) → Happens step pack unpack w event next
+      → Accounted (length chares) next.0 (trace ++ next.1)
   accounted_next events w trace event next run happens =
       let a : Kept (length chares) (opening_world pes chares strategy) w trace = run_keeps step pack unpack (length chares) (opening_world pes chares strategy) events (w, trace) (opening_of A pes chares strategy some) run in
       let b : Kept (length chares) w next.0 next.1 = step_keeps step (length chares) w next.0 next.1 (happens_good step pack unpack (length chares) w a.same_array event next happens) in

@@ -46,7 +46,8 @@ sent_more step e n h c (x ∷ xs) done =
     omega (arith, a, b, ih)
 
 -- one more entry adds its letter
-pub journal_more : (f : LetterView → ℕ) (i : ℕ) (xs : List Done) (done : Done) → sum_by f (letters_of_life (i, xs ++ done ∷ [])) ≡ sum_by f (letters_of_life (i, xs)) + sum_by f (letters_of_entry done)
+pub journal_more : (f : LetterView → ℕ) (i : ℕ) (xs : List Done) (done : Done)
+    → sum_by f (letters_of_life (i, xs ++ done ∷ [])) ≡ sum_by f (letters_of_life (i, xs)) + sum_by f (letters_of_entry done)
 journal_more f i xs done =
     let a : sum_by f (flat_map letters_of_entry (xs ++ done ∷ [])) ≡ sum_by f (flat_map letters_of_entry xs ++ flat_map letters_of_entry (done ∷ [])) = ap (sum_by f) (flat_map-append letters_of_entry xs (done ∷ [])) in
     let b = sum_by-append f (flat_map letters_of_entry xs) (flat_map letters_of_entry (done ∷ [])) in
@@ -54,11 +55,13 @@ journal_more f i xs done =
     omega (arith, a, b, c)
 
 -- the chare after these entries is the step folded over them
-pub lived_folded : {C : Type 0} (step : Step C) (pack : C → List ℕ) (el : ElementView C) (n : ℕ) (xs : List (Done × ℕ)) → (lived step pack el n xs).chare ≡ folded step el.index n el.chare (map (λ x. x.0) xs)
+pub lived_folded : {C : Type 0} (step : Step C) (pack : C → List ℕ) (el : ElementView C) (n : ℕ) (xs : List (Done × ℕ))
+    → (lived step pack el n xs).chare ≡ folded step el.index n el.chare (map (λ x. x.0) xs)
 lived_folded step pack el n [] = refl
 lived_folded step pack el n (x ∷ xs) = lived_folded step pack (ran step pack el n x.1 x.0) n xs
 
-pub history_folded : {C : Type 0} (step : Step C) (pack : C → List ℕ) (opened : List C) (el : ElementView C) (h : IsHistory step pack opened el) → folded step el.index (length opened) h.opening el.journal ≡ el.chare
+pub history_folded : {C : Type 0} (step : Step C) (pack : C → List ℕ) (opened : List C) (el : ElementView C) (h : IsHistory step pack opened el)
+    → folded step el.index (length opened) h.opening el.journal ≡ el.chare
 history_folded {C} step pack opened el h =
     let a : (lived step pack (opening_element el.index h.opening) (length opened) h.entries).chare ≡ folded step el.index (length opened) h.opening (map (λ x. x.0) h.entries) = lived_folded step pack (opening_element el.index h.opening) (length opened) h.entries in
     let b : (lived step pack (opening_element el.index h.opening) (length opened) h.entries).chare ≡ el.chare = ap (λ (v : ElementView C). v.chare) h.is_lived in
@@ -77,7 +80,8 @@ pub all_at : {X : Type 0} (P : X → Type 0) (xs : List X) (i : ℕ) (x : X) →
 all_at P xs i x all at = subst P (get_or_from_slice_get xs i x x at) (all i x (slice_get_within xs i x at))
 
 -- the journals after a handler have the letter that it handles, and those before it
-pub journal_after : {C : Type 0} (g : Weight) (work : Option (Work C)) → after (λ x. sum_by (weigh g) (letters_of_life x)) work ≡ before (λ x. sum_by (weigh g) (letters_of_life x)) work + sum_by (weigh g) (work_letters work)
+pub journal_after : {C : Type 0} (g : Weight) (work : Option (Work C))
+    → after (λ x. sum_by (weigh g) (letters_of_life x)) work ≡ before (λ x. sum_by (weigh g) (letters_of_life x)) work + sum_by (weigh g) (work_letters work)
 journal_after g None = refl
 journal_after g (Some x) = journal_more (weigh g) x.0.index x.0.journal x.1
 
@@ -100,7 +104,8 @@ module _ {C A : Type 0} (step : Step C) (fits : C → Type 0) (pack : C → List
   work_sent w h (Some x) are stood = sends_more step pack opened h x.0 x.1 (stands_history w x.0 are stood)
 
   -- what the elements have sent is in places or in journals after an event where it was so before
-  pub sent_step : (w w' : WorldView C A) (rs : List TraceEntry) → AreHistories step fits pack opened w → Stepped step (length opened) w w' rs → AreSent step opened w → AreSent step opened w'
+  pub sent_step : (w w' : WorldView C A) (rs : List TraceEntry) → AreHistories step fits pack opened w → Stepped step (length opened) w w' rs
+      → AreSent step opened w → AreSent step opened w'
   sent_step w w' rs are s h weight =
       let a = s.weighs (by_message weight) no_life in
       let b = s.weighs no_letter (sends_weight step opened weight) in

@@ -31,7 +31,8 @@ not_true false h = refl
 
 -- something holds of what PE p sees after its step, in every case
 pub record EachTurn {C A : Type 0} (step : Step C) (pack : C → List ℕ) (p : ℕ) (d : LocalView C A) (P : LocalView C A × List TraceEntry → Type 0) : Type 0 where
-  pub starts : (e : ℕ) (el : ElementView C) → found e d.pe.room ≡ Some el → el.progress.started ≡ false → P (record d { pe = resumed step pack d.pe e 0 }, resume_entries step pack d.pe e 0)
+  pub starts : (e : ℕ) (el : ElementView C) → found e d.pe.room ≡ Some el → el.progress.started ≡ false
+      → P (record d { pe = resumed step pack d.pe e 0 }, resume_entries step pack d.pe e 0)
   pub goes_on : (e round : ℕ) (el : ElementView C) → found e d.pe.room ≡ Some el → waits_for el ≡ Some round → place_in d.board round e ≡ Some p
       → P (record d { pe = resumed step pack d.pe e round }, resume_entries step pack d.pe e round)
   pub looks : (word : ℕ) → P (record d { pe = looked d.pe word }, [])
@@ -45,11 +46,13 @@ pub record EachTurn {C A : Type 0} (step : Step C) (pack : C → List ℕ) (p : 
   pub forwards : (x : Item) (l : LetterView) (q : ℕ) → d.pe.hand ≡ Some x → x.parcel ≡ Letter l → P (record d { pe = (forwarding d.pe l q).pe }, (forwarding d.pe l q).trace)
   pub installs : (x : Item) (packed : PackedView) (chare : C) → d.pe.hand ≡ Some x → x.parcel ≡ Element packed → found packed.index d.pe.room ≡ None
       → P (record d { pe = installed d.pe packed chare }, Installed packed.index ∷ [])
-  pub reports : (note : Note) (board : BoardState A) → slice_get d.pe.notes 0 ≡ Some note → board_after d.board note ≡ Some board → P (record d { pe = noted d.pe; board = board }, note_entries note)
+  pub reports : (note : Note) (board : BoardState A) → slice_get d.pe.notes 0 ≡ Some note → board_after d.board note ≡ Some board
+      → P (record d { pe = noted d.pe; board = board }, note_entries note)
   pub departs : (e q : ℕ) (el : ElementView C) → found e d.pe.room ≡ Some el → P (record d { pe = departed pack d.pe e q; words = slice_set d.words e q }, Departed e ∷ [])
 
 -- what follows from it holds in every case too
-pub each_map : {C A : Type 0} (step : Step C) (pack : C → List ℕ) (p : ℕ) (d : LocalView C A) (P R : LocalView C A × List TraceEntry → Type 0) → ((a : LocalView C A × List TraceEntry) → P a → R a) → EachTurn step pack p d P → EachTurn step pack p d R
+pub each_map : {C A : Type 0} (step : Step C) (pack : C → List ℕ) (p : ℕ) (d : LocalView C A) (P R : LocalView C A × List TraceEntry → Type 0)
+    → ((a : LocalView C A × List TraceEntry) → P a → R a) → EachTurn step pack p d P → EachTurn step pack p d R
 each_map step pack p d P R gives each =
     record {
       starts = λ e el at fresh. gives _ (each.starts e el at fresh);
@@ -81,7 +84,8 @@ module _ {C A : Type 0} (step : Step C) (pack : C → List ℕ) (unpack : List �
       by true = each.shelves x l h is
       by false = each.forwards x l q h is
 
-  pub letter_so : (x : Item) (l : LetterView) (look : Option ℕ) (o : Option (ElementView C)) (a : Acting C) → d.pe.hand ≡ Some x → x.parcel ≡ Letter l → found l.to d.pe.room ≡ o → on_letter step pack d.pe l look o ≡ Some a → ActsSo a
+  pub letter_so : (x : Item) (l : LetterView) (look : Option ℕ) (o : Option (ElementView C)) (a : Acting C) → d.pe.hand ≡ Some x → x.parcel ≡ Letter l
+      → found l.to d.pe.room ≡ o → on_letter step pack d.pe l look o ≡ Some a → ActsSo a
   letter_so x l look None a h is f e = passing_so x l look a h is e
   letter_so x l look (Some el) a h is f e = by el.progress.started refl e
     where
@@ -89,13 +93,15 @@ module _ {C A : Type 0} (step : Step C) (pack : C → List ℕ) (unpack : List �
       by true t s = let u : executed step pack d.pe l ≡ a = cc in subst (λ (v : Acting C). ActsSo v) u (each.executes x l el h is f t)
       by false t s = cc
 
-  pub installing_so : (x : Item) (packed : PackedView) (u : Result (C × ℕ) PupError) (a : Acting C) → d.pe.hand ≡ Some x → x.parcel ≡ Element packed → found packed.index d.pe.room ≡ None → installing step pack unpack d.pe packed u ≡ Some a → ActsSo a
+  pub installing_so : (x : Item) (packed : PackedView) (u : Result (C × ℕ) PupError) (a : Acting C) → d.pe.hand ≡ Some x → x.parcel ≡ Element packed
+      → found packed.index d.pe.room ≡ None → installing step pack unpack d.pe packed u ≡ Some a → ActsSo a
   installing_so x packed (Err z) a h is f e = cc
   installing_so x packed (Ok y) a h is f e =
       let t : record { acted = IsInstalled; pe = installed d.pe packed y.0; trace = Installed packed.index ∷ [] } ≡ a = cc in
       subst (λ (v : Acting C). ActsSo v) t (each.installs x packed y.0 h is f)
 
-  pub element_so : (x : Item) (packed : PackedView) (o : Option (ElementView C)) (a : Acting C) → d.pe.hand ≡ Some x → x.parcel ≡ Element packed → found packed.index d.pe.room ≡ o → on_element step pack unpack d.pe packed o ≡ Some a → ActsSo a
+  pub element_so : (x : Item) (packed : PackedView) (o : Option (ElementView C)) (a : Acting C) → d.pe.hand ≡ Some x → x.parcel ≡ Element packed
+      → found packed.index d.pe.room ≡ o → on_element step pack unpack d.pe packed o ≡ Some a → ActsSo a
   element_so x packed (Some el) a h is f e = cc
   element_so x packed None a h is f e = installing_so x packed (unpack packed.bytes) a h is f e
 
@@ -200,7 +206,8 @@ module _ {C A : Type 0} (step : Step C) (pack : C → List ℕ) (unpack : List �
       subst (λ (v : PeView C × BoardState A × List TraceEntry). P (record d { pe = v.0; board = v.1 }, v.2)) (some_same (noted d.pe, after, note_entries note) a t)
       (each.reports note after is at)))
 
-  pub then_so : {X : Type 0} (o : Option X) (f : X → LocalView C A × List TraceEntry) (a : LocalView C A × List TraceEntry) → option_and_then (λ x. Some (f x)) o ≡ Some a → ((x : X) → o ≡ Some x → P (f x)) → P a
+  pub then_so : {X : Type 0} (o : Option X) (f : X → LocalView C A × List TraceEntry) (a : LocalView C A × List TraceEntry)
+      → option_and_then (λ x. Some (f x)) o ≡ Some a → ((x : X) → o ≡ Some x → P (f x)) → P a
   then_so None f a h k = cc
   then_so (Some x) f a h k = subst P (some_same (f x) a h) (k x refl)
 
@@ -249,7 +256,9 @@ module _ {C A : Type 0} (step : Step C) (pack : C → List ℕ) (unpack : List �
     pub happens_so : (event : Event) (a : After C A) → Happens step pack unpack w event a → Q a
     happens_so event a h = by (pe_of event) refl h
       where
-        by : (o : Option ℕ) → pe_of event ≡ o → MatchOption o (MayDecide w.board a.0.board a.1 × (a.0 ≡ record w { board = a.0.board })) (λ p. a ≡ or_nothing w (enabled step pack unpack w event p)) → Q a
+        by : (o : Option ℕ) → pe_of event ≡ o
+            → MatchOption o (MayDecide w.board a.0.board a.1 × (a.0 ≡ record w { board = a.0.board })) (λ p. a ≡ or_nothing w (enabled step pack unpack w event p))
+            → Q a
         by None of k = decided_so a k.0 k.1
         by (Some p) of k =
             subst Q (sym k)

@@ -26,7 +26,8 @@ pub enabled_at : {C A : Type 0} (step : Step C) (pack : C → List ℕ) (unpack 
 enabled_at {C} {A} step pack unpack w event p pe d reports at same e =
     rw at (by (local_step step pack unpack event (local_view w pe)) e)
   where
-    by : (o : Option (LocalView C A × List TraceEntry)) → (d, reports) ≡ or_same (local_view w pe, []) o → ◌≡◌ {A = After C A} (with_local w p d, reports) (or_nothing w (option_and_then (λ (after : LocalView C A × List TraceEntry). Some (with_local w p after.0, after.1)) o))
+    by : (o : Option (LocalView C A × List TraceEntry)) → (d, reports) ≡ or_same (local_view w pe, []) o
+        → ◌≡◌ {A = After C A} (with_local w p d, reports) (or_nothing w (option_and_then (λ (after : LocalView C A × List TraceEntry). Some (with_local w p after.0, after.1)) o))
     by None k =
         ap (λ (x : LocalView C A × List TraceEntry). (with_local w p x.0, x.1)) k
         ∙ ap (λ (pes : List (PeView C)). (record { pes = pes; queues = w.queues; words = w.words; board = w.board }, [])) same
@@ -38,7 +39,8 @@ enabled_ok step pack unpack w event p pe d (Ok reports) at same ok = enabled_at 
 enabled_ok step pack unpack w event p pe d (Err e) at same ok = tt
 
 -- a refused step leaves its PE unchanged in the list
-pub same_at : {C V E : Type 0} (pes : List (PeView C)) (p : ℕ) (pe pe' : PeView C) (r : Result V E) → slice_set pes p pe ≡ pes → OnErr r (pe' ≡ pe) → OnErr r (slice_set pes p pe' ≡ pes)
+pub same_at : {C V E : Type 0} (pes : List (PeView C)) (p : ℕ) (pe pe' : PeView C) (r : Result V E) → slice_set pes p pe ≡ pes → OnErr r (pe' ≡ pe)
+    → OnErr r (slice_set pes p pe' ≡ pes)
 same_at pes p pe pe' (Ok v) same err = tt
 same_at pes p pe pe' (Err e) same err = ap (slice_set pes p) err ∙ same
 
@@ -64,7 +66,9 @@ histories_local step fits pack opened pes w p d h k =
     record { pes = All-set (HasHistories step fits pack opened) w.pes p d.pe k.histories h.pes; queues = k.parcels }
 
 -- the same after the board has changed
-pub world_board : {C A : Type 0} (n pes : ℕ) (w : WorldView C A) (b : BoardState A) → IsWorld n pes w → elements b.database ≡ elements w.board.database → b.pes ≡ w.board.pes → IsWorld n pes (record { pes = w.pes; queues = w.queues; words = w.words; board = b })
+pub world_board : {C A : Type 0} (n pes : ℕ) (w : WorldView C A) (b : BoardState A) → IsWorld n pes w
+    → elements b.database ≡ elements w.board.database → b.pes ≡ w.board.pes
+    → IsWorld n pes (record { pes = w.pes; queues = w.queues; words = w.words; board = b })
 world_board n pes w b h counted same =
     record {
       some_pe = h.some_pe;
@@ -78,7 +82,9 @@ world_board n pes w b h counted same =
       board_pes = same ∙ h.board_pes;
     }
 
-pub histories_board : {C A : Type 0} (step : Step C) (fits : C → Type 0) (pack : C → List ℕ) (opened : List C) (w : WorldView C A) (b : BoardState A) → AreHistories step fits pack opened w → AreHistories step fits pack opened (record { pes = w.pes; queues = w.queues; words = w.words; board = b })
+pub histories_board : {C A : Type 0} (step : Step C) (fits : C → Type 0) (pack : C → List ℕ) (opened : List C) (w : WorldView C A) (b : BoardState A)
+    → AreHistories step fits pack opened w
+    → AreHistories step fits pack opened (record { pes = w.pes; queues = w.queues; words = w.words; board = b })
 histories_board step fits pack opened w b h = record { pes = h.pes; queues = h.queues }
 
 -- the items of a list of which all was lent and given back
@@ -86,7 +92,8 @@ pub came_back : {X : Type 0} (n : ℕ) (xs items : List X) → n ≡ length xs �
 came_back n xs items same = rw same (take-append_seam xs (drop (length xs) items))
 
 -- a world in which nothing has changed
-pub nothing_changed : {C A V E : Type 0} (r : Result V E) (w w' : WorldView C A) → OnErr r (w'.pes ≡ w.pes) → OnErr r (w'.queues ≡ w.queues) → OnErr r (w'.words ≡ w.words) → OnErr r (w'.board ≡ w.board) → OnErr r (w' ≡ w)
+pub nothing_changed : {C A V E : Type 0} (r : Result V E) (w w' : WorldView C A) → OnErr r (w'.pes ≡ w.pes) → OnErr r (w'.queues ≡ w.queues)
+    → OnErr r (w'.words ≡ w.words) → OnErr r (w'.board ≡ w.board) → OnErr r (w' ≡ w)
 nothing_changed (Ok v) w w' pes queues words board = tt
 nothing_changed {C} {A} (Err e) w w' pes queues words board =
     ap (λ (x : List (PeView C)). record { pes = x; queues = w'.queues; words = w'.words; board = w'.board }) pes
@@ -95,11 +102,14 @@ nothing_changed {C} {A} (Err e) w w' pes queues words board =
     ∙ ap (λ (x : BoardState A). record { pes = w.pes; queues = w.queues; words = w.words; board = x }) board))
 
 -- a decision changes the board alone
-pub decided_alone : {C A E : Type 0} (r : Result (List TraceEntry) E) (w : WorldView C A) (b : BoardState A) → IfOk r (λ reports. MayDecide w.board b reports) → IfOk r (λ reports. MayDecide w.board b reports × (◌≡◌ {A = WorldView C A} (record { pes = w.pes; queues = w.queues; words = w.words; board = b }) (record { pes = w.pes; queues = w.queues; words = w.words; board = b })))
+pub decided_alone : {C A E : Type 0} (r : Result (List TraceEntry) E) (w : WorldView C A) (b : BoardState A)
+    → IfOk r (λ reports. MayDecide w.board b reports)
+    → IfOk r (λ reports. MayDecide w.board b reports × (◌≡◌ {A = WorldView C A} (record { pes = w.pes; queues = w.queues; words = w.words; board = b }) (record { pes = w.pes; queues = w.queues; words = w.words; board = b })))
 decided_alone (Ok reports) w b ok = (ok, refl)
 decided_alone (Err e) w b ok = tt
 
-pub board_same : {C A V E : Type 0} (r : Result V E) (w : WorldView C A) (b : BoardState A) → OnErr r (b ≡ w.board) → OnErr r (◌≡◌ {A = WorldView C A} (record { pes = w.pes; queues = w.queues; words = w.words; board = b }) w)
+pub board_same : {C A V E : Type 0} (r : Result V E) (w : WorldView C A) (b : BoardState A) → OnErr r (b ≡ w.board)
+    → OnErr r (◌≡◌ {A = WorldView C A} (record { pes = w.pes; queues = w.queues; words = w.words; board = b }) w)
 board_same (Ok v) w b err = tt
 board_same {C} {A} (Err e) w b err = ap (λ (x : BoardState A). record { pes = w.pes; queues = w.queues; words = w.words; board = x }) err
 

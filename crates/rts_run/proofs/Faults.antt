@@ -11,7 +11,8 @@ use Rattle.pe_worker.proofs.Causes.{caused_unpacks, caused_agrees}
 use Rattle.rts_run.specs.Outcomes.{first_fault}
 
 -- one more is gathered
-pub next_fault : (fault met new : Option Fault) (others left : List (Option Fault)) (whole : Option Fault) → others ≡ met ∷ left → new ≡ option_or fault met → option_or fault (first_fault others) ≡ whole → option_or new (first_fault left) ≡ whole
+pub next_fault : (fault met new : Option Fault) (others left : List (Option Fault)) (whole : Option Fault) → others ≡ met ∷ left
+    → new ≡ option_or fault met → option_or fault (first_fault others) ≡ whole → option_or new (first_fault left) ≡ whole
 next_fault None met new others left whole is made h = ap (λ (v : Option Fault). option_or v (first_fault left)) made ∙ (sym (ap first_fault is) ∙ h)
 next_fault (Some f) met new others left whole is made h = ap (λ (v : Option Fault). option_or v (first_fault left)) made ∙ h
 

@@ -4,7 +4,8 @@ use Rattle.at_sync.specs.Boards.{AreDecided, BoardState, IsBoard}
 use Rattle.at_sync.specs.declared.strategy.Strategy.{Strategy}
 use Rattle.lb_database.specs.Measuring.{elements}
 
-pub decided_on : {A : Type 0} (b : BoardState A) (n pes : ℕ) (strategy : Strategy) → elements b.database ≡ n → b.pes ≡ pes → b.strategy ≡ strategy → IsBoard b → AreDecided n pes strategy b.rounds
+pub decided_on : {A : Type 0} (b : BoardState A) (n pes : ℕ) (strategy : Strategy) → elements b.database ≡ n → b.pes ≡ pes → b.strategy ≡ strategy
+    → IsBoard b → AreDecided n pes strategy b.rounds
 decided_on b n pes strategy counted on by board =
     subst (λ (v : ℕ). AreDecided v pes strategy b.rounds) counted
     (subst (λ (v : ℕ). AreDecided (elements b.database) v strategy b.rounds) on

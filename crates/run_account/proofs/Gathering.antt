@@ -86,7 +86,9 @@ module _ {C : Type 0} (step : Step C) (fits : C → Type 0) (pack : C → List �
         matches = w.matches;
       }
 
-  pub gathered_more : (ends : List (PeView C)) (seat : SeatView Parcel) (pe : PeView C) (other : SeatView Parcel) → Tied ends seat → IsSeated step opened count run pe other → HasHistories step fits pack opened pe → pe.me ≡ length ends → Tied (ends ++ pe ∷ []) (joined seat other)
+  pub gathered_more : (ends : List (PeView C)) (seat : SeatView Parcel) (pe : PeView C) (other : SeatView Parcel) → Tied ends seat
+      → IsSeated step opened count run pe other → HasHistories step fits pack opened pe → pe.me ≡ length ends
+      → Tied (ends ++ pe ∷ []) (joined seat other)
   gathered_more ends seat pe other t w h next =
       record {
         own = t.own;

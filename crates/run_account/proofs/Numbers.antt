@@ -49,7 +49,8 @@ module _ {C : Type 0} where
   rest_of : (a : ℕ) (pe : PeView C) (ends : List (PeView C)) → InOrder a (pe ∷ ends) → InOrder (a + 1) ends
   rest_of a pe ends is = cc
 
-  one_more : (q j : ℕ) (pe : PeView C) (ends : List (PeView C)) → sum_by (number_in (q, j)) (flat_map numbers_of (pe ∷ ends)) ≡ sum_by (number_in (q, j)) (numbers_of pe) + sum_by (number_in (q, j)) (flat_map numbers_of ends)
+  one_more : (q j : ℕ) (pe : PeView C) (ends : List (PeView C))
+      → sum_by (number_in (q, j)) (flat_map numbers_of (pe ∷ ends)) ≡ sum_by (number_in (q, j)) (numbers_of pe) + sum_by (number_in (q, j)) (flat_map numbers_of ends)
   one_more q j pe ends = sum_by-append (number_in (q, j)) (numbers_of pe) (flat_map numbers_of ends)
 
   numbers_before : (q j a : ℕ) (ends : List (PeView C)) → InOrder a ends → q < a → sum_by (number_in (q, j)) (flat_map numbers_of ends) ≡ 0

@@ -16,7 +16,8 @@ passed {X} zs zs' xs ys whole x y is pushed same all =
     let d : zs ++ (x ∷ ys) ≡ zs ++ xs = ap (λ (v : List X). zs ++ v) (sym is) in
     a ∙ (b ∙ (c ∙ (d ∙ all)))
 
-pub passed_by : {X Y Z : Type 0} (f : X → Z) (g : Y → Z) (zs zs' : List Y) (xs ys : List X) (whole : List Z) (x : X) (y : Y) → xs ≡ x ∷ ys → zs' ≡ zs ++ y ∷ [] → g y ≡ f x → map g zs ++ map f xs ≡ whole → map g zs' ++ map f ys ≡ whole
+pub passed_by : {X Y Z : Type 0} (f : X → Z) (g : Y → Z) (zs zs' : List Y) (xs ys : List X) (whole : List Z) (x : X) (y : Y) → xs ≡ x ∷ ys
+    → zs' ≡ zs ++ y ∷ [] → g y ≡ f x → map g zs ++ map f xs ≡ whole → map g zs' ++ map f ys ≡ whole
 passed_by f g zs zs' xs ys whole x y is pushed same all =
     passed (map g zs) (map g zs') (map f xs) (map f ys) whole (f x) (g y) (ap (map f) is) (ap (map g) pushed ∙ map-append g zs (y ∷ [])) same all
 
@@ -53,7 +54,8 @@ module _ {X : Type 0} (f : X → ℕ) (a : ℕ) (x : X) (xs ys : List X) (is : y
   rest_is = let k = whole in cc
 
 -- one more at the end
-pub more_in_order : {X : Type 0} (f : X → ℕ) (x : X) (xs zs : List X) → zs ≡ xs ++ x ∷ [] → f x ≡ length xs → map f xs ≡ range_with_len 0 (length xs) → map f zs ≡ range_with_len 0 (length zs)
+pub more_in_order : {X : Type 0} (f : X → ℕ) (x : X) (xs zs : List X) → zs ≡ xs ++ x ∷ [] → f x ≡ length xs → map f xs ≡ range_with_len 0 (length xs)
+    → map f zs ≡ range_with_len 0 (length zs)
 more_in_order {X} f x xs zs is next h =
     subst (λ (v : List X). map f v ≡ range_with_len 0 (length v)) (sym is)
     (let a : map f (xs ++ x ∷ []) ≡ map f xs ++ f x ∷ [] = map-append f xs (x ∷ []) in
@@ -63,7 +65,8 @@ more_in_order {X} f x xs zs is next h =
     a ∙ (ap (λ v. v ++ f x ∷ []) h ∙ (ap (λ (v : ℕ). range_with_len 0 (length xs) ++ v ∷ []) (sym z) ∙ (sym b ∙ ap (range_with_len 0) (sym n)))))
 
 -- what is left of a list from some index on, and the item at that index
-pub drop_head : {X Y : Type 0} (f : X → Y) (zs : List Y) (k : ℕ) (x : X) (xs ys : List X) → ys ≡ x ∷ xs → map f ys ≡ drop k zs → (map f xs ≡ drop (k + 1) zs) × (slice_get zs k ≡ Some (f x))
+pub drop_head : {X Y : Type 0} (f : X → Y) (zs : List Y) (k : ℕ) (x : X) (xs ys : List X) → ys ≡ x ∷ xs → map f ys ≡ drop k zs
+    → (map f xs ≡ drop (k + 1) zs) × (slice_get zs k ≡ Some (f x))
 drop_head f zs k x xs ys is h = drop_next zs k (f x) (map f xs) (sym (ap (map f) is) ∙ h)
 
 -- as many indices as items

@@ -54,7 +54,8 @@ left_each {X} {A} h (xs ∷ puts) (ys ∷ takes) (v ∷ left) p t b =
 
 -- ---- sums over indices
 
-past : {X : Type 0} (f : X → ℕ) (x : X) (xs : List X) (a n : ℕ) → sum_by (λ q. option_map_or f (slice_get (x ∷ xs) q) 0) (range_with_len (a + 1) n) ≡ sum_by (λ q. option_map_or f (slice_get xs q) 0) (range_with_len a n)
+past : {X : Type 0} (f : X → ℕ) (x : X) (xs : List X) (a n : ℕ)
+    → sum_by (λ q. option_map_or f (slice_get (x ∷ xs) q) 0) (range_with_len (a + 1) n) ≡ sum_by (λ q. option_map_or f (slice_get xs q) 0) (range_with_len a n)
 past f x xs a zero = refl
 past f x xs a (suc n) =
     let g : ℕ → ℕ = λ q. option_map_or f (slice_get (x ∷ xs) q) 0 in

@@ -69,7 +69,8 @@ are_tallies fits unpack numbered w n strategy x same left =
     (of_runs.tallies_left fits numbered (tallies_of w) x.outcome left.account.stands (record { pes = left.histories.pes; queues = left.histories.queues }))
 
 -- an event that is not enabled is one of the list
-pub stops_inside : (A : Type 0) (unpack : Unpack) (w : WorkloadView) (strategy : Strategy) (events : List Event) (at : ℕ) → StopsRun A unpack w strategy events at → at + 1 ≤ length events
+pub stops_inside : (A : Type 0) (unpack : Unpack) (w : WorkloadView) (strategy : Strategy) (events : List Event) (at : ℕ)
+    → StopsRun A unpack w strategy events at → at + 1 ≤ length events
 stops_inside A unpack w strategy events at (course, led, by, (event, rest, split, many, disabled)) =
     omega (arith, many, length-map course.steps (λ (s : Made). s.0), ap length split ∙ length-append (events_of course.steps) (event ∷ rest))
 
@@ -82,7 +83,8 @@ never_config schedule n Of.Turns may refused = refused
 never_config schedule n Of.ProbeWorkers may refused = refused
 
 -- a schedule for a workload is one that its chares may run under
-pub may_explore : (w : WorkloadView) (schedule : Schedule) (chares : List TallyView) → IsWithin w → chares ≡ tallies_of w → schedule.pes ≡ w.pes → MayExplore schedule (length chares)
+pub may_explore : (w : WorkloadView) (schedule : Schedule) (chares : List TallyView) → IsWithin w → chares ≡ tallies_of w → schedule.pes ≡ w.pes
+    → MayExplore schedule (length chares)
 may_explore w schedule chares within same_chares same_pes =
     let counted : length chares ≡ w.chares = ap length same_chares ∙ length-map-range_with_len (tally_of w) 0 w.chares in
     ((omega (arith, same_pes, within.some_pe), omega (arith, same_pes, within.few_pes)), omega (arith, counted, within.few_chares))

@@ -16,6 +16,7 @@ listed text Why.TooLong fault = fault
 listed text Why.OutOfMemory fault = tt
 
 -- what was read to its end is refused
-pub list_refused : (bytes rest : Option (List ℕ)) (text : List ℕ) (e : EventListError) → Consumes bytes rest text → IsAtEnd rest → IsRefusal text e → RefusesList bytes rest (Faulty e)
+pub list_refused : (bytes rest : Option (List ℕ)) (text : List ℕ) (e : EventListError) → Consumes bytes rest text → IsAtEnd rest → IsRefusal text e
+    → RefusesList bytes rest (Faulty e)
 list_refused bytes rest text e consumed ended (inl (is, needs)) = inl (inr (ap Faulty is))
 list_refused bytes rest text e consumed ended (inr fault) = inr (text, consumed, ended, listed text e fault)

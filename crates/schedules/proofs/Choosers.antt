@@ -189,7 +189,8 @@ module _ {C A : Type 0} (w : WorldView C A) where
       by (inl (t, e)) = ap (moves_in new) e ∙ here ∙ sym (ap (moves_at w) e)
       by (inr (t, ne)) = others k ne ∙ before k (omega (arith, within, ne, same))
 
-  pub all_moves : (c : ChoicesView) (n : ℕ) → AreFlags c → length c.looks ≡ length w.pes → length w.pes ≤ n → ((k : ℕ) → k < n → moves_in c k ≡ moves_at w k) → (k : ℕ) → moves_in c k ≡ moves_at w k
+  pub all_moves : (c : ChoicesView) (n : ℕ) → AreFlags c → length c.looks ≡ length w.pes → length w.pes ≤ n
+      → ((k : ℕ) → k < n → moves_in c k ≡ moves_at w k) → (k : ℕ) → moves_in c k ≡ moves_at w k
   all_moves c n flags counted enough each k = by (cases_lt k n)
     where
       by : (k < n) ⊎ (n ≤ k) → moves_in c k ≡ moves_at w k

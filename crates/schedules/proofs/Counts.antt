@@ -59,7 +59,8 @@ module _ (test : ℕ → Bool) where
       (omega (arith, before.0, more), omega (arith, before.1, more, one))
 
   -- the k-th, where a number passes that has k before it
-  nth_by : (at m : ℕ) (b : Bool) → b ≡ true → slice_get (those test at ++ cond b (at ∷ filter test (range_with_len (at + 1) m)) (filter test (range_with_len (at + 1) m))) (count at) ≡ Some at
+  nth_by : (at m : ℕ) (b : Bool) → b ≡ true
+      → slice_get (those test at ++ cond b (at ∷ filter test (range_with_len (at + 1) m)) (filter test (range_with_len (at + 1) m))) (count at) ≡ Some at
   nth_by at m true e = in_middle (those test at) at (filter test (range_with_len (at + 1) m)) (count at) refl
   nth_by at m false e = cc
 
@@ -256,7 +257,8 @@ same_put flags number member was same is =
     equal false true e = cc
 
 -- a set of a bound that has one flag for each number below it
-pub none_at_first : (flags : List Bool) (blocks : List ℕ) (n m : ℕ) → flags ≡ replicate n false → blocks ≡ replicate {A = ℕ} m 0 → n < 2 ^ 32 → n ≤ m * 256 → m ≤ 2 ^ 32 → AreCounted flags blocks 0
+pub none_at_first : (flags : List Bool) (blocks : List ℕ) (n m : ℕ) → flags ≡ replicate n false → blocks ≡ replicate {A = ℕ} m 0 → n < 2 ^ 32
+    → n ≤ m * 256 → m ≤ 2 ^ 32 → AreCounted flags blocks 0
 none_at_first flags blocks n m e f few covered no_more =
     subst (λ (xs : List Bool). AreCounted xs blocks 0) (sym e) (subst (λ (ys : List ℕ). AreCounted (replicate n false) ys 0) (sym f) (none_yet n m few covered no_more))
 

@@ -112,7 +112,8 @@ module _ {C A : Type 0} (step : Step C) (pack : C → List ℕ) (unpack : List �
   found_counted before after false P c knows is m = cc
 
   -- so far no step was taken; and one more was
-  pub drawn_none : (bias : Bias) (course : CourseView C A) (chooser : ChooserView) → course.steps ≡ [] → DrawsAll step pack unpack bias (turn_of course.world chooser) course.steps (turn_of course.world chooser)
+  pub drawn_none : (bias : Bias) (course : CourseView C A) (chooser : ChooserView) → course.steps ≡ []
+      → DrawsAll step pack unpack bias (turn_of course.world chooser) course.steps (turn_of course.world chooser)
   drawn_none bias course chooser fresh =
       subst (λ (s : List Made). DrawsAll step pack unpack bias (turn_of course.world chooser) s (turn_of course.world chooser)) (sym fresh) refl
 

@@ -33,7 +33,8 @@ place_same {A} b b' round e rounds known =
     ap (λ (n : ℕ). where_true (nat_lt e n) (option_map (λ d. planned_pe (refined_cuts d) (refined_names d) e) (option_map (λ kept. kept.1) (kept_of b'.rounds round)))) known
     ∙ ap (λ (rs : List (Kept A)). where_true (nat_lt e (elements b.database)) (option_map (λ d. planned_pe (refined_cuts d) (refined_names d) e) (option_map (λ kept. kept.1) (kept_of rs round)))) rounds
 
-goes_same : {C A : Type 0} (b b' : BoardState A) (p e : ℕ) (el : ElementView C) → b'.rounds ≡ b.rounds → elements b'.database ≡ elements b.database → element_goes b' p e el ≡ element_goes b p e el
+goes_same : {C A : Type 0} (b b' : BoardState A) (p e : ℕ) (el : ElementView C) → b'.rounds ≡ b.rounds → elements b'.database ≡ elements b.database
+    → element_goes b' p e el ≡ element_goes b p e el
 goes_same {C} {A} b b' p e el rounds known = by el.progress.started (waits_for el)
   where
     by : (started : Bool) (o : Option ℕ)

@@ -50,7 +50,8 @@ module _ {X : Type 0} where
   joined_other q e x [] ne = rw (differs q e ne) refl
   joined_other q e x (p ∷ room) ne = by (nat_cmp e p.0) refl (joined_other q e x room ne)
     where
-      by : (r : Ordering) → nat_cmp e p.0 ≡ r → found q (joined e x room) ≡ found q room → found q (match_ordering r ((e, x) ∷ p ∷ room) ((p.0, x) ∷ room) (p ∷ insert_entry nat_cmp room e x)) ≡ found q (p ∷ room)
+      by : (r : Ordering) → nat_cmp e p.0 ≡ r → found q (joined e x room) ≡ found q room
+          → found q (match_ordering r ((e, x) ∷ p ∷ room) ((p.0, x) ∷ room) (p ∷ insert_entry nat_cmp room e x)) ≡ found q (p ∷ room)
       by Less t later = rw (differs q e ne) refl
       by Equal t later =
           let s : e ≡ p.0 = exact_unsigned e p.0 t in

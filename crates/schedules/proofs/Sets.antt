@@ -63,7 +63,8 @@ pub member_below : (flags : List Bool) (k x : ℕ) → slice_get (members flags)
 member_below flags k x e = omega (arith, in_range (has flags) 0 (length flags) k x e)
 
 module _ {C A : Type 0} (w : WorldView C A) (c : ChoicesView) (knows : Knows w c) where
-  by_pes_are : (may : Moves → Bool) (flags : List Bool) → ((k : ℕ) → has flags k ≡ may (moves_in c k)) → length flags ≡ length c.looks → members flags ≡ those (λ p. may (moves_at w p)) (length w.pes)
+  by_pes_are : (may : Moves → Bool) (flags : List Bool) → ((k : ℕ) → has flags k ≡ may (moves_in c k)) → length flags ≡ length c.looks
+      → members flags ≡ those (λ p. may (moves_at w p)) (length w.pes)
   by_pes_are may flags same counted =
       members_are (λ p. may (moves_at w p)) flags (length w.pes) (λ k. same k ∙ ap may (knows.pes k)) (counted ∙ knows.counted)
 

@@ -17,7 +17,8 @@ appends_both (Some us) None c xs ys one two = absurd one
 appends_both (Some us) (Some vs) None xs ys one two = absurd two
 appends_both (Some us) (Some vs) (Some ws) xs ys one two = two ∙ ap (λ z. z ++ ys) one ∙ append_assoc us xs ys
 
-pub sent_more : (old before new : Option (List ℕ)) (bytes rest : List ℕ) (n : ℕ) → Sent old before bytes rest → n ≤ length rest → Appends before new (take n rest) → Sent old new bytes (drop n rest)
+pub sent_more : (old before new : Option (List ℕ)) (bytes rest : List ℕ) (n : ℕ) → Sent old before bytes rest → n ≤ length rest
+    → Appends before new (take n rest) → Sent old new bytes (drop n rest)
 sent_more old before new bytes rest n sent inside more =
     let left : length rest ≡ length bytes - sent.count = ap length sent.rest_is ∙ length-drop sent.count bytes in
     record {

@@ -5,7 +5,8 @@ use Rattle.chares.specs.Posting.{Posting, letters_of, posted, posts_of, traced}
 use Rattle.chares.specs.declared.trace_entry.TraceEntry.{TraceEntry}
 
 -- the letters are numbered on
-letters_more : {P : Type 0} (me k : ℕ) (xs : List (ℕ × List ℕ)) (y : ℕ × List ℕ) → letters_of {P = P} me k (xs ++ y ∷ []) ≡ letters_of {P = P} me k xs ++ letters_of {P = P} me (k + length xs) (y ∷ [])
+letters_more : {P : Type 0} (me k : ℕ) (xs : List (ℕ × List ℕ)) (y : ℕ × List ℕ)
+    → letters_of {P = P} me k (xs ++ y ∷ []) ≡ letters_of {P = P} me k xs ++ letters_of {P = P} me (k + length xs) (y ∷ [])
 letters_more {P = P} me k [] y = ap (λ v. letters_of {P = P} me v (y ∷ [])) (omega (arith))
 letters_more {P = P} me k (x ∷ xs) y =
     let more : (k + 1) + length xs ≡ k + length (x ∷ xs) = grind (arith) in

@@ -83,7 +83,8 @@ module _ {A : Type 0} where
       (λ _. (run piece (state_of old) ≡ Ok (state_of new)) × IsHeld new)
       (λ e. ((e ≡ OutOfMemory) × Grows (state_of old) piece) ⊎ (run piece (state_of old) ≡ Err e))
 
-  pub judged_on : (text piece : List ℕ) (old new : Judge A) (x : ⊤) (result : Result ⊤ WorkError) → Fed piece old new result → IsJudged text old (Ok x) → IsJudged (text ++ piece) new result
+  pub judged_on : (text piece : List ℕ) (old new : Judge A) (x : ⊤) (result : Result ⊤ WorkError) → Fed piece old new result
+      → IsJudged text old (Ok x) → IsJudged (text ++ piece) new result
   judged_on text piece old new x (Ok y) fed before = (run-append text piece (start []) ∙ ap (then_run (run piece)) before.0 ∙ fed.0, fed.1)
   judged_on text piece old new x (Err e) (inl none) before = inl none.0
   judged_on text piece old new x (Err e) (inr stopped) before = inr (run-append text piece (start []) ∙ ap (then_run (run piece)) before.0 ∙ stopped)

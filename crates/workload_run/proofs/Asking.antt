@@ -12,7 +12,8 @@ asked_none None = tt
 asked_none (Some names) = sym (append-nil names)
 
 -- files were requested for all rounds, where they were for as many as there are
-pub asked_all : {D : Type 0} (prefix : List ℕ) (rounds : List (Taken × D)) (i : ℕ) (old new : Option (List (List ℕ))) → length rounds ≤ i → AsksFor old new (file_names prefix (take i rounds)) → AsksFor old new (file_names prefix rounds)
+pub asked_all : {D : Type 0} (prefix : List ℕ) (rounds : List (Taken × D)) (i : ℕ) (old new : Option (List (List ℕ))) → length rounds ≤ i
+    → AsksFor old new (file_names prefix (take i rounds)) → AsksFor old new (file_names prefix rounds)
 asked_all prefix rounds i old new past asked = subst (λ some. AsksFor old new (file_names prefix some)) (take_all i rounds past) asked
 
 -- some, and then others
@@ -30,11 +31,13 @@ module _ {D : Type 0} (prefix : List ℕ) (rounds : List (Taken × D)) (i : ℕ)
   in_turn : rounds ≡ take i rounds ++ kept ∷ drop (i + 1) rounds
   in_turn = rw is (sym (take-append-drop i rounds) ∙ ap (λ rest. take i rounds ++ rest) (drop_more rounds i d below))
 
-  both : (old mid new : Option (List (List ℕ))) → AsksFor old mid (file_names prefix (take i rounds)) → AsksFor mid new (file_name prefix kept.0.step ∷ []) → AsksFor old new (file_names prefix (take i rounds ++ kept ∷ []))
+  both : (old mid new : Option (List (List ℕ))) → AsksFor old mid (file_names prefix (take i rounds))
+      → AsksFor mid new (file_name prefix kept.0.step ∷ []) → AsksFor old new (file_names prefix (take i rounds ++ kept ∷ []))
   both old mid new so_far asked = rw map-append (asked_more old mid new _ _ so_far asked)
 
   -- its dump was written
-  pub asked_next : (old mid new : Option (List (List ℕ))) → AsksFor old mid (file_names prefix (take i rounds)) → AsksFor mid new (file_name prefix kept.0.step ∷ []) → AsksFor old new (file_names prefix (take (i + 1) rounds))
+  pub asked_next : (old mid new : Option (List (List ℕ))) → AsksFor old mid (file_names prefix (take i rounds))
+      → AsksFor mid new (file_name prefix kept.0.step ∷ []) → AsksFor old new (file_names prefix (take (i + 1) rounds))
   asked_next old mid new so_far asked = rw one_more (both old mid new so_far asked)
 
   -- it was not

@@ -8,7 +8,8 @@ use Rattle.std.specs.List.{range_with_len}
 use Rattle.rts_core.proofs.Openings.{list_more}
 
 -- one more of a list that is made number by number
-pub one_more : {X : Type 0} (f : ℕ → X) (n : ℕ) (made made' : List X) (x : X) → made' ≡ made ++ x ∷ [] → x ≡ f n → made ≡ map f (range_with_len 0 n) → made' ≡ map f (range_with_len 0 (n + 1))
+pub one_more : {X : Type 0} (f : ℕ → X) (n : ℕ) (made made' : List X) (x : X) → made' ≡ made ++ x ∷ [] → x ≡ f n → made ≡ map f (range_with_len 0 n)
+    → made' ≡ map f (range_with_len 0 (n + 1))
 one_more f n made made' x pushed is so_far = pushed ∙ (rw (so_far, is, list_more f n) refl)
 
 -- every row of a workload has an amount for each chare
@@ -19,5 +20,6 @@ row_inside {A} rows n i each below k d inside =
     omega (arith, below, ap length same, here)
 
 -- what is collected from the rows is what is in them
-pub collected_rows : {A : Type 0} (rows : List (Vec ℕ A)) (i : ℕ) (amounts : List ℕ) → amounts ≡ map (λ row. slice_index row.items i) rows → amounts ≡ map (λ row. slice_index row i) (map (λ row. row.items) rows)
+pub collected_rows : {A : Type 0} (rows : List (Vec ℕ A)) (i : ℕ) (amounts : List ℕ) → amounts ≡ map (λ row. slice_index row.items i) rows
+    → amounts ≡ map (λ row. slice_index row i) (map (λ row. row.items) rows)
 collected_rows {A} rows i amounts is = is ∙ sym (map-map (λ (row : List ℕ). slice_index row i) (λ (row : Vec ℕ A). row.items) rows)

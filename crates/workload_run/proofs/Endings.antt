@@ -30,7 +30,8 @@ abbrev pub failed : WorkError → Result WorkloadView WorkError
 failed e = Err e
 
 -- a fault that is reported of the workload
-pub known_fault : (all : Option (List ℕ)) (e : WorkError) → e ≢ Why.OutOfMemory → IfSome all (λ xs. (failed e ≡ failed Why.Read) ⊎ IsReadAnswer xs (failed e)) → IfSome all (λ xs. (e ≡ Why.Read) ⊎ IsFault xs e)
+pub known_fault : (all : Option (List ℕ)) (e : WorkError) → e ≢ Why.OutOfMemory
+    → IfSome all (λ xs. (failed e ≡ failed Why.Read) ⊎ IsReadAnswer xs (failed e)) → IfSome all (λ xs. (e ≡ Why.Read) ⊎ IsFault xs e)
 known_fault None e other known = tt
 known_fault (Some xs) e other (inl is) = inl (cc)
 known_fault (Some xs) e other (inr (inl is)) = absurd (other is)
@@ -38,28 +39,34 @@ known_fault (Some xs) e other (inr (inr fault)) = inr fault
 
 module _ {A : Type 0} (fits : TallyView → Type 0) (strategy : Strategy) (bytes rest old new : Option (List ℕ)) where
   -- the line for refused memory was written, or a prefix of it
-  ends_memory : (outcome : Option (OutcomeView TallyView A)) (ended : Ended) → WritesText memory_line OutOfMemory old new ended → EndsDrive fits strategy bytes rest old new outcome ended
+  ends_memory : (outcome : Option (OutcomeView TallyView A)) (ended : Ended) → WritesText memory_line OutOfMemory old new ended
+      → EndsDrive fits strategy bytes rest old new outcome ended
   ends_memory outcome ended (inl (is, gone)) = subst (λ e. EndsDrive fits strategy bytes rest old new outcome e) (sym is) gone
   ends_memory outcome ended (inr (is, part)) = subst (λ e. EndsDrive fits strategy bytes rest old new outcome e) (sym is) (memory_line, inr refl, part)
 
-  run_of : (w : WorkloadView) (o : OutcomeView TallyView A) → IfSome bytes (IsText w) → IsLeftBy fits (tallies_of w) w.pes strategy o → IsRunOf fits strategy bytes o (outcome_text w.chares o)
+  run_of : (w : WorkloadView) (o : OutcomeView TallyView A) → IfSome bytes (IsText w) → IsLeftBy fits (tallies_of w) w.pes strategy o
+      → IsRunOf fits strategy bytes o (outcome_text w.chares o)
   run_of w o read left = record { workload = w; read = read; left = left; told = refl }
 
   -- a workload was read, and run
-  pub ends_ran : (w : WorkloadView) (outcome : Option (OutcomeView TallyView A)) (ended : Ended) → IfSome bytes (IsText w) → EndsRun fits strategy w old new outcome ended → EndsDrive fits strategy bytes rest old new outcome ended
+  pub ends_ran : (w : WorkloadView) (outcome : Option (OutcomeView TallyView A)) (ended : Ended) → IfSome bytes (IsText w)
+      → EndsRun fits strategy w old new outcome ended → EndsDrive fits strategy bytes rest old new outcome ended
   ends_ran w None ended read told = ends_memory None ended told
   ends_ran w (Some o) ended read (left, inr told) = ends_memory (Some o) ended told
   ends_ran w (Some o) ended read (left, inl (inl (is, gone))) = subst (λ e. EndsDrive fits strategy bytes rest old new (Some o) e) (sym is) (refl, (outcome_text w.chares o, run_of w o read left, gone))
   ends_ran w (Some o) ended read (left, inl (inr (is, part))) = subst (λ e. EndsDrive fits strategy bytes rest old new (Some o) e) (sym is) (outcome_text w.chares o, inl (run_of w o read left), part)
 
   -- and what its run left is that of the workload
-  pub of_workload : (w : WorkloadView) (outcome : Option (OutcomeView TallyView A)) (ended : Ended) → IfSome bytes (IsText w) → EndsRun fits strategy w old new outcome ended → IsOfWorkload fits strategy bytes rest old new outcome
+  pub of_workload : (w : WorkloadView) (outcome : Option (OutcomeView TallyView A)) (ended : Ended) → IfSome bytes (IsText w)
+      → EndsRun fits strategy w old new outcome ended → IsOfWorkload fits strategy bytes rest old new outcome
   of_workload w None ended read told = tt
   of_workload w (Some o) ended read told = (outcome_text w.chares o, run_of w o read told.0)
 
 module _ (A : Type 0) (fits : TallyView → Type 0) (strategy : Strategy) (bytes rest old new : Option (List ℕ)) where
   -- a workload was refused
-  pub ends_refused : (text : List ℕ) (fault : WorkError) (ended : Ended) → Consumes bytes rest text → IsReadError text fault → EndsAt rest fault → IfSome bytes (λ xs. (failed fault ≡ failed Why.Read) ⊎ IsReadAnswer xs (failed fault)) → ReportsFault fault old new ended → EndsDrive {A = A} fits strategy bytes rest old new None ended
+  pub ends_refused : (text : List ℕ) (fault : WorkError) (ended : Ended) → Consumes bytes rest text → IsReadError text fault → EndsAt rest fault
+      → IfSome bytes (λ xs. (failed fault ≡ failed Why.Read) ⊎ IsReadAnswer xs (failed fault)) → ReportsFault fault old new ended
+      → EndsDrive {A = A} fits strategy bytes rest old new None ended
   ends_refused text fault ended consumed told at known (inr memory) = ends_memory {A = A} fits strategy bytes rest old new None ended memory
   ends_refused text fault ended consumed told at known (inl (other, inl (is, gone))) =
       let refusal : IsRefusal bytes rest fault = record { text = text; consumed = consumed; told = told; end_ = at; known = known_fault bytes fault other known } in

@@ -19,7 +19,9 @@ left_by fits chares chares' pes pes' strategy o same_chares same_pes left =
     subst (λ cs. IsLeftBy fits cs pes' strategy o) same_chares (subst (λ (p : ℕ). IsLeftBy fits chares p strategy o) same_pes left)
 
 -- what is reported are tallies, as many as the workload has chares
-pub are_tallies : {A : Type 0} (fits : TallyView → Type 0) → ((t : TallyView) → fits t → t.sum < 2 ^ 64) → (w : WorkloadView) (n : ℕ) (strategy : Strategy) (o : OutcomeView TallyView A) → n ≡ w.chares → IsLeftBy fits (tallies_of w) w.pes strategy o → AreTallies n o
+pub are_tallies : {A : Type 0} (fits : TallyView → Type 0) → ((t : TallyView) → fits t → t.sum < 2 ^ 64)
+    → (w : WorkloadView) (n : ℕ) (strategy : Strategy) (o : OutcomeView TallyView A) → n ≡ w.chares → IsLeftBy fits (tallies_of w) w.pes strategy o
+    → AreTallies n o
 are_tallies fits numbered w n strategy o same left =
     let counted : length (tallies_of w) ≡ n = length-map-range_with_len (tally_of w) 0 w.chares ∙ sym same in
     subst (λ m. AreTallies m o) counted (of_runs.tallies_of fits numbered (tallies_of w) o (record { account = left.account; histories = left.histories }))

@@ -10,7 +10,8 @@ invariant-loop-other g l = record {
   short : length l.others.items ≤ length l.initial.others.items;
   others : (j : ℕ) (d : _) → j < length l.others.items → get_or l.others.items j d ≡ get_or l.initial.others.items j d;
   still : (j : ℕ) (d : _) → j < length l.others.items → get_or l.tickets.items j d ≡ get_or l.initial.tickets.items j d;
-  done : (j : ℕ) (d : _) → length l.others.items ≤ j → j < length l.initial.others.items → (e : _) → get_or l.tickets.items j d ≡ both (get_or l.initial.tickets.items j e) (get_or l.initial.others.items j e);
+  done : (j : ℕ) (d : _) → length l.others.items ≤ j → j < length l.initial.others.items → (e : _)
+      → get_or l.tickets.items j d ≡ both (get_or l.initial.tickets.items j e) (get_or l.initial.others.items j e);
   share : (j : ℕ) (d : _) → length l.others.items ≤ j → j < length l.initial.others.items → IsShare (get_or l.tickets.items j d).traffic;
 }
 
