@@ -5,7 +5,7 @@ use std::marker::Model;
 
 /// How far the greatest load of a block may be above the least possible one, in thousandths of that: 0 to 1,000. Contracts see
 /// it as its number.
-#[derive(Clone, Copy, Debug)]
+#[derive(Clone, Copy, Debug, PartialEq, Eq)]
 pub struct Tolerance {
     thousandths: u32,
 }
