@@ -165,7 +165,8 @@ pub fn reorder_into<A: Allocator + Copy>(
     ensures counted { IfOk result (λ d. d.refined.stops ≤ pes + 1) }
     ensures behind { IfOk result (λ d. drop d.refined.stops room.new.stops.now ≡ drop d.refined.stops room.old.stops.now) }
     ensures small_tolerance { OnOk result (thousandths ≤ 1000) }
-    ensures asked { OnOk result (IsAsked run.now pes × HasReorderedRoom (length run.now.loads) pes (lists_in room.old) (standing_lists_in standing.old) (level_lists_in bounds.old)) }
+    ensures asked { OnOk result (IsAsked run.now pes
+        × HasReorderedRoom (length run.now.loads) pes (lists_in room.old) (standing_lists_in standing.old) (level_lists_in bounds.old)) }
     ensures small { OnOk result (AreSmall run.now.loads) }
     ensures fits { OnOk result (FitsSnapshot run.now pes) }
     ensures refused { IfErr result (IsRefineRefusal thousandths

@@ -78,11 +78,16 @@ fn all(rt: &HostRuntime, asked: &Asked<'_>, procs: &[u32], style: Style) -> u8
 }
 
 // Prints the report on a file to the standard output, or its fault to the standard error.
-fn one(rt: &HostRuntime, name: &str, procs: &[u32], thousandths: Option<u32>, style: Style) -> Ended
+fn one(
+    rt: &HostRuntime,
+    name: &str,
+    procs: &[u32],
+    tolerance: Option<Tolerance>,
+    style: Style,
+) -> Ended
     requires { All IsNumber procs.now }
 {
     let alloc = rt.alloc();
-    let tolerance = thousandths.and_then(Tolerance::new);
     let mut output = Noted::new(io::writer(rt));
     let (ended, reason) = if name == "-" {
         let mut input = Noted::new(rt.stdin());

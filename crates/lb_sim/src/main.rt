@@ -16,7 +16,6 @@ ghost use Rattle.lb_replay.specs.Requests.{MayRun};
 ghost use Rattle.std.specs.Prelude.{◌≤◌};
 ghost use Rattle.std.specs.Option.{ForSome};
 
-use chain_refinement::Tolerance;
 use chare_index::Limits;
 use lb_replay::{Asked, Ended, Task, dump_advice, run};
 use program_words::{BAD_FILE, on_words, refused};
@@ -44,7 +43,6 @@ fn main(rt: HostRuntime) -> ExitCode {
 fn done(rt: &HostRuntime, asked: Asked<'_>) -> u8
     requires some_pe { ForSome asked.procs (λ p. 1 ≤ p) }
     requires few_pes { ForSome asked.procs (λ p. p ≤ Limits.PES) }
-    requires most { ForSome asked.tolerance (λ t. t ≤ Tolerance.MOST) }
 {
     match asked.task() {
         Ok(task) => ran(rt, asked.file, task),

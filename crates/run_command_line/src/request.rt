@@ -1,6 +1,8 @@
 ghost use Rattle.std.specs.Prelude.{◌≡◌};
 ghost use Rattle.run_command_line.specs.Requests.{clash_of_journal, clash_with, clash_with_seeds, clash_without_seed, task_of, way_of};
 
+use chain_refinement::Tolerance;
+
 /// What the arguments of a command line ask for.
 #[derive(Clone, Copy, Debug, PartialEq, Eq)]
 pub struct Asked<'a> {
@@ -12,8 +14,8 @@ pub struct Asked<'a> {
     pub lbd1: bool,
     /// Whether the progress of a run over threads is written also where the standard error is no terminal.
     pub progress: bool,
-    /// The tolerance within which rounds are decided, in thousandths, 0 to 1,000.
-    pub tolerance: Option<u32>,
+    /// The tolerance within which rounds are decided.
+    pub tolerance: Option<Tolerance>,
     /// The seed of a run on one thread.
     pub seed: Option<u64>,
     /// How many seeds are run, 1 to 1,000,000.

@@ -22,7 +22,10 @@ fn task(row: &Row) -> Task
     ensures may_run { MayRun result }
 {
     let procs = row.procs.filter(|&p| 1 <= p && p <= Limits::PES);
-    Task::RefineInAnyOrder(procs, row.tolerance.min(Tolerance::MOST))
+    match Tolerance::new(row.tolerance) {
+        Some(tolerance) => Task::RefineInAnyOrder(procs, tolerance),
+        None => Task::Replay(procs),
+    }
 }
 
 // Whether a replay prints the text, from a reader that gives seven bytes per call.

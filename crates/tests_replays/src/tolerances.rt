@@ -75,7 +75,9 @@ fn task(row: &Row) -> Task
     ensures may_run { MayRun result }
 {
     let procs = row.procs.filter(|&p| 1 <= p && p <= Limits::PES);
-    let tolerance = row.tolerance.min(Tolerance::MOST);
+    let Some(tolerance) = Tolerance::new(row.tolerance) else {
+        return Task::Replay(procs);
+    };
     if row.keep_order {
         return Task::RefineInOrder(procs, tolerance);
     }

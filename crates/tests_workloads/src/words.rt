@@ -1,6 +1,7 @@
 //! The arguments of a command line that asks for the run of a workload.
 
 use crate::fixtures::assert_for;
+use chain_refinement::Tolerance;
 use program_words::{NO_WORDS, words_status};
 use run_command_line::{Asked, Task, asked, refuse};
 use std::alloc::Global;
@@ -13,8 +14,8 @@ fn answer<'a>(alloc: Global, words: &'a [&'a str]) -> Result<Asked<'a>, u8> {
     }
 }
 
-// Arguments, and what they ask for.
-type Row<'a> = (&'a [&'a str], Asked<'a>);
+// Arguments, and what they ask for, with the thousandths of the tolerance.
+type Row<'a> = (&'a [&'a str], Asked<'a>, Option<u32>);
 
 static ROWS: [Row<'static>; 2] = [
     (
@@ -32,6 +33,7 @@ static ROWS: [Row<'static>; 2] = [
             trace: None,
             no_journal: false,
         },
+        None,
     ),
     (
         &[
@@ -60,7 +62,7 @@ static ROWS: [Row<'static>; 2] = [
             dump: Some("p"),
             lbd1: true,
             progress: true,
-            tolerance: Some(1_000),
+            tolerance: None,
             seed: Some(u64::MAX),
             seeds: Some(1_000_000),
             events: Some("e"),
@@ -68,13 +70,23 @@ static ROWS: [Row<'static>; 2] = [
             trace: Some("t"),
             no_journal: true,
         },
+        Some(1_000),
     ),
 ];
 
+// Whether the arguments of a row ask for this.
+fn is_asked(alloc: Global, row: &Row<'_>) -> bool {
+    let want = Asked {
+        tolerance: row.2.and_then(Tolerance::new),
+        ..row.1
+    };
+    answer(alloc, row.0) == Ok(want)
+}
+
 #[test]
 fn words_and_what_they_ask_for(rt: HostRuntime) {
-    for (words, want) in &ROWS {
-        assert_for(&rt, answer(rt.alloc(), *words) == Ok(*want), *words);
+    for row in &ROWS {
+        assert_for(&rt, is_asked(rt.alloc(), row), row.0);
     }
 }
 
