@@ -26,7 +26,7 @@ impl<R: Files> DumpFiles for SystemFiles<'_, R> {
 }
 
 /// Writes the dumps of the rounds that are asked for, and returns the status.
-pub(crate) fn dumped<R: Files + Eprint + AllocGlobal, W: Write>(
+pub(crate) fn write_dumps<R: Files + Eprint + AllocGlobal, W: Write>(
     rt: &R,
     asked: &Asked<'_>,
     driven: &Driven<Global>,
@@ -50,7 +50,7 @@ fn tell_dump<R: Eprint>(rt: &R, prefix: &str, dump: NotWritten) {
 }
 
 /// Writes what a run left to the file of this name, where there is one and there was a run. Returns whether the file was lost.
-pub(crate) fn is_lost<R: Files + Eprint, T: BesideText, W: Write>(
+pub(crate) fn keep_file<R: Files + Eprint, T: BesideText, W: Write>(
     rt: &R,
     which: Beside,
     name: Option<&str>,

@@ -17,7 +17,7 @@ mod files;
 mod one_thread;
 mod traces;
 
-use crate::files::dumped;
+use crate::files::write_dumps;
 use crate::one_thread::{run_by_list, run_by_seed, run_by_seeds};
 use crate::traces::{Onlookers, keep_recorded, lose_trace};
 use at_sync::Strategy;
@@ -49,21 +49,21 @@ fn main(rt: HostRuntime) -> ExitCode {
     on_words(&rt, |words| match asked(rt.alloc(), words) {
         Ok(asked) => {
             let progress = asked.progress || rt.stderr().is_terminal();
-            done(&rt, &asked, progress, &mut rt.stderr())
+            run_asked(&rt, &asked, progress, &mut rt.stderr())
         }
         Err(error) => refused(&rt, &error),
     })
 }
 
 // Does what is asked for, and returns the status. No file is opened where the options do not go together.
-fn done<R: Threads + Wait + Sync + Files + Clock + Print + Eprint + AllocGlobal, E: Write>(
+fn run_asked<R: Threads + Wait + Sync + Files + Clock + Print + Eprint + AllocGlobal, E: Write>(
     rt: &R,
     asked: &Asked<'_>,
     progress: bool,
     errors: &mut E,
 ) -> u8 {
     match asked.task() {
-        Ok(Task::Threads) => ran(rt, asked, progress, errors),
+        Ok(Task::Threads) => run_on_threads(rt, asked, progress, errors),
         Ok(Task::Seed(seed)) => run_by_seed(rt, asked, seed, errors),
         Ok(Task::Seeds(seeds)) => run_by_seeds(rt, asked, seeds, errors),
         Ok(Task::Replay(list)) => run_by_list(rt, asked, list, errors),
@@ -72,22 +72,20 @@ fn done<R: Threads + Wait + Sync + Files + Clock + Print + Eprint + AllocGlobal,
 }
 
 // Runs the workload over threads, with its progress line and its recorder, and returns the status.
-fn ran<R: Threads + Wait + Sync + Files + Clock + Print + Eprint + AllocGlobal, E: Write>(
-    rt: &R,
-    asked: &Asked<'_>,
-    progress: bool,
-    errors: &mut E,
-) -> u8 {
+fn run_on_threads<
+    R: Threads + Wait + Sync + Files + Clock + Print + Eprint + AllocGlobal,
+    E: Write,
+>(rt: &R, asked: &Asked<'_>, progress: bool, errors: &mut E) -> u8 {
     let progress = Progress::new(rt, progress).unwrap_or(Progress::Off);
     match Tracing::new(rt, rt.alloc(), asked.trace.is_some()) {
-        Ok(tracing) => ran_watched(rt, asked, Onlookers { progress, tracing }, errors),
+        Ok(tracing) => run_watched(rt, asked, Onlookers { progress, tracing }, errors),
         Err(error) => lose_trace(rt, asked, error, &mut io::writer(rt)),
     }
 }
 
 // Opens the workload, runs it to the standard output, writes the dumps and the trace that are asked for, and returns the
 // status. What was wrong with a file goes to `errors`.
-fn ran_watched<R: Threads + Wait + Sync + Files + Clock + Print + Eprint + AllocGlobal, E: Write>(
+fn run_watched<R: Threads + Wait + Sync + Files + Clock + Print + Eprint + AllocGlobal, E: Write>(
     rt: &R,
     asked: &Asked<'_>,
     onlookers: Onlookers<'_, R>,
@@ -111,7 +109,7 @@ fn ran_watched<R: Threads + Wait + Sync + Files + Clock + Print + Eprint + Alloc
     let is_fault = driven.status() == BAD_FILE;
     let _told = ADVICE.tell(rt.alloc(), errors, asked.file, reason, is_fault);
     let is_lost = keep_recorded(rt, asked.trace, tracing, &driven, &mut writer);
-    let status = dumped(rt, asked, &driven, &mut writer);
+    let status = write_dumps(rt, asked, &driven, &mut writer);
     status_beside(status, is_lost)
 }
 

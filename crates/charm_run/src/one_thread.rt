@@ -4,8 +4,8 @@ ghost use Rattle.std.specs.Prelude.{IfOk};
 ghost use Rattle.workload.specs.Text.{IsWithin};
 
 use crate::ADVICE;
-use crate::files::{dumped, is_lost};
-use crate::traces::{keep_trace, tell};
+use crate::files::{keep_file, write_dumps};
+use crate::traces::{keep_trace, tell_lost_trace};
 use at_sync::Strategy;
 use program_words::BAD_FILE;
 use run_command_line::Asked;
@@ -38,10 +38,10 @@ pub(crate) fn run_by_seed<R: Files + Print + Eprint + AllocGlobal, E: Write>(
     errors: &mut E,
 ) -> u8 {
     let writer = &mut io::writer(rt);
-    match opened(rt, asked, errors, writer) {
+    match open_workload(rt, asked, errors, writer) {
         Ok(workload) => {
             let driven = drive_seed(rt.alloc(), &workload, strategy_of(asked), seed, writer);
-            finished(rt, asked, driven, writer)
+            write_left(rt, asked, driven, writer)
         }
         Err(status) => status,
     }
@@ -55,7 +55,7 @@ pub(crate) fn run_by_seeds<R: Files + Print + Eprint + AllocGlobal, E: Write>(
     errors: &mut E,
 ) -> u8 {
     let writer = &mut io::writer(rt);
-    match opened(rt, asked, errors, writer) {
+    match open_workload(rt, asked, errors, writer) {
         Ok(workload) => {
             drive_seeds(rt.alloc(), &workload, strategy_of(asked), seeds, writer).status()
         }
@@ -76,12 +76,12 @@ pub(crate) fn run_by_list<R: Files + Print + Eprint + AllocGlobal, E: Write>(
         Ok(events) => events,
         Err(fault) => return refuse_list(rt, list, fault, reason, errors, writer),
     };
-    let workload = match opened(rt, asked, errors, writer) {
+    let workload = match open_workload(rt, asked, errors, writer) {
         Ok(workload) => workload,
         Err(status) => return status,
     };
     match drive_events(rt.alloc(), &workload, strategy_of(asked), &events, writer) {
-        Ok(driven) => finished(rt, asked, driven, writer),
+        Ok(driven) => write_left(rt, asked, driven, writer),
         Err(number) => {
             let fault = ListFault::NotEnabled(number);
             refuse_list(rt, list, fault, None, errors, writer)
@@ -99,12 +99,12 @@ fn refuse_list<R: AllocGlobal, E: Write, W: Write>(
     writer: &mut W,
 ) -> u8 {
     let status = report_list(rt.alloc(), writer, fault);
-    let _told = LIST_ADVICE.tell(rt.alloc(), errors, list, reason, status == BAD_FILE);
+    let _told = LIST_ADVICE.tell_lost_trace(rt.alloc(), errors, list, reason, status == BAD_FILE);
     status
 }
 
 // Returns the workload of the file that is asked for; or otherwise writes what is wrong with it, and returns the status.
-fn opened<R: Files + AllocGlobal, E: Write, W: Write>(
+fn open_workload<R: Files + AllocGlobal, E: Write, W: Write>(
     rt: &R,
     asked: &Asked<'_>,
     errors: &mut E,
@@ -117,7 +117,13 @@ fn opened<R: Files + AllocGlobal, E: Write, W: Write>(
         Ok(workload) => Ok(workload),
         Err(ended) => {
             let status = ended.status();
-            let _told = ADVICE.tell(rt.alloc(), errors, asked.file, reason, status == BAD_FILE);
+            let _told = ADVICE.tell_lost_trace(
+                rt.alloc(),
+                errors,
+                asked.file,
+                reason,
+                status == BAD_FILE,
+            );
             Err(status)
         }
     }
@@ -128,20 +134,20 @@ fn strategy_of(asked: &Asked<'_>) -> Strategy {
 }
 
 // Writes the list of events, the trace and the dumps that are asked for, and returns the status.
-fn finished<R: Files + Eprint + AllocGlobal, W: Write>(
+fn write_left<R: Files + Eprint + AllocGlobal, W: Write>(
     rt: &R,
     asked: &Asked<'_>,
     driven: DrivenOnOne<Global>,
     writer: &mut W,
 ) -> u8 {
-    let is_unlisted = lost_events(rt, asked, &driven, writer);
-    let is_untraced = lost_trace(rt, asked, &driven, writer);
-    let status = dumped(rt, asked, &driven.into_driven(), writer);
+    let is_unlisted = keep_events(rt, asked, &driven, writer);
+    let is_untraced = keep_steps(rt, asked, &driven, writer);
+    let status = write_dumps(rt, asked, &driven.into_driven(), writer);
     status_beside(status, is_unlisted || is_untraced)
 }
 
 // Writes the trace to the file that is asked for, by the numbers of the events. Returns whether it was lost.
-fn lost_trace<R: Files + Eprint + AllocGlobal, W: Write>(
+fn keep_steps<R: Files + Eprint + AllocGlobal, W: Write>(
     rt: &R,
     asked: &Asked<'_>,
     driven: &DrivenOnOne<Global>,
@@ -153,7 +159,7 @@ fn lost_trace<R: Files + Eprint + AllocGlobal, W: Write>(
     match Timeline::of_steps(rt.alloc(), explored.steps()) {
         Ok(timeline) => keep_trace(rt, asked.trace, explored.outcome(), &timeline, writer),
         Err(error) => {
-            tell(rt, asked.trace, TraceError::from(error), writer);
+            tell_lost_trace(rt, asked.trace, TraceError::from(error), writer);
             true
         }
     }
@@ -173,7 +179,7 @@ impl BesideText for Listed<'_> {
 }
 
 // Writes the list of events to the file that is asked for. Returns whether it was lost.
-fn lost_events<R: Files + Eprint + AllocGlobal, W: Write>(
+fn keep_events<R: Files + Eprint + AllocGlobal, W: Write>(
     rt: &R,
     asked: &Asked<'_>,
     driven: &DrivenOnOne<Global>,
@@ -186,5 +192,5 @@ fn lost_events<R: Files + Eprint + AllocGlobal, W: Write>(
         alloc: rt.alloc(),
         explored,
     };
-    is_lost(rt, Beside::Events, asked.events, Some(&listed), writer)
+    keep_file(rt, Beside::Events, asked.events, Some(&listed), writer)
 }

@@ -1,6 +1,6 @@
 //! The trace of a run, in the file that is asked for.
 
-use crate::files::is_lost;
+use crate::files::keep_file;
 use chare_index::{Pe, Round};
 use pe_worker::{PeStep, Watch};
 use progress_line::Progress;
@@ -82,7 +82,7 @@ pub(crate) fn keep_recorded<R: Clock + Files + Eprint + AllocGlobal, W: Write>(
         Ok(Some(timeline)) => keep_trace(rt, name, outcome, &timeline, writer),
         Ok(None) => false,
         Err(error) => {
-            tell(rt, name, TraceError::from(error), writer);
+            tell_lost_trace(rt, name, TraceError::from(error), writer);
             true
         }
     }
@@ -101,7 +101,7 @@ pub(crate) fn keep_trace<R: Files + Eprint + AllocGlobal, W: Write>(
         outcome,
         timeline,
     };
-    is_lost(rt, Beside::Trace, name, Some(&traced), writer)
+    keep_file(rt, Beside::Trace, name, Some(&traced), writer)
 }
 
 /// Writes that a trace cannot be kept, and returns the status.
@@ -111,12 +111,12 @@ pub(crate) fn lose_trace<R: Eprint, W: Write>(
     error: TraceError,
     writer: &mut W,
 ) -> u8 {
-    tell(rt, asked.trace, error, writer);
+    tell_lost_trace(rt, asked.trace, error, writer);
     status_beside(0, true)
 }
 
 // Writes that a trace was lost, and why.
-pub(crate) fn tell<R: Eprint, W: Write>(
+pub(crate) fn tell_lost_trace<R: Eprint, W: Write>(
     rt: &R,
     name: Option<&str>,
     error: TraceError,

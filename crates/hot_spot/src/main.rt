@@ -16,28 +16,28 @@ use hot_spot_strip::{Chain, ChainError, Mode, Strip};
 use pe_worker::Watch;
 use program_words::{NO_OUTPUT, RUN_FAULT, on_words, refused};
 use rts_run::{Config, History, Outcome};
-use run_trace::{TraceError, Tracing, write_trace};
-use std::alloc::AllocError;
+use run_trace::{Timeline, TraceError, Tracing, write_trace};
+use std::alloc::{AllocError, Global};
 use std::fs::{File, Files};
 use std::io;
 use std::process::ExitCode;
 use std::sync::Wait;
 use std::thread::Threads;
 use std::time::{Clock, Instant};
-use streams::write_out;
+use streams::{Noted, write_out};
 
 /// Cells of each strip.
 const CELLS: u32 = 16;
 
 fn main(rt: HostRuntime) -> ExitCode {
     on_words(&rt, |words| match read_options(rt.alloc(), words) {
-        Ok(options) => ran(&rt, &options),
+        Ok(options) => run_asked(&rt, &options),
         Err(error) => refused(&rt, &error),
     })
 }
 
 // Runs the chain, and returns the status.
-fn ran<R: Threads + Wait + Sync + Files + Clock + Print + Eprint + AllocGlobal>(
+fn run_asked<R: Threads + Wait + Sync + Files + Clock + Print + Eprint + AllocGlobal>(
     rt: &R,
     options: &RunOptions<'_>,
 ) -> u8 {
@@ -54,7 +54,7 @@ fn ran<R: Threads + Wait + Sync + Files + Clock + Print + Eprint + AllocGlobal>(
         work: options.work,
         cells: &cells,
     };
-    match traced(rt, &chain, options) {
+    match run_traced(rt, &chain, options) {
         Ok(status) => status,
         Err(error) => {
             let _ = eprintln!(rt; "hot_spot: {}: {error}", options.trace.unwrap_or(""));
@@ -71,37 +71,58 @@ fn cells_of<R: AllocGlobal>(rt: &R, strips: u32) -> Result<Vec<u32>, AllocError>
 }
 
 // Runs a chain, prints what it left, and writes its trace, if one is asked for.
-fn traced<R: Threads + Wait + Sync + Files + Clock + Print + Eprint + AllocGlobal>(
+fn run_traced<R: Threads + Wait + Sync + Files + Clock + Print + Eprint + AllocGlobal>(
     rt: &R,
     chain: &Chain<'_>,
     options: &RunOptions<'_>,
 ) -> Result<u8, TraceError> {
     let tracing = Tracing::new(rt, rt.alloc(), options.trace.is_some())?;
-    let told = match told(rt, chain, options, &tracing) {
-        Ok(told) => told,
+    let (outcome, status) = match run_and_print(rt, chain, options, &tracing) {
+        Ok(left) => left,
         Err(error) => {
             let _ = eprintln!(rt; "hot_spot: {error}");
             return Ok(NO_OUTPUT);
         }
     };
     let (Some(path), Some(timeline)) = (options.trace, tracing.into_timeline()?) else {
-        return Ok(told.1);
+        return Ok(status);
     };
-    let Ok(mut file) = File::create(rt, path) else {
-        return Err(TraceError::Write);
+    if !keep_trace(rt, path, options.pes, &timeline, &outcome) {
+        return Ok(NO_OUTPUT);
+    }
+    Ok(status)
+}
+
+// Writes the trace of a run to the file of this name, and returns whether all of it was written. Otherwise it prints the system's reason,
+// or that memory was refused.
+fn keep_trace<R: Files + Eprint + AllocGlobal>(
+    rt: &R,
+    path: &str,
+    pes: u32,
+    timeline: &Timeline<Global>,
+    outcome: &Outcome<Strip>,
+) -> bool {
+    let file = match File::create(rt, path) {
+        Ok(file) => file,
+        Err(reason) => {
+            let _ = eprintln!(rt; "hot_spot: {path}: {reason}");
+            return false;
+        }
     };
-    write_trace(
-        rt.alloc(),
-        &mut file,
-        options.pes,
-        timeline.happenings(),
-        told.0.rounds(),
-    )?;
-    Ok(told.1)
+    let mut noted = Noted::new(file);
+    let happenings = timeline.happenings();
+    let Err(error) = write_trace(rt.alloc(), &mut noted, pes, happenings, outcome.rounds()) else {
+        return true;
+    };
+    let _ = match noted.failure() {
+        Some(reason) => eprintln!(rt; "hot_spot: {path}: {reason}"),
+        None => eprintln!(rt; "hot_spot: {path}: {error}"),
+    };
+    false
 }
 
 // Runs a chain and prints what it left. Returns the outcome, with the status for the case that nothing fails later.
-fn told<V: Watch + Sync, R: Threads + Wait + Sync + Clock + Print + Eprint + AllocGlobal>(
+fn run_and_print<V: Watch + Sync, R: Threads + Wait + Sync + Clock + Print + Eprint + AllocGlobal>(
     rt: &R,
     chain: &Chain<'_>,
     options: &RunOptions<'_>,

@@ -25,25 +25,25 @@ use streams::{Noted, write_out};
 
 fn main(rt: HostRuntime) -> ExitCode {
     on_words(&rt, |words| match asked(rt.alloc(), words) {
-        Ok(asked) => done(&rt, &asked),
+        Ok(asked) => report_asked(&rt, &asked),
         Err(error) => refused(&rt, &error),
     })
 }
 
 // Does what is asked for, and returns the status.
-fn done(rt: &HostRuntime, asked: &Asked<'_>) -> u8 {
+fn report_asked(rt: &HostRuntime, asked: &Asked<'_>) -> u8 {
     let Some(text) = asked.procs else {
-        return headed(rt, asked, &[]);
+        return print_reports(rt, asked, &[]);
     };
     match numbers(rt.alloc(), text) {
-        Ok(procs) => headed(rt, asked, &procs),
+        Ok(procs) => print_reports(rt, asked, &procs),
         Err(NumbersError::Spelling) => refuse_numbers(rt.alloc(), &mut rt.stderr(), text),
         Err(NumbersError::OutOfMemory) => Ended::WriteFailed.status(),
     }
 }
 
 // Prints the line of the names of the columns, and then the report on each file.
-fn headed(rt: &HostRuntime, asked: &Asked<'_>, procs: &[u32]) -> u8
+fn print_reports(rt: &HostRuntime, asked: &Asked<'_>, procs: &[u32]) -> u8
     requires { All IsNumber procs.now }
 {
     let style = Style {
@@ -56,17 +56,17 @@ fn headed(rt: &HostRuntime, asked: &Asked<'_>, procs: &[u32]) -> u8
         let _told = tell(rt.alloc(), &mut rt.stderr(), "", ended, output.failure());
         return ended.status();
     }
-    all(rt, asked, procs, style)
+    print_each(rt, asked, procs, style)
 }
 
 // Prints the report on each file, and returns the status of the first that has a fault, or 0. After the output has failed
 // nothing more is done.
-fn all(rt: &HostRuntime, asked: &Asked<'_>, procs: &[u32], style: Style) -> u8
+fn print_each(rt: &HostRuntime, asked: &Asked<'_>, procs: &[u32], style: Style) -> u8
     requires { All IsNumber procs.now }
 {
     let mut status = 0;
     for name in asked.files.as_slice() {
-        let ended = one(rt, name, procs, asked.tolerance, style);
+        let ended = print_one(rt, name, procs, asked.tolerance, style);
         if status == 0 {
             status = ended.status();
         }
@@ -78,7 +78,7 @@ fn all(rt: &HostRuntime, asked: &Asked<'_>, procs: &[u32], style: Style) -> u8
 }
 
 // Prints the report on a file to the standard output, or its fault to the standard error.
-fn one(
+fn print_one(
     rt: &HostRuntime,
     name: &str,
     procs: &[u32],

@@ -34,25 +34,25 @@ const ADVICE: Advice<'static> = Advice {
 
 fn main(rt: HostRuntime) -> ExitCode {
     on_words(&rt, |words| match asked(rt.alloc(), words) {
-        Ok(asked) => done(&rt, asked),
+        Ok(asked) => do_task(&rt, asked),
         Err(error) => refused(&rt, &error),
     })
 }
 
 // Does what is asked for, and returns the status. Where that is not a task no file is opened.
-fn done(rt: &HostRuntime, asked: Asked<'_>) -> u8
+fn do_task(rt: &HostRuntime, asked: Asked<'_>) -> u8
     requires some_pe { ForSome asked.procs (λ p. 1 ≤ p) }
     requires few_pes { ForSome asked.procs (λ p. p ≤ Limits.PES) }
 {
     match asked.task() {
-        Ok(task) => ran(rt, asked.file, task),
+        Ok(task) => run_task(rt, asked.file, task),
         Err(clash) => refuse_both(&mut rt.stderr(), clash),
     }
 }
 
 // Opens the file, does the task to the standard output, and returns the status. Where a read failed or the file has no whole
 // dump, the file's name, the system's reason, and what to do are printed to the standard error.
-fn ran(rt: &HostRuntime, name: &str, task: Task) -> u8
+fn run_task(rt: &HostRuntime, name: &str, task: Task) -> u8
     requires { MayRun task }
 {
     let file = File::open(rt, name);
