@@ -1,8 +1,8 @@
 use Rattle.at_sync.proofs.Placed.{all_placed}
 use Rattle.at_sync.proofs.strategy.Strategy.decide.Goals as goal
 
-pub returns-clause-placed : goal.returns-clause-placed
-returns-clause-placed g c =
+pub returns-in-Refine-clause-placed : goal.returns-in-Refine-clause-placed
+returns-in-Refine-clause-placed g c =
     let s = c.args.snapshot.now in
     let made = c.refine.ensures in
     all_placed s.loads s.sizes c.args.pes c.in-Refine.tolerance c.refine.result made.refined made.blocks made.naming made.places made.bounded
