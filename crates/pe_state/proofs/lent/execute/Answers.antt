@@ -27,7 +27,8 @@ returns-clause-traces g c =
     let all = ap (λ p. p.n) c.lend-sends.ensures.value in
     rw c.put_back-2.ensures.back (record {
       ok = rw (← all) (reports_after _ _ _ _ _ _ _ _ _ c.lend-sends.ensures.value _ _ _ _ c.give_back-posted.ensures.trace (ap (λ d. d.items) c.replace-entries.ensures.value) c.execute-handled.ensures.sends);
-      err = reports_kept _ _ _ _ _ _ _ _ _ c.lend-sends.ensures.value _ _ c.give_back-posted.ensures.trace (ap (λ d. d.items) c.replace-entries.ensures.value) c.execute-handled.ensures.taken_back })
+      err = reports_kept _ _ _ _ _ _ _ _ _ c.lend-sends.ensures.value _ _ c.give_back-posted.ensures.trace (ap (λ d. d.items) c.replace-entries.ensures.value) c.execute-handled.ensures.taken_back;
+    })
 
 pub returns-clause-numbered : goal.returns-clause-numbered
 returns-clause-numbered g c = rw c.give_back-posted.ensures.count c.give_back-posted.ensures.few
