@@ -75,13 +75,18 @@ impl Asked<'_> {
         ensures may_run { ForSome self.entry.procs (λ p. 1 ≤ p) → ForSome self.entry.procs (λ p. p ≤ Limits.PES)
             → IfOk result MayRun }
     {
-        if self.check {
-            return self.check_task();
+        let Asked {
+            file: _,
+            procs,
+            tolerance,
+            keep_order,
+            any_order,
+            check,
+        } = self;
+        if check {
+            return check_task(procs, tolerance, keep_order, any_order);
         }
-        match (
-            self.procs,
-            (self.tolerance, (self.keep_order, self.any_order)),
-        ) {
+        match (procs, (tolerance, (keep_order, any_order))) {
             (procs, (None, (false, false))) => Ok(Task::Replay(procs)),
             (_, (None, (true, _))) => Err(Clash::KeepOrderAlone),
             (_, (None, (false, true))) => Err(Clash::AnyOrderAlone),
@@ -91,21 +96,23 @@ impl Asked<'_> {
             (_, (Some(_), (true, true))) => Err(Clash::KeepOrderAndAnyOrder),
         }
     }
+}
 
-    // A check, which no other option goes with.
-    fn check_task(self) -> Result<Task, Clash>
-        ensures { result ≡ check_of self.entry.procs self.entry.tolerance self.entry.keep_order self.entry.any_order }
-    {
-        match (
-            self.procs,
-            (self.tolerance, (self.keep_order, self.any_order)),
-        ) {
-            (Some(_), _) => Err(Clash::ProcsAndCheck),
-            (None, (Some(_), _)) => Err(Clash::ToleranceAndCheck),
-            (None, (None, (true, _))) => Err(Clash::KeepOrderAndCheck),
-            (None, (None, (false, true))) => Err(Clash::AnyOrderAndCheck),
-            (None, (None, (false, false))) => Ok(Task::Check),
-        }
+// A check, which no other option goes with.
+fn check_task(
+    procs: Option<u32>,
+    tolerance: Option<Tolerance>,
+    keep_order: bool,
+    any_order: bool,
+) -> Result<Task, Clash>
+    ensures { result ≡ check_of procs tolerance keep_order any_order }
+{
+    match (procs, (tolerance, (keep_order, any_order))) {
+        (Some(_), _) => Err(Clash::ProcsAndCheck),
+        (None, (Some(_), _)) => Err(Clash::ToleranceAndCheck),
+        (None, (None, (true, _))) => Err(Clash::KeepOrderAndCheck),
+        (None, (None, (false, true))) => Err(Clash::AnyOrderAndCheck),
+        (None, (None, (false, false))) => Ok(Task::Check),
     }
 }
 
