@@ -89,7 +89,7 @@ impl<C: Chare<A>, H: Openings<C> + RunStrategy, J: RunBeginning<C>, A: Allocator
 
     // Looks for the element of the first letter of the outbox, and flushes the letter. It returns whether it did either.
     // Mostly the letter has no address and its queue has room, so that both are one call.
-    fn flush_letter(&mut self, field: &Field<C, H, J, A>) -> bool
+    pub(super) fn flush_letter(&mut self, field: &Field<C, H, J, A>) -> bool
         ensures same_me { self.new.seated.pe.me ≡ self.old.seated.pe.me }
     {
         if self
