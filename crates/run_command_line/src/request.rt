@@ -71,29 +71,42 @@ impl<'a> Asked<'a> {
     pub fn task(self) -> Result<Task<'a>, Clash>
         ensures value { result ≡ task_of self.entry }
     {
-        let task = way_of(self.seed, self.seeds, self.replay)?;
-        match self.clash_with(task) {
+        let Asked {
+            file: _,
+            dump,
+            lbd1: _,
+            progress: _,
+            tolerance: _,
+            seed,
+            seeds,
+            events,
+            replay,
+            trace,
+            no_journal,
+        } = self;
+        let task = way_of(seed, seeds, replay)?;
+        match clash_with(task, events, dump, trace, no_journal) {
             Some(clash) => Err(clash),
             None => Ok(task),
         }
     }
+}
 
-    // The first option that does not go with a task.
-    fn clash_with(self, task: Task<'a>) -> Option<Clash>
-        ensures value { result ≡ clash_with self.entry task.entry }
-    {
-        match task {
-            Task::Threads => clash_without_seed(self.events),
-            Task::Replay(_) => clash_without_seed(self.events).or(clash_of_journal(
-                self.no_journal,
-            )),
-            Task::Seed(_) => clash_of_journal(self.no_journal),
-            Task::Seeds(_) => {
-                clash_with_seeds(self.events, self.dump, self.trace).or(clash_of_journal(
-                    self.no_journal,
-                ))
-            }
-        }
+// The first option that does not go with a task.
+fn clash_with(
+    task: Task<'_>,
+    events: Option<&str>,
+    dump: Option<&str>,
+    trace: Option<&str>,
+    no_journal: bool,
+) -> Option<Clash>
+    ensures value { result ≡ clash_with events.entry dump.entry trace.entry no_journal task.entry }
+{
+    match task {
+        Task::Threads => clash_without_seed(events),
+        Task::Replay(_) => clash_without_seed(events).or(clash_of_journal(no_journal)),
+        Task::Seed(_) => clash_of_journal(no_journal),
+        Task::Seeds(_) => { clash_with_seeds(events, dump, trace).or(clash_of_journal(no_journal)) }
     }
 }
 
