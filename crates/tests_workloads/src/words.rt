@@ -14,80 +14,67 @@ fn answer<'a>(alloc: Global, words: &'a [&'a str]) -> Result<Asked<'a>, u8> {
     }
 }
 
-// Arguments, and what they ask for, with the thousandths of the tolerance.
-type Row<'a> = (&'a [&'a str], Asked<'a>, Option<u32>);
+// What the file alone asks for.
+fn plain() -> Asked<'static> {
+    Asked {
+        file: "f",
+        dump: None,
+        lbd1: false,
+        progress: false,
+        tolerance: None,
+        seed: None,
+        seeds: None,
+        events: None,
+        replay: None,
+        trace: None,
+        no_journal: false,
+    }
+}
 
-static ROWS: [Row<'static>; 2] = [
-    (
-        &["charm_run", "f"],
-        Asked {
-            file: "f",
-            dump: None,
-            lbd1: false,
-            progress: false,
-            tolerance: None,
-            seed: None,
-            seeds: None,
-            events: None,
-            replay: None,
-            trace: None,
-            no_journal: false,
-        },
-        None,
-    ),
-    (
-        &[
-            "charm_run",
-            "--replay",
-            "r",
-            "--dump",
-            "p",
-            "--seed",
-            "18446744073709551615",
-            "f",
-            "--lbd1",
-            "--tolerance",
-            "1000",
-            "--events",
-            "e",
-            "--progress",
-            "--seeds",
-            "1000000",
-            "--trace",
-            "t",
-            "--no-journal",
-        ],
-        Asked {
-            file: "f",
-            dump: Some("p"),
-            lbd1: true,
-            progress: true,
-            tolerance: None,
-            seed: Some(u64::MAX),
-            seeds: Some(1_000_000),
-            events: Some("e"),
-            replay: Some("r"),
-            trace: Some("t"),
-            no_journal: true,
-        },
-        Some(1_000),
-    ),
+// Every option at once.
+static EVERY_OPTION: [&str; 19] = [
+    "charm_run",
+    "--replay",
+    "r",
+    "--dump",
+    "p",
+    "--seed",
+    "18446744073709551615",
+    "f",
+    "--lbd1",
+    "--tolerance",
+    "1000",
+    "--events",
+    "e",
+    "--progress",
+    "--seeds",
+    "1000000",
+    "--trace",
+    "t",
+    "--no-journal",
 ];
 
-// Whether the arguments of a row ask for this.
-fn is_asked(alloc: Global, row: &Row<'_>) -> bool {
-    let want = Asked {
-        tolerance: row.2.and_then(Tolerance::new),
-        ..row.1
-    };
-    answer(alloc, row.0) == Ok(want)
+// What they ask for.
+fn all_asked() -> Asked<'static> {
+    Asked {
+        file: "f",
+        dump: Some("p"),
+        lbd1: true,
+        progress: true,
+        tolerance: Tolerance::new(1_000),
+        seed: Some(u64::MAX),
+        seeds: Some(1_000_000),
+        events: Some("e"),
+        replay: Some("r"),
+        trace: Some("t"),
+        no_journal: true,
+    }
 }
 
 #[test]
 fn words_and_what_they_ask_for(rt: HostRuntime) {
-    for row in &ROWS {
-        assert_for(&rt, is_asked(rt.alloc(), row), row.0);
-    }
+    assert!(rt; answer(rt.alloc(), &["charm_run", "f"]) == Ok(plain()));
+    assert!(rt; answer(rt.alloc(), &EVERY_OPTION) == Ok(all_asked()));
 }
 
 // Arguments that ask for no run, and the status: those for help and for the version are no mistakes.
