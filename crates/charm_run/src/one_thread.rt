@@ -99,7 +99,7 @@ fn refuse_list<R: AllocGlobal, E: Write, W: Write>(
     writer: &mut W,
 ) -> u8 {
     let status = report_list(rt.alloc(), writer, fault);
-    let _told = LIST_ADVICE.tell_lost_trace(rt.alloc(), errors, list, reason, status == BAD_FILE);
+    let _told = LIST_ADVICE.tell(rt.alloc(), errors, list, reason, status == BAD_FILE);
     status
 }
 
@@ -117,13 +117,7 @@ fn open_workload<R: Files + AllocGlobal, E: Write, W: Write>(
         Ok(workload) => Ok(workload),
         Err(ended) => {
             let status = ended.status();
-            let _told = ADVICE.tell_lost_trace(
-                rt.alloc(),
-                errors,
-                asked.file,
-                reason,
-                status == BAD_FILE,
-            );
+            let _told = ADVICE.tell(rt.alloc(), errors, asked.file, reason, status == BAD_FILE);
             Err(status)
         }
     }
