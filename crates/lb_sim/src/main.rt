@@ -44,8 +44,9 @@ fn do_task(rt: &HostRuntime, asked: Asked<'_>) -> u8
     requires some_pe { ForSome asked.procs (λ p. 1 ≤ p) }
     requires few_pes { ForSome asked.procs (λ p. p ≤ Limits.PES) }
 {
+    let file = asked.file;
     match asked.task() {
-        Ok(task) => run_task(rt, asked.file, task),
+        Ok(task) => run_task(rt, file, task),
         Err(clash) => refuse_both(&mut rt.stderr(), clash),
     }
 }
