@@ -11,6 +11,7 @@ mod words;
 
 use crate::words::{RunOptions, read_options};
 use at_sync::Strategy;
+use chain_refinement::Tolerance;
 use hot_spot_run::{ending_of, run_chain_watched, text_of};
 use hot_spot_strip::{Chain, ChainError, Mode, Strip};
 use pe_worker::Watch;
@@ -129,7 +130,7 @@ fn run_and_print<V: Watch + Sync, R: Threads + Wait + Sync + Clock + Print + Epr
     watch: &V,
 ) -> Result<(Outcome<Strip>, u8), ChainError> {
     let config = Config {
-        strategy: Strategy::within(options.tolerance),
+        strategy: Strategy::within(options.tolerance.and_then(Tolerance::new)),
         history: if options.no_journal {
             History::Dropped
         } else {

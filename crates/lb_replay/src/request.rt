@@ -19,8 +19,9 @@ pub struct Asked<'a> {
     pub file: &'a str,
     /// The number of blocks, 1 to 256 (`Limits::PES`), if one is given.
     pub procs: Option<u32>,
-    /// How far the greatest load may be above the least possible one, if it is given.
-    pub tolerance: Option<Tolerance>,
+    /// How far the greatest load may be above the least possible one, in thousandths of that, 0 to 1,000 (`Tolerance::MOST`),
+    /// if it is given.
+    pub tolerance: Option<u32>,
     /// Whether the PEs are to keep their order.
     pub keep_order: bool,
     /// Whether the PEs may change their order, so that the fewest bytes move.
@@ -34,12 +35,12 @@ pub struct Asked<'a> {
 pub enum Task {
     /// It is replayed, for this number of PEs, 1 to 256 (`Limits::PES`), or for that of the dump.
     Replay(Option<u32>),
-    /// The same, within this tolerance.
-    Refine(Option<u32>, Tolerance),
+    /// The same, within this tolerance, in thousandths, 0 to 1,000 (`Tolerance::MOST`).
+    Refine(Option<u32>, u32),
     /// The same, and the PEs keep their order.
-    RefineInOrder(Option<u32>, Tolerance),
+    RefineInOrder(Option<u32>, u32),
     /// Within this tolerance, where the PEs may change their order.
-    RefineInAnyOrder(Option<u32>, Tolerance),
+    RefineInAnyOrder(Option<u32>, u32),
     /// Its decision is checked.
     Check,
 }
@@ -73,20 +74,15 @@ impl Asked<'_> {
     pub fn task(self) -> Result<Task, Clash>
         ensures value { result ≡ task_of self.entry.procs self.entry.tolerance self.entry.keep_order self.entry.any_order self.entry.check }
         ensures may_run { ForSome self.entry.procs (λ p. 1 ≤ p) → ForSome self.entry.procs (λ p. p ≤ Limits.PES)
-            → IfOk result MayRun }
+            → ForSome self.entry.tolerance (λ t. t ≤ Tolerance.MOST) → IfOk result MayRun }
     {
-        let Asked {
-            file: _,
-            procs,
-            tolerance,
-            keep_order,
-            any_order,
-            check,
-        } = self;
-        if check {
-            return check_task(procs, tolerance, keep_order, any_order);
+        if self.check {
+            return self.check_task();
         }
-        match (procs, (tolerance, (keep_order, any_order))) {
+        match (
+            self.procs,
+            (self.tolerance, (self.keep_order, self.any_order)),
+        ) {
             (procs, (None, (false, false))) => Ok(Task::Replay(procs)),
             (_, (None, (true, _))) => Err(Clash::KeepOrderAlone),
             (_, (None, (false, true))) => Err(Clash::AnyOrderAlone),
@@ -96,23 +92,21 @@ impl Asked<'_> {
             (_, (Some(_), (true, true))) => Err(Clash::KeepOrderAndAnyOrder),
         }
     }
-}
 
-// A check, which no other option goes with.
-fn check_task(
-    procs: Option<u32>,
-    tolerance: Option<Tolerance>,
-    keep_order: bool,
-    any_order: bool,
-) -> Result<Task, Clash>
-    ensures { result ≡ check_of procs tolerance keep_order any_order }
-{
-    match (procs, (tolerance, (keep_order, any_order))) {
-        (Some(_), _) => Err(Clash::ProcsAndCheck),
-        (None, (Some(_), _)) => Err(Clash::ToleranceAndCheck),
-        (None, (None, (true, _))) => Err(Clash::KeepOrderAndCheck),
-        (None, (None, (false, true))) => Err(Clash::AnyOrderAndCheck),
-        (None, (None, (false, false))) => Ok(Task::Check),
+    // A check, which no other option goes with.
+    fn check_task(self) -> Result<Task, Clash>
+        ensures { result ≡ check_of self.entry.procs self.entry.tolerance self.entry.keep_order self.entry.any_order }
+    {
+        match (
+            self.procs,
+            (self.tolerance, (self.keep_order, self.any_order)),
+        ) {
+            (Some(_), _) => Err(Clash::ProcsAndCheck),
+            (None, (Some(_), _)) => Err(Clash::ToleranceAndCheck),
+            (None, (None, (true, _))) => Err(Clash::KeepOrderAndCheck),
+            (None, (None, (false, true))) => Err(Clash::AnyOrderAndCheck),
+            (None, (None, (false, false))) => Ok(Task::Check),
+        }
     }
 }
 
@@ -131,15 +125,26 @@ pub fn run<A: Allocator + Copy, R: Read + Drop, W: Write>(
 {
     match task {
         Task::Replay(procs) => replay_file(alloc, file, writer, procs, Way::Least),
-        Task::Refine(procs, tolerance) => {
-            replay_file(alloc, file, writer, procs, Way::Within(tolerance))
+        Task::Refine(procs, thousandths) => {
+            let way = Way::Within(tolerance_of(thousandths));
+            replay_file(alloc, file, writer, procs, way)
         }
-        Task::RefineInOrder(procs, tolerance) => {
-            replay_file(alloc, file, writer, procs, Way::InOrder(tolerance))
+        Task::RefineInOrder(procs, thousandths) => {
+            let way = Way::InOrder(tolerance_of(thousandths));
+            replay_file(alloc, file, writer, procs, way)
         }
-        Task::RefineInAnyOrder(procs, tolerance) => {
-            replay_file(alloc, file, writer, procs, Way::InAnyOrder(tolerance))
+        Task::RefineInAnyOrder(procs, thousandths) => {
+            let way = Way::InAnyOrder(tolerance_of(thousandths));
+            replay_file(alloc, file, writer, procs, way)
         }
         Task::Check => verify_file(alloc, file, writer),
     }
+}
+
+// The tolerance of this number of thousandths.
+fn tolerance_of(thousandths: u32) -> Tolerance
+    requires { thousandths ≤ Tolerance.MOST }
+    ensures { result ≡ thousandths }
+{
+    Tolerance::new(thousandths).unwrap()
 }

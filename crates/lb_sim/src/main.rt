@@ -16,6 +16,7 @@ ghost use Rattle.lb_replay.specs.Requests.{MayRun};
 ghost use Rattle.std.specs.Prelude.{◌≤◌};
 ghost use Rattle.std.specs.Option.{ForSome};
 
+use chain_refinement::Tolerance;
 use chare_index::Limits;
 use lb_replay::{Asked, Ended, Task, dump_advice, run};
 use program_words::{BAD_FILE, on_words, refused};
@@ -43,10 +44,10 @@ fn main(rt: HostRuntime) -> ExitCode {
 fn do_task(rt: &HostRuntime, asked: Asked<'_>) -> u8
     requires some_pe { ForSome asked.procs (λ p. 1 ≤ p) }
     requires few_pes { ForSome asked.procs (λ p. p ≤ Limits.PES) }
+    requires most { ForSome asked.tolerance (λ t. t ≤ Tolerance.MOST) }
 {
-    let file = asked.file;
     match asked.task() {
-        Ok(task) => run_task(rt, file, task),
+        Ok(task) => run_task(rt, asked.file, task),
         Err(clash) => refuse_both(&mut rt.stderr(), clash),
     }
 }

@@ -84,26 +84,8 @@ fn thousandths<'a>() -> ValueParser<'a>
     value_parser!(u32).range(0..=i64::from(Tolerance::MOST))
 }
 
-/// The tolerance that was found. clap refuses one out of range; here it would count as none.
-pub fn tolerance_in(matches: &ArgMatches<'_>) -> Option<Tolerance>
-    ensures tolerance { (n : ℕ) → (result ≡ Some n) ↔ SpellsTolerance (one_text (found_of matches.now) (codes "tolerance")) n }
-{
-    tolerance_of(thousandths_in(matches))
-}
-
-// The tolerance of this number of thousandths, where there is one.
-fn tolerance_of(thousandths: Option<u32>) -> Option<Tolerance>
-    requires { ForSome thousandths (λ t. t ≤ Tolerance.MOST) }
-    ensures { result ≡ thousandths }
-{
-    match thousandths {
-        Some(thousandths) => Some(Tolerance::new(thousandths).unwrap()),
-        None => None,
-    }
-}
-
-// The thousandths that were found.
-fn thousandths_in(matches: &ArgMatches<'_>) -> Option<u32>
+/// The tolerance that was found, in thousandths. clap refuses one out of range; here it would count as none.
+pub fn tolerance_in(matches: &ArgMatches<'_>) -> Option<u32>
     ensures tolerance { (n : ℕ) → (result ≡ Some n) ↔ SpellsTolerance (one_text (found_of matches.now) (codes "tolerance")) n }
     ensures most { ForSome result (λ t. t ≤ Tolerance.MOST) }
 {

@@ -1,4 +1,3 @@
-use chain_refinement::Tolerance;
 use std::alloc::Global;
 
 /// What the arguments of a command line ask for.
@@ -8,8 +7,9 @@ pub struct Asked<'a> {
     pub files: Vec<&'a str, Global>,
     /// The numbers of PEs to plan for, as they were written: [`numbers`](crate::numbers) reads them.
     pub procs: Option<&'a str>,
-    /// How far the greatest load may be above the least possible one, where a decision within a tolerance is reported on too.
-    pub tolerance: Option<Tolerance>,
+    /// How far the greatest load may be above the least possible one, in thousandths of that, 0 to 1,000 (`Tolerance::MOST`),
+    /// where a decision within a tolerance is reported on too.
+    pub tolerance: Option<u32>,
     /// Whether comma-separated values are written.
     pub csv: bool,
     /// Whether the elements that move are listed.

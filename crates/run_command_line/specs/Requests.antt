@@ -40,11 +40,11 @@ clash_of_journal true = Some NoJournalOnOneThread
 clash_of_journal false = None
 
 -- the first option that does not go with a task
-abbrev pub clash_with : Named → Named → Named → Bool → Task → Option Clash
-clash_with events dump trace no_journal Threads = clash_without_seed events
-clash_with events dump trace no_journal (Seed seed) = clash_of_journal no_journal
-clash_with events dump trace no_journal (Seeds seeds) = option_or (clash_with_seeds events dump trace) (clash_of_journal no_journal)
-clash_with events dump trace no_journal (Replay replay) = option_or (clash_without_seed events) (clash_of_journal no_journal)
+abbrev pub clash_with : Asked → Task → Option Clash
+clash_with asked Threads = clash_without_seed asked.events
+clash_with asked (Seed seed) = clash_of_journal asked.no_journal
+clash_with asked (Seeds seeds) = option_or (clash_with_seeds asked.events asked.dump asked.trace) (clash_of_journal asked.no_journal)
+clash_with asked (Replay replay) = option_or (clash_without_seed asked.events) (clash_of_journal asked.no_journal)
 
 -- a task, where nothing that is asked for clashes with it
 abbrev pub unless_clash : Task → Option Clash → Result Task Clash
@@ -52,7 +52,7 @@ unless_clash task None = Ok task
 unless_clash task (Some clash) = Err clash
 
 abbrev pub checked : Asked → Result Task Clash → Result Task Clash
-checked asked (Ok task) = unless_clash task (clash_with asked.events asked.dump asked.trace asked.no_journal task)
+checked asked (Ok task) = unless_clash task (clash_with asked task)
 checked asked (Err clash) = Err clash
 
 -- how the chares are run, or which options do not go together

@@ -1,8 +1,6 @@
 ghost use Rattle.std.specs.Prelude.{◌≡◌};
 ghost use Rattle.run_command_line.specs.Requests.{clash_of_journal, clash_with, clash_with_seeds, clash_without_seed, task_of, way_of};
 
-use chain_refinement::Tolerance;
-
 /// What the arguments of a command line ask for.
 #[derive(Clone, Copy, Debug, PartialEq, Eq)]
 pub struct Asked<'a> {
@@ -14,8 +12,8 @@ pub struct Asked<'a> {
     pub lbd1: bool,
     /// Whether the progress of a run over threads is written also where the standard error is no terminal.
     pub progress: bool,
-    /// The tolerance within which rounds are decided.
-    pub tolerance: Option<Tolerance>,
+    /// The tolerance within which rounds are decided, in thousandths, 0 to 1,000.
+    pub tolerance: Option<u32>,
     /// The seed of a run on one thread.
     pub seed: Option<u64>,
     /// How many seeds are run, 1 to 1,000,000.
@@ -71,42 +69,29 @@ impl<'a> Asked<'a> {
     pub fn task(self) -> Result<Task<'a>, Clash>
         ensures value { result ≡ task_of self.entry }
     {
-        let Asked {
-            file: _,
-            dump,
-            lbd1: _,
-            progress: _,
-            tolerance: _,
-            seed,
-            seeds,
-            events,
-            replay,
-            trace,
-            no_journal,
-        } = self;
-        let task = way_of(seed, seeds, replay)?;
-        match clash_with(task, events, dump, trace, no_journal) {
+        let task = way_of(self.seed, self.seeds, self.replay)?;
+        match self.clash_with(task) {
             Some(clash) => Err(clash),
             None => Ok(task),
         }
     }
-}
 
-// The first option that does not go with a task.
-fn clash_with(
-    task: Task<'_>,
-    events: Option<&str>,
-    dump: Option<&str>,
-    trace: Option<&str>,
-    no_journal: bool,
-) -> Option<Clash>
-    ensures value { result ≡ clash_with events.entry dump.entry trace.entry no_journal task.entry }
-{
-    match task {
-        Task::Threads => clash_without_seed(events),
-        Task::Replay(_) => clash_without_seed(events).or(clash_of_journal(no_journal)),
-        Task::Seed(_) => clash_of_journal(no_journal),
-        Task::Seeds(_) => { clash_with_seeds(events, dump, trace).or(clash_of_journal(no_journal)) }
+    // The first option that does not go with a task.
+    fn clash_with(self, task: Task<'a>) -> Option<Clash>
+        ensures value { result ≡ clash_with self.entry task.entry }
+    {
+        match task {
+            Task::Threads => clash_without_seed(self.events),
+            Task::Replay(_) => clash_without_seed(self.events).or(clash_of_journal(
+                self.no_journal,
+            )),
+            Task::Seed(_) => clash_of_journal(self.no_journal),
+            Task::Seeds(_) => {
+                clash_with_seeds(self.events, self.dump, self.trace).or(clash_of_journal(
+                    self.no_journal,
+                ))
+            }
+        }
     }
 }
 

@@ -22,10 +22,7 @@ fn task(row: &Row) -> Task
     ensures may_run { MayRun result }
 {
     let procs = row.procs.filter(|&p| 1 <= p && p <= Limits::PES);
-    match Tolerance::new(row.tolerance) {
-        Some(tolerance) => Task::RefineInAnyOrder(procs, tolerance),
-        None => Task::Replay(procs),
-    }
+    Task::RefineInAnyOrder(procs, row.tolerance.min(Tolerance::MOST))
 }
 
 // Whether a replay prints the text, from a reader that gives seven bytes per call.

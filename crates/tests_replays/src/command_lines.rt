@@ -1,7 +1,6 @@
 //! Command lines: what their arguments ask for, what is to be done, and the status where they ask for nothing to be done.
 
 use crate::fixtures::{assert_for, same};
-use chain_refinement::Tolerance;
 use lb_replay::{Asked, Clash};
 use program_words::words_status;
 use sim_command_line::{asked, refuse_both};
@@ -27,7 +26,7 @@ fn is_asked(alloc: Global, row: &Asking) -> bool {
     let expected = Asked {
         file,
         procs,
-        tolerance: tolerance.and_then(Tolerance::new),
+        tolerance,
         keep_order,
         any_order,
         check,

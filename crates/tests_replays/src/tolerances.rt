@@ -75,9 +75,7 @@ fn task(row: &Row) -> Task
     ensures may_run { MayRun result }
 {
     let procs = row.procs.filter(|&p| 1 <= p && p <= Limits::PES);
-    let Some(tolerance) = Tolerance::new(row.tolerance) else {
-        return Task::Replay(procs);
-    };
+    let tolerance = row.tolerance.min(Tolerance::MOST);
     if row.keep_order {
         return Task::RefineInOrder(procs, tolerance);
     }
