@@ -14,7 +14,6 @@ pub mod Lending
 pub mod Places
 pub mod Receiving
 pub mod Reasons
-pub mod Reopened
 pub mod Runs
 pub mod Taking
 pub mod Traces

@@ -1,7 +1,4 @@
 pub mod Gathering
 pub mod Numbers
-pub mod Openings
 pub mod Passing
-pub mod Posts
-pub mod Reopened
 pub mod RunAccounts

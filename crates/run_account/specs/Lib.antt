@@ -1,4 +1,3 @@
 pub mod Buffers
 pub mod Gathering
-pub mod Reopenings
 pub mod RunAccounts
