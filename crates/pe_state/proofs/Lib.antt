@@ -14,6 +14,7 @@ pub mod Lending
 pub mod Places
 pub mod Receiving
 pub mod Reasons
+pub mod Reopened
 pub mod Runs
 pub mod Taking
 pub mod Traces

@@ -3,6 +3,7 @@ pub mod Histories
 pub mod InOrder
 pub mod Pes
 pub mod Refusals
+pub mod Reopening
 pub mod Rooms
 pub mod Rows
 pub mod Standing

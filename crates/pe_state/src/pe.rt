@@ -19,6 +19,7 @@ use std::marker::{Model, PhantomData};
 
 mod acting;
 mod handlers;
+mod reopening;
 
 /// A PE of a run: what it holds, and its part of each event. A call that is refused leaves it as it was. Contracts see
 /// it as the record `PeView`. Every element in it is what its journal says, of the array that `H` names: in its room, its

@@ -13,7 +13,7 @@ use Rattle.pe_state.proofs.Receiving.{ExecutesNow, executes_letter}
 use Rattle.pe_queues.specs.Seats.{SeatView, pes, new_seat, after_put, after_take}
 use Rattle.rts_core.specs.Calls.{Call, Receive, HandBack, Look, Send, NoteDone, Act, Depart, Resume, MayCall, IsRunning, after_call, with_call}
 use Rattle.rts_core.specs.Ledgers.{no_ledger, entered_in, IsLocalAccount}
-use Rattle.rts_core.proofs.LocalAccount.{local_call}
+use Rattle.rts_core.proofs.LocalAccount.{local_beginning, local_call}
 use Rattle.pe_worker.specs.Seated.{Beginning, Matches, IsSeated}
 use Rattle.pe_worker.proofs.Matching.{matches_still, matches_take, matches_put, matches_back, matches_new}
 
@@ -169,9 +169,9 @@ module _ {C : Type 0} (step : Step C) (fits : C → Type 0) (pack : C → List �
 
 -- as a PE begins
 pub keeps_new : {C : Type 0} (step : Step C) (opened : List C) (count : ℕ) (run : Beginning C) (pe : PeView C) (seat : SeatView Parcel)
-    → slice_get run.shares pe.me ≡ Some seat.seats → slice_get run.starts pe.me ≡ Some pe → IsLocalAccount step opened pe pe no_ledger → seat ≡ new_seat run.post seat.seats → pes run.post ≡ count
+    → slice_get run.shares pe.me ≡ Some seat.seats → slice_get run.starts pe.me ≡ Some pe → seat ≡ new_seat run.post seat.seats → pes run.post ≡ count
     → IsSeated step opened count run pe seat
-keeps_new step opened count run pe seat share at l is served =
+keeps_new step opened count run pe seat share at is served =
     record {
       own = ap (λ (s : SeatView Parcel). s.post) is;
       share = share;
@@ -179,6 +179,6 @@ keeps_new step opened count run pe seat share at l is served =
       start = pe;
       started = at;
       ledger = no_ledger;
-      local = l;
+      local = local_beginning step opened pe;
       matches = subst (Matches no_ledger) (sym is) (matches_new run.post seat.seats);
     }

@@ -17,7 +17,7 @@ pub record Matches (ledger : Ledger) (seat : SeatView Parcel) : Type 0 where
   pub all_takes : length seat.takes ≡ pes seat.post
   pub matched : (weight : Parcel → ℕ) → sum_by weight ledger.came + sum_each weight seat.puts ≡ sum_by weight ledger.gone + sum_each weight seat.takes
 
--- how a run begins: its queues, its PEs as they open, and how many seats each PE has
+-- how a run begins: its queues, its PEs as they begin, and how many seats each PE has
 pub record Beginning (C : Type 0) : Type 0 where
   pub post : PostView
   pub starts : List (PeView C)

@@ -3,9 +3,10 @@
 ghost use Rattle.std.specs.Prelude.{◌≡◌, ◌+◌, ◌<◌, ◌≤◌, OnErr, OnOk};
 ghost use Rattle.std.specs.VecDeque.{deque_capacity, deque_len};
 
+use at_sync::Board;
 use barrier::{BoardSize, RoundPlaces, RunBoard};
 use chare_index::{Index, Round};
-use chares::{Chare, Note, Openings};
+use chares::{Chare, Note, Openings, Progress};
 use pe_state::PeState;
 use std::alloc::{AllocError, Allocator, Global};
 use std::collections::VecDeque;
@@ -14,36 +15,80 @@ use std::collections::VecDeque;
 /// element that were missing here would be resumed too late, never wrongly.
 #[derive(Drop)]
 pub struct Agenda<J: BoardSize, A: Allocator = Global> {
-    // Those that start, as a run opens, and then those that wait for the round whose places are copied here.
+    // Those that have not started.
+    starting: VecDeque<Index, A>,
+    // Those that wait for the round whose places are copied here.
     due: VecDeque<Index, A>,
     // Those whose reports the board has for the round after that.
     waiting: VecDeque<Index, A>,
     pub(crate) places: RoundPlaces<J, A>,
+    // The last round that was decided before the run, or 0. Its places are copied as the run opens.
+    decided: Round,
+}
+
+/// The last round that a board has decided, or 0.
+pub(crate) fn last_round<A: Allocator>(board: &Board<A>) -> Round {
+    let present = board.database().round();
+    Round::new(present.get().saturating_sub(1)).unwrap()
 }
 
 impl<J: BoardSize, A: Allocator + Copy> Agenda<J, A> {
-    /// The agenda of a PE as a run opens, on which all its elements start. There are `pes` PEs in all.
+    /// The agenda of a PE as a run begins: its elements that have not started, those that wait for a round that the board has
+    /// decided already, and those whose reports of the present round the board has. An element that waits for a round of which its
+    /// PE still owes the note comes to the agenda as that is reported. There are `pes` PEs in all.
     pub fn new<C: Chare<A>, H: Openings<C>>(
         alloc: A,
         pe: &PeState<C, H, A>,
+        board: &Board<A>,
         pes: u32,
     ) -> Result<Self, AllocError>
         requires on_pes { pes ≡ J.pes }
     {
-        let mut due = VecDeque::new(alloc);
-        for (_, element) in pe.room().iter() {
-            due.push_back(element.index())?;
-        }
-        Ok(Agenda {
-            due,
+        let mut agenda = Agenda {
+            starting: VecDeque::new(alloc),
+            due: VecDeque::new(alloc),
             waiting: VecDeque::new(alloc),
             places: RoundPlaces::new(alloc, pes)?,
-        })
+            decided: last_round(board),
+        };
+        for (_, element) in pe.room().iter() {
+            agenda.add(element.index(), element.progress(), board)?;
+        }
+        Ok(agenda)
     }
 
-    /// How many elements are due.
-    pub(crate) fn dues(&self) -> usize {
-        self.due.len()
+    // Puts an element that has come so far to where it belongs.
+    fn add(
+        &mut self,
+        element: Index,
+        progress: Progress,
+        board: &Board<A>,
+    ) -> Result<(), AllocError> {
+        if !progress.started {
+            self.starting.push_back(element)?;
+            return Ok(());
+        }
+        if !progress.synced {
+            return Ok(());
+        }
+        if progress.round.get() < self.decided.get() {
+            self.due.push_back(element)?;
+            return Ok(());
+        }
+        if board.database().reported(element.get()).is_some() {
+            self.waiting.push_back(element)?;
+        }
+        Ok(())
+    }
+
+    /// How many elements have not started.
+    pub(crate) fn starts(&self) -> usize {
+        self.starting.len()
+    }
+
+    /// The next element that has not started, which leaves the agenda.
+    pub(crate) fn next_start(&mut self) -> Option<Index> {
+        self.starting.pop_front()
     }
 
     /// The next element that is due, which leaves the agenda.
@@ -79,6 +124,17 @@ impl<J: BoardSize, A: Allocator + Copy> Agenda<J, A> {
         if let Note::Sync(element, _, _, _, _) = note {
             self.waiting.push_back_reserved(*element);
         }
+    }
+
+    /// The last round that was decided before the run, or 0.
+    pub(crate) fn decided(&self) -> Round {
+        self.decided
+    }
+
+    /// Copies the places of the last round that was decided before the run. No element becomes due by this: those that waited
+    /// for it are due already.
+    pub(crate) fn open(&mut self, board: &RunBoard<J, A>) {
+        let _decided = board.copy_places(self.decided, &mut self.places);
     }
 
     /// Copies the places of a round, if it is decided. Then those that waited for it are due.

@@ -4,6 +4,7 @@ ghost use Rattle.std.specs.Prelude.{◌≡◌, ◌≤◌, IfOk, length};
 ghost use Rattle.at_sync.specs.Boards.{IsBoard};
 ghost use Rattle.lb_database.specs.Measuring.{elements};
 
+use crate::agenda::last_round;
 use crate::ballot::Ballot;
 use crate::seated::{OfRun, RunBeginning};
 use at_sync::Board;
@@ -70,9 +71,9 @@ impl<C: Chare<A>, H: Openings<C> + RunStrategy, J: RunBeginning<C>, A: Allocator
     J,
     A,
 > {
-    /// The queues, words and board of a run as it opens, which takes some bytes for each PE: the only error is that memory was
-    /// refused. Its workers give up after so many idle turns, its elements keep or drop what they have handled, and a round is
-    /// decided by at most so many probe workers, 1 to 64, and by one where its PEs are few.
+    /// The queues, words and board of a run as it opens, or as it is opened again, which takes some bytes for each PE: the only
+    /// error is that memory was refused. Its workers give up after so many idle turns, its elements keep or drop what they have
+    /// handled, and a round is decided by at most so many probe workers, 1 to 64, and by one where its PEs are few.
     pub fn new(
         alloc: A,
         post: Post<Parcel<C, H, A>, A>,
@@ -92,13 +93,14 @@ impl<C: Chare<A>, H: Openings<C> + RunStrategy, J: RunBeginning<C>, A: Allocator
         requires few_workers { probe_workers ≤ Limits.PROBE_WORKERS }
         ensures post { IfOk result (λ field. field ≡ post) }
     {
+        let decided = AtomicU64::new(u64::from(last_round(&board).get()));
         let finished = AtomicBool::new(board.all_finished());
         let ballot = Ballot::new(alloc, post.pes())?;
         Ok(Field {
             post,
             words,
             barrier: Barrier::new(board),
-            decided: AtomicU64::new(0),
+            decided,
             finished,
             stopped: AtomicBool::new(false),
             executed: AtomicU64::new(0),

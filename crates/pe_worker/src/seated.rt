@@ -2,7 +2,6 @@
 
 ghost use Rattle.std.specs.Prelude.{◌≡◌, slice_get, Some};
 ghost use Rattle.pe_queues.specs.Seats.{new_seat, pes};
-ghost use Rattle.rts_core.specs.Ledgers.{no_ledger, IsLocalAccount};
 ghost use Rattle.pe_worker.specs.Seated.{Beginning, IsSeated};
 
 use barrier::{BoardSize, RunStrategy};
@@ -13,7 +12,7 @@ use pe_state::{Parcel, PeState};
 use std::alloc::{Allocator, Global};
 use std::marker::{Brand, Model, PhantomData};
 
-/// Names how a run over threads begins: its queues, its PEs as they open, and how many seats each of them has. What a
+/// Names how a run over threads begins: its queues, its PEs as they begin, and how many seats each of them has. What a
 /// worker's type promises, it promises of this run.
 pub trait RunBeginning<C> {
     /// The beginning.
@@ -64,10 +63,9 @@ impl<C: Chare<A>, H: Openings<C>, J: RunBeginning<C>, A: Allocator> Model for Se
 }
 
 impl<C: Chare<A>, H: Openings<C>, J: RunBeginning<C>, A: Allocator> SeatedPe<C, H, J, A> {
-    /// A PE as it opens, with a seat through which nothing has gone.
+    /// A PE as it begins, with a seat through which nothing has gone.
     pub fn new(pe: PeState<C, H, A>, seat: Seat<Parcel<C, H, A>, A>) -> Self
         requires start { slice_get J.beginning.starts pe.me ≡ Some pe }
-        requires fresh { IsLocalAccount C.step H.opened pe pe no_ledger }
         requires seat { seat ≡ new_seat J.beginning.post seat.seats }
         requires share { slice_get J.beginning.shares pe.me ≡ Some seat.seats }
         requires served { pes J.beginning.post ≡ H.pes }

@@ -150,9 +150,9 @@ impl<C: Chare<A>, H: Openings<C> + RunStrategy, J: RunBeginning<C>, A: Allocator
     J,
     A,
 > {
-    /// Starts the elements of its PE, and then takes turns until every element has finished, this worker meets a fault, or
-    /// another one has. A fault sets the stop flag for all. Whatever happens, it keeps what its PE holds. Who looks on is told of
-    /// each round that it decides, and asked before each start and each turn whether the run is to stop.
+    /// Starts the elements of its PE that have not started, and then takes turns until every element has finished, this worker
+    /// meets a fault, or another one has. A fault sets the stop flag for all. Whatever happens, it keeps what its PE holds. Who
+    /// looks on is told of each round that it decides, and asked before each start and each turn whether the run is to stop.
     pub fn work<G: Gate + Sync, V: Watch + Sync, R: Threads + Wait + Sync>(
         self,
         rt: &R,
@@ -163,6 +163,7 @@ impl<C: Chare<A>, H: Openings<C> + RunStrategy, J: RunBeginning<C>, A: Allocator
         ensures same_me { result.seated.pe.me ≡ self.seated.pe.me }
     {
         let mut worker = self;
+        worker.open(rt, field);
         let worked = worker.start_all(gate, watch, field);
         let worked = match worked {
             Ok(()) => worker.take_turns(rt, gate, watch, field),
@@ -173,6 +174,21 @@ impl<C: Chare<A>, H: Openings<C> + RunStrategy, J: RunBeginning<C>, A: Allocator
             worker.fault = Some(fault);
         }
         worker
+    }
+
+    // Sees to what the board says as the run opens: copies the places of the last round that was decided before, if there is
+    // one. The worker of PE 0 also finds out whether the board has all reports of a round that is not decided.
+    fn open<R: Wait>(&mut self, rt: &R, field: &Field<C, H, J, A>)
+        ensures same { self.new ≡ self.old }
+    {
+        let first = self.me().get() == 0;
+        if !first && self.agenda.decided().get() == 0 {
+            return;
+        }
+        let board = field.barrier.lock(rt);
+        self.agenda.open(&board);
+        let complete = board.is_complete();
+        self.completes = first && complete;
     }
 
     // Starts the elements of the PE, one after another. A letter is flushed after each start, so that the outbox does not grow to all
@@ -186,7 +202,7 @@ impl<C: Chare<A>, H: Openings<C> + RunStrategy, J: RunBeginning<C>, A: Allocator
         ensures same_me { self.new.seated.pe.me ≡ self.old.seated.pe.me }
         ensures cause { IfErr result (HasCause C.step C.pack C.refuses H.opened) }
     {
-        for _element in 0..self.agenda.dues() {
+        for _element in 0..self.agenda.starts() {
             if field.is_stopped() {
                 return Ok(());
             }
@@ -199,7 +215,7 @@ impl<C: Chare<A>, H: Openings<C> + RunStrategy, J: RunBeginning<C>, A: Allocator
         Ok(())
     }
 
-    // Starts the element that is due next, which keeps or drops what it handles as the run says.
+    // Starts the next element that has not started, which keeps or drops what it handles as the run says.
     fn start_next<G: Gate, V: Watch>(
         &mut self,
         gate: &G,
@@ -209,7 +225,7 @@ impl<C: Chare<A>, H: Openings<C> + RunStrategy, J: RunBeginning<C>, A: Allocator
         ensures same_me { self.new.seated.pe.me ≡ self.old.seated.pe.me }
         ensures cause { IfErr result (HasCause C.step C.pack C.refuses H.opened) }
     {
-        let Some(element) = self.agenda.next_due() else {
+        let Some(element) = self.agenda.next_start() else {
             return Ok(());
         };
         self.seated.set_history(element, field.history);

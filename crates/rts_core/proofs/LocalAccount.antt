@@ -17,7 +17,7 @@ use Rattle.pe_state.specs.Rooms.{found, IsKeyed}
 use Rattle.rts_core.specs.Accounts.{message}
 use Rattle.rts_core.specs.Calls.{Call, MayCall, IsRunning, posted_as, came_in, gone_in, sent_in, after_call, with_call}
 use Rattle.pe_state.specs.Histories.{HasHistories}
-use Rattle.rts_core.specs.Ledgers.{Ledger, no_ledger, entered_in, IsSteady, IsLocalAccount}
+use Rattle.rts_core.specs.Ledgers.{Ledger, no_ledger, entered_in, IsSteady, IsLocalAccount, IsUnused}
 use Rattle.rts_core.specs.Places.{Life, lives_in, lives_at, letters_of_entry, sends_of}
 use Rattle.rts_core.specs.Worlds.{opening_pes}
 use Rattle.rts_core.proofs.Weights.{Weight, weigh, of_pe, of_queue, sum_by-flat_map}
@@ -26,7 +26,7 @@ use Rattle.rts_core.proofs.Listings.{no_life, no_letter, sum_zero, pe_lives, que
 use Rattle.rts_core.proofs.LocalBalance.{in_journal, pe_all, balance_moved}
 use Rattle.rts_core.proofs.LocalSends.{sent_moved}
 use Rattle.rts_core.proofs.LocalSteps.{IsStep, call_step}
-use Rattle.rts_core.proofs.LocalCalls.{step_posts}
+use Rattle.rts_core.proofs.LocalCalls.{step_posts, nothing_yet}
 use Rattle.rts_core.proofs.OpeningWeights.{opened_lives, opening_weighs, opening_open, empty_weigh}
 use Rattle.rts_core.proofs.RunAccount.{unlived}
 use Rattle.rts_core.proofs.Sent.{sends_weight}
@@ -65,7 +65,7 @@ module _ {C : Type 0} (step : Step C) (fits : C → Type 0) (pack : C → List �
       subst (λ (v : List LetterView). IsLocalAccount step opened start pe' (entered_in ledger came gone v)) (step_posts step pe pe' came gone sends s)
       (record {
         same_me = m.same_me ∙ l.same_me;
-        letters = balance_moved step pe pe' s.reports s.work came gone ledger m l.letters;
+        letters = balance_moved step start pe pe' s.reports s.work came gone ledger m l.letters;
         lives = λ w steady.
             let a = m.weighs no_letter w in
             let b = steady_work w steady pe keyed s.work m.stood in
@@ -96,6 +96,15 @@ module _ {C : Type 0} (step : Step C) (fits : C → Type 0) (pack : C → List �
       → IsLocalAccount step opened start (after_call step pack unpack pe call) (with_call step pack unpack ledger pe call)
   local_call unpack pe ledger call may running h keyed l =
       local_step pe (after_call step pack unpack pe call) (came_in call) (gone_in pe call) (sent_in step pack unpack pe call) ledger (call_step step pack pe unpack call may running) h keyed l
+
+-- a PE has an empty ledger as it begins
+pub local_beginning : {C : Type 0} (step : Step C) (opened : List C) (pe : PeView C) → IsLocalAccount step opened pe pe no_ledger
+local_beginning step opened pe = record {
+  same_me = refl;
+  letters = nothing_yet pe;
+  lives = λ w steady. refl;
+  sent = λ w. let a = sum_by w (flat_map (sends_of step opened) (lives_at pe)) in omega arith;
+}
 
 -- ---- as a run opens
 
@@ -133,20 +142,16 @@ module _ {C : Type 0} (step : Step C) (pes : ℕ) (chares : List C) (some : 1 �
       by None at = rw at refl
       by (Some chare) at = rw at refl
 
-  -- a PE has an empty ledger as a run opens
-  pub opening_local : All (λ pe. IsLocalAccount step chares pe pe no_ledger) states
-  opening_local = all_of (λ pe. IsLocalAccount step chares pe pe no_ledger) states (λ i pe at. record {
-    same_me = refl;
-    letters = record {
-      conserved = λ g.
-          let b = zero_each (λ (x : PeView C). of_pe no_letter (in_journal g) x) states (states_weigh no_letter (in_journal g) ∙ unlived (in_journal g) (λ e. refl) 0 chares) i pe at in
-          let c = zero_each (λ (x : PeView C). of_pe g no_life x) states (states_weigh g no_life ∙ unlived no_life (λ e. refl) 0 chares) i pe at in
-          let d = pe_all g pe in
-          omega (arith, b, c, d);
-      numbered = let n : pe.count ≡ 0 = (opening_open (Unit {0}) pes chares Least some i pe at).posted_none in rw n refl;
-    };
-    lives = λ w steady. refl;
-    sent = λ w.
+  -- nothing has happened on a PE as a run opens
+  pub opening_unused : All (IsUnused step chares) states
+  opening_unused = all_of (IsUnused step chares) states (λ i pe at. record {
+    no_posts = (opening_open (Unit {0}) pes chares Least some i pe at).posted_none;
+    no_letters = λ g.
+        let b = zero_each (λ (x : PeView C). of_pe no_letter (in_journal g) x) states (states_weigh no_letter (in_journal g) ∙ unlived (in_journal g) (λ e. refl) 0 chares) i pe at in
+        let c = zero_each (λ (x : PeView C). of_pe g no_life x) states (states_weigh g no_life ∙ unlived no_life (λ e. refl) 0 chares) i pe at in
+        let d = pe_all g pe in
+        omega (arith, b, c, d);
+    no_sends = λ w.
         let k = sends_weight step chares w in
         let a = zero_each (λ (x : PeView C). of_pe no_letter k x) states (states_weigh no_letter k ∙ unlived k (nothing_sent w) 0 chares) i pe at in
         let b : sum_by w (flat_map (sends_of step chares) (lives_at pe)) ≡ of_pe no_letter k pe = sum_by-flat_map w (sends_of step chares) (lives_at pe) ∙ pe_lives k pe in

@@ -1,5 +1,5 @@
 -- The local account of one PE is kept by each of its calls. A refused call changes nothing, and so keeps it too.
-use Rattle.std.proofs.Common.{◌≡◌, ℕ, zero, suc, ◌+◌, List, [], ◌∷◌, ◌++◌, length, map, Option, Some, None, sum_by, arith, refl, sym, ◌∙◌, ap, subst}
+use Rattle.std.proofs.Common.{◌≡◌, ℕ, zero, suc, ◌+◌, List, [], ◌∷◌, ◌++◌, length, map, Option, Some, None, sum_by, arith, refl, sym, ◌∙◌, ap, subst, length-append}
 use Rattle.std.specs.List.{flat_map, range_with_len}
 use Rattle.std.proofs.lemmas.List.{map-append}
 use Rattle.std.proofs.lemmas.List.Sums.{sum_by-append}
@@ -64,25 +64,30 @@ pub numbered_ids : (me count : ℕ) (ss : List (ℕ × List ℕ)) → map (λ l.
 numbered_ids me count [] = refl
 numbered_ids me count (s ∷ ss) = ap (λ (v : List (ℕ × ℕ)). (me, count) ∷ v) (numbered_ids me (count + 1) ss)
 
+-- as many letters as are sent
+pub numbered_length : (me count : ℕ) (ss : List (ℕ × List ℕ)) → length (numbered me count ss) ≡ length ss
+numbered_length me count [] = refl
+numbered_length me count (s ∷ ss) = ap suc (numbered_length me (count + 1) ss)
+
 -- numbers go on from the count
-pub ids_join : (me count : ℕ) (old : List LetterView) (ss : List (ℕ × List ℕ)) → map (λ l. l.id) old ≡ map (λ k. (me, k)) (range_with_len 0 count)
-    → map (λ l. l.id) (old ++ numbered me count ss) ≡ map (λ k. (me, k)) (range_with_len 0 (count + length ss))
-ids_join me count old ss h =
-    let z : 0 + count ≡ count = omega arith in
-    let d : range_with_len 0 (count + length ss) ≡ range_with_len 0 count ++ range_with_len (0 + count) (length ss) = range_split 0 count (length ss) in
-    rw (d, z) (rw (map-append, h, numbered_ids me count ss) (sym (map-append (λ (k : ℕ). (me, k)) (range_with_len 0 count) (range_with_len count (length ss)))))
+pub ids_join : (me first count : ℕ) (old : List LetterView) (ss : List (ℕ × List ℕ)) → count ≡ first + length old → map (λ l. l.id) old ≡ map (λ k. (me, k)) (range_with_len first (length old))
+    → map (λ l. l.id) (old ++ numbered me count ss) ≡ map (λ k. (me, k)) (range_with_len first (length (old ++ numbered me count ss)))
+ids_join me first count old ss from h =
+    let n : length (old ++ numbered me count ss) ≡ length old + length ss = length-append old (numbered me count ss) ∙ ap (λ (v : ℕ). length old + v) (numbered_length me count ss) in
+    let d : range_with_len first (length old + length ss) ≡ range_with_len first (length old) ++ range_with_len (first + length old) (length ss) = range_split first (length old) (length ss) in
+    rw (n, d, sym from) (rw (map-append, h, numbered_ids me count ss) (sym (map-append (λ (k : ℕ). (me, k)) (range_with_len first (length old)) (range_with_len count (length ss)))))
 
 module _ {C : Type 0} (step : Step C) where
   -- a step of the PE keeps the account
-  pub balance_moved : (pe pe' : PeView C) (rs : List TraceEntry) (work : Option (Work C)) (came gone : List Parcel) (ledger : Ledger)
-      → Moved step pe pe' rs work came gone → AddsUp pe ledger → AddsUp pe' (entered_in ledger came gone (posted step pe work))
-  balance_moved pe pe' rs work came gone ledger m h =
+  pub balance_moved : (start pe pe' : PeView C) (rs : List TraceEntry) (work : Option (Work C)) (came gone : List Parcel) (ledger : Ledger)
+      → Moved step pe pe' rs work came gone → AddsUp start pe ledger → AddsUp start pe' (entered_in ledger came gone (posted step pe work))
+  balance_moved start pe pe' rs work came gone ledger m h =
       record {
         conserved = λ g.
             let a = m.weighs g no_life in
             let b = m.weighs no_letter (in_journal g) in
             let c : after (in_journal g) work ≡ before (in_journal g) work + sum_by (weigh g) (work_letters work) = work_journal g work in
-            let d : sum_by (weigh g) (all_letters_at pe) + sum_by (weigh g) (flat_map all_letters_in ledger.gone) ≡ sum_by (weigh g) (flat_map all_letters_in ledger.came) + sum_by (weigh g) ledger.posted = h.conserved g in
+            let d : sum_by (weigh g) (all_letters_at pe) + sum_by (weigh g) (flat_map all_letters_in ledger.gone) ≡ sum_by (weigh g) (all_letters_at start) + sum_by (weigh g) (flat_map all_letters_in ledger.came) + sum_by (weigh g) ledger.posted = h.conserved g in
             let e = pe_all g pe in
             let f = pe_all g pe' in
             let i = parcels_all g came in
@@ -93,8 +98,11 @@ module _ {C : Type 0} (step : Step C) where
             let z : sum_by (weigh no_letter) (posted step pe work) ≡ 0 = sum_zero (posted step pe work) in
             let y : sum_by (weigh no_letter) (work_letters work) ≡ 0 = sum_zero (work_letters work) in
             omega (arith, a, b, c, d, e, f, i, j, k, l, o, z, y, before_none work, after_none work);
+        counted =
+            let a = length-append ledger.posted (posted step pe work) in
+            let b : length (posted step pe work) ≡ length (work_sends step pe.n work) = numbered_length pe.me pe.count (work_sends step pe.n work) in
+            omega (arith, m.counted, h.counted, a, b);
         numbered =
-            subst (λ (v : ℕ). map (λ l. l.id) (ledger.posted ++ posted step pe work) ≡ map (λ k. (v, k)) (range_with_len 0 pe'.count)) (sym m.same_me)
-            (subst (λ (v : ℕ). map (λ l. l.id) (ledger.posted ++ posted step pe work) ≡ map (λ k. (pe.me, k)) (range_with_len 0 v)) (sym m.counted)
-            (ids_join pe.me pe.count ledger.posted (work_sends step pe.n work) h.numbered));
+            subst (λ (v : ℕ). map (λ l. l.id) (ledger.posted ++ posted step pe work) ≡ map (λ k. (v, k)) (range_with_len start.count (length (ledger.posted ++ posted step pe work)))) (sym m.same_me)
+            (ids_join pe.me start.count pe.count ledger.posted (work_sends step pe.n work) h.counted h.numbered);
       }

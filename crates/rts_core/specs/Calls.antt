@@ -106,11 +106,11 @@ module _ {C : Type 0} (step : Step C) (pack : C → List ℕ) (unpack : List ℕ
 
   -- after these calls, from an empty PE on, what the PE has adds up with its ledger
   abbrev pub AddsUpAfter : ℕ → ℕ → List (Call C) → Type 0
-  AddsUpAfter me n calls = AddsUp (after_calls (new_pe me n) calls) (with_calls no_ledger (new_pe me n) calls)
+  AddsUpAfter me n calls = AddsUp (new_pe me n) (after_calls (new_pe me n) calls) (with_calls no_ledger (new_pe me n) calls)
 
   -- one more call keeps that
-  abbrev pub KeepsAddingUp : PeView C → Ledger → Call C → Type 0
-  KeepsAddingUp pe ledger call = MayCall pe call → AddsUp pe ledger → AddsUp (after_call pe call) (with_call ledger pe call)
+  abbrev pub KeepsAddingUp : PeView C → PeView C → Ledger → Call C → Type 0
+  KeepsAddingUp start pe ledger call = MayCall pe call → AddsUp start pe ledger → AddsUp start (after_call pe call) (with_call ledger pe call)
 
   -- one more call, other than the placing of a chare, keeps the local account of a PE whose elements are what their
   -- journals say

@@ -9,7 +9,7 @@ ghost use Rattle.rts_core.specs.Calls.{Call, MayMake, AddsUpAfter, KeepsAddingUp
 ghost use Rattle.rts_core.specs.Events.{After};
 ghost use Rattle.pe_state.specs.Histories.{HasHistories};
 ghost use Rattle.rts_core.specs.Histories.{KeepsSent};
-ghost use Rattle.rts_core.specs.Ledgers.{Ledger, no_ledger, AddsUp, IsLocalAccount};
+ghost use Rattle.rts_core.specs.Ledgers.{Ledger, no_ledger, AddsUp, IsLocalAccount, IsUnused};
 ghost use Rattle.rts_core.specs.Runs.{ForEachRun, ForEachEvent};
 ghost use Rattle.at_sync.specs.declared.strategy.Strategy.{Strategy};
 ghost use Rattle.rts_core.specs.Worlds.{WorldView, opening_pes, opening_world};
@@ -35,15 +35,17 @@ pub fn account_laws<C: Chare<A>, A: Allocator>()
 /// The account of one PE over its calls, whatever other PEs do. The function does nothing: its clauses are the laws. They
 /// hold for any chares. After any list of calls, also with refused ones, the letters that the PE has posted and received
 /// are those that it has given away and those that it has, where the letters in the journal of an element go with it; and
-/// those that it has posted are numbered in order. One more call keeps this.
+/// those that it has posted are numbered in order. One more call keeps this, whatever the PE began with.
 ///
-/// More is known of a PE whose elements are what their journals say. Its elements are those that it opened with and
-/// received, without those that it has given away, by any weight that no handler changes. And what they have sent is what
-/// the PE has posted. A PE opens so, and each call keeps it, except the placing of a chare.
+/// More is known of a PE whose elements are what their journals say. Its elements are those that it began with and
+/// received, without those that it has given away, by any weight that no handler changes. And what they have sent since is what
+/// the PE has posted. Each PE begins so, and each call keeps it, except the placing of a chare. As a run opens, a PE holds no
+/// letters, and its elements have sent none.
 pub fn local_account_laws<C: Chare<A>, A: Allocator>()
     ensures adds_up { (me n : ℕ) (calls : List (Call C)) → MayMake C.step C.pack C.unpack (new_pe me n) calls → AddsUpAfter C.step C.pack C.unpack me n calls }
-    ensures still_adds_up { (pe : PeView C) (ledger : Ledger) (call : Call C) → KeepsAddingUp C.step C.pack C.unpack pe ledger call }
-    ensures opening { (pes : ℕ) (chares : List C) → 1 ≤ pes → All (λ pe. IsLocalAccount C.step chares pe pe no_ledger) (opening_pes pes chares) }
+    ensures still_adds_up { (start pe : PeView C) (ledger : Ledger) (call : Call C) → KeepsAddingUp C.step C.pack C.unpack start pe ledger call }
+    ensures opening { (pes : ℕ) (chares : List C) → 1 ≤ pes → All (IsUnused C.step chares) (opening_pes pes chares) }
+    ensures beginning { (opened : List C) (pe : PeView C) → IsLocalAccount C.step opened pe pe no_ledger }
     ensures still_accounted { (opened : List C) (start pe : PeView C) (ledger : Ledger) (call : Call C)
         → KeepsLocalAccount C.step C.pack C.unpack C.fits opened start pe ledger call }
 {}

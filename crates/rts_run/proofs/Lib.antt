@@ -1,3 +1,4 @@
+pub mod Again
 pub mod Counts
 pub mod Faults
 pub mod Opened

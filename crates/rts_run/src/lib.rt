@@ -2,6 +2,7 @@
 //!
 //! - [`run`]: runs chares until every one has finished, or a fault is met.
 //! - [`run_watched`]: the same, observed by a [`Watch`].
+//! - [`carry_on`]: goes on from what a run has left that ended early.
 //! - [`Config`]: on how many PEs, with which limits (a [`BodyLimit`] among them), how rounds are decided (a [`Strategy`], within a
 //!   [`Tolerance`]), and whether elements keep what they have handled (a [`History`]).
 //! - [`Outcome`]: what a run left. Nothing is lost, whatever the schedule was and whatever went wrong.
@@ -33,6 +34,7 @@ mod error;
 mod gathering;
 mod opened_run;
 mod outcome;
+mod reopening;
 mod running;
 mod workers;
 
@@ -43,4 +45,4 @@ pub use config::Config;
 pub use error::{RunError, Setting};
 pub use outcome::Outcome;
 pub use pe_worker::{Fault, NoWatch, PeStep, Watch};
-pub use running::{run, run_watched};
+pub use running::{carry_on, run, run_watched};

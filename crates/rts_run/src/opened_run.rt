@@ -1,4 +1,4 @@
-//! What a run opens with.
+//! What a run begins with.
 
 ghost use Rattle.std.specs.Prelude.{◌≡◌, ◌≤◌, IfOk, length, map, sum_by};
 ghost use Rattle.std.specs.List.{range_with_len};
@@ -7,8 +7,11 @@ ghost use Rattle.chare_index.specs.declared.limits.TheConstants.Limits.{SEATS};
 ghost use Rattle.pe_queues.specs.Seats.{pes};
 ghost use Rattle.rts_run.specs.Configs.{IsWithin};
 ghost use Rattle.rts_run.specs.Openings.{AreNewSeats, IsBeginning};
+ghost use Rattle.rts_run.specs.Outcomes.{IsOutcome};
 
 use crate::config::Config;
+use crate::outcome::Outcome;
+use crate::reopening::{places_of, reopen_all};
 use crate::workers::open_workers;
 use at_sync::Board;
 use barrier::RunStrategy;
@@ -22,8 +25,8 @@ use std::alloc::{AllocError, Allocator};
 use std::collections::VecDeque;
 use std::marker::Model;
 
-/// A run that has opened, before its workers begin: its queues with a seat for each PE, its PEs, a location word for each element,
-/// and its board. Contracts see its beginning.
+/// A run that has opened, or opened again, before its workers begin: its queues with a seat for each PE, its PEs, a location word for
+/// each element, and its board. Contracts see its beginning.
 #[derive(Drop)]
 pub(crate) struct OpenedRun<C: Chare<A>, H: Openings<C> + RunStrategy, A: Allocator> {
     post: Post<Parcel<C, H, A>, A>,
@@ -43,7 +46,7 @@ impl<C: Chare<A>, H: Openings<C> + RunStrategy, A: Allocator> Model for OpenedRu
     ghost view = { λ o. record { post = o.post; starts = o.states.items; shares = map (λ s. s.seats) o.seats.items } };
 
     ghost invariant = { λ o.
-        IsBeginning H.pes H.opened (record { post = o.post; starts = o.states.items; shares = map (λ s. s.seats) o.seats.items })
+        IsBeginning C.step H.pes H.opened (record { post = o.post; starts = o.states.items; shares = map (λ s. s.seats) o.seats.items })
         × AreNewSeats o.post o.seats.items × AreOfRun H.pes (length H.opened) H.strategy o.words o.board };
 }
 
@@ -72,6 +75,33 @@ impl<C: Chare<A>, H: Openings<C> + RunStrategy, A: Allocator + Copy> OpenedRun<C
         })
     }
 
+    /// A run that goes on from what an earlier run of the chares that `H` names has left. The only error is that memory was refused.
+    pub(crate) fn again(
+        alloc: A,
+        config: &Config,
+        outcome: Outcome<C, A>,
+    ) -> Result<Self, AllocError>
+        requires within { IsWithin config.now }
+        requires few { length H.opened ≤ Limits.ELEMENTS }
+        requires run { config.now.pes ≡ H.pes }
+        requires earlier { IsOutcome C.step C.fits C.pack C.refuses H.opened H.pes H.strategy outcome }
+        ensures capacity { IfOk result (λ o. o.post.capacity ≡ config.now.capacity) }
+    {
+        let (ends, left, board, _) = outcome.into_parts();
+        let n = board.len() as u32;
+        let states = reopen_all(alloc, config.pes, ends, left)?;
+        let places = places_of::<C, H, A>(alloc, n, config.pes, &states)?;
+        let words = Locations::<OfRun<C, H>, A>::new(alloc, &places, config.pes)?;
+        let (post, seats) = open_post::<C, H, A>(alloc, config)?;
+        Ok(OpenedRun {
+            post,
+            seats,
+            states,
+            words,
+            board,
+        })
+    }
+
     /// What its workers share, and a worker for each PE, in order. The only error is that memory was refused.
     pub(crate) fn begin<J: RunBeginning<C>>(
         self,
@@ -81,7 +111,7 @@ impl<C: Chare<A>, H: Openings<C> + RunStrategy, A: Allocator + Copy> OpenedRun<C
         requires beginning { self ≡ J.beginning }
         requires within { IsWithin config.now }
         requires run { config.now.pes ≡ H.pes }
-        ensures beginning { IfOk result (λ _. IsBeginning H.pes H.opened J.beginning) }
+        ensures beginning { IfOk result (λ _. IsBeginning C.step H.pes H.opened J.beginning) }
         ensures in_order { IfOk result (λ made. map (λ w. w.seated.pe.me) made.1.items ≡ range_with_len 0 H.pes) }
         ensures counted { IfOk result (λ made. deque_len made.1 ≡ H.pes) }
     {
@@ -93,7 +123,7 @@ impl<C: Chare<A>, H: Openings<C> + RunStrategy, A: Allocator + Copy> OpenedRun<C
             board,
         } = self;
         let (states, seats) = (VecDeque::from_vec(states), VecDeque::from_vec(seats));
-        let workers = open_workers::<C, H, J, A>(alloc, config, states, seats)?;
+        let workers = open_workers::<C, H, J, A>(alloc, config, &board, states, seats)?;
         let field = Field::new(
             alloc,
             post,

@@ -4,9 +4,9 @@ ghost use Rattle.std.specs.Prelude.{◌≡◌, ◌<◌, All, IfOk, Some, length,
 ghost use Rattle.std.specs.List.{range_with_len};
 ghost use Rattle.std.specs.VecDeque.{deque_len};
 ghost use Rattle.pe_queues.specs.Seats.{new_seat, pes};
-ghost use Rattle.rts_core.specs.Ledgers.{no_ledger, IsLocalAccount};
 
 use crate::config::Config;
+use at_sync::Board;
 use barrier::RunStrategy;
 use chares::{BodyLimit, Chare, Openings};
 use pe_queues::Seat;
@@ -25,6 +25,7 @@ pub(crate) fn open_workers<
 >(
     alloc: A,
     config: &Config,
+    board: &Board<A>,
     mut states: VecDeque<PeState<C, H, A>, A>,
     mut seats: VecDeque<Seat<Parcel<C, H, A>, A>, A>,
 ) -> Result<VecDeque<Worker<C, H, J, A>, A>, AllocError>
@@ -34,7 +35,6 @@ pub(crate) fn open_workers<
     requires shares { map (λ s. s.seats) seats.items ≡ J.beginning.shares }
     requires in_order { map (λ pe. pe.me) states.items ≡ range_with_len 0 (length states.items) }
     requires as_many { length states.items ≡ length seats.items }
-    requires fresh { All (λ pe. IsLocalAccount C.step H.opened pe pe no_ledger) states.items }
     requires new { All (λ s. s ≡ new_seat J.beginning.post s.seats) seats.items }
     ensures in_order { IfOk result (λ workers. map (λ w. w.seated.pe.me) workers.items ≡ range_with_len 0 (length states.items)) }
     ensures counted { IfOk result (λ workers. deque_len workers ≡ length states.items) }
@@ -44,7 +44,7 @@ pub(crate) fn open_workers<
         let Some(seat) = take_next(&mut seats) else {
             unreachable!()
         };
-        let agenda = Agenda::new(alloc, &pe, config.pes)?;
+        let agenda = Agenda::new(alloc, &pe, board, config.pes)?;
         let seated = seated(pe, seat, config.longest);
         workers.push_back_reserved(Worker::new(seated, agenda));
     }
@@ -58,7 +58,6 @@ fn seated<C: Chare<A>, H: Openings<C> + RunStrategy, J: RunBeginning<C>, A: Allo
     longest: BodyLimit,
 ) -> SeatedPe<C, H, J, A>
     requires start { slice_get J.beginning.starts pe.me ≡ Some pe }
-    requires fresh { IsLocalAccount C.step H.opened pe pe no_ledger }
     requires seat { seat ≡ new_seat J.beginning.post seat.seats }
     requires share { slice_get J.beginning.shares pe.me ≡ Some seat.seats }
     requires served { pes J.beginning.post ≡ H.pes }

@@ -1,5 +1,5 @@
 -- One more PE is gathered with those that were gathered before.
-use Rattle.std.proofs.Common.{◌≡◌, ℕ, ◌+◌, List, [], ◌∷◌, ◌++◌, length, map, Some, sum_by, arith, refl, sym, ◌∙◌, ap, length-append}
+use Rattle.std.proofs.Common.{◌≡◌, ℕ, ◌+◌, ◌-◌, ◌≤◌, List, [], ◌∷◌, ◌++◌, length, map, Some, sum_by, arith, refl, sym, ◌∙◌, ap, length-append}
 use Rattle.std.specs.Prelude.{slice_get}
 use Rattle.std.specs.List.{flat_map, range_with_len}
 use Rattle.std.specs.Option.{option_map_or}
@@ -19,7 +19,7 @@ use Rattle.rts_core.proofs.LocalAccount.{lives_joined, sends_joined}
 use Rattle.rts_core.proofs.LocalBalance.{joined_all, range_split}
 use Rattle.pe_worker.specs.Seated.{Beginning, Matches, IsSeated}
 use Rattle.pe_worker.proofs.Matching.{each_both, each_length}
-use Rattle.run_account.specs.Gathering.{AreGathered, weigh, numbers_of, lives_of, began_with, share_at}
+use Rattle.run_account.specs.Gathering.{AreGathered, weigh, numbers_since, letters_of, lives_of, sends_by, at_start, count_before, share_at}
 
 append_none : {X : Type 0} (xs : List X) → xs ++ [] ≡ xs
 append_none [] = refl
@@ -48,8 +48,24 @@ module _ {C : Type 0} (step : Step C) (fits : C → Type 0) (pack : C → List �
   abbrev pub Tied : List (PeView C) → SeatView Parcel → Type 0
   Tied ends seat = AreGathered step fits pack opened run ends seat
 
-  began : (weight : Life → ℕ) (q : ℕ) (start : PeView C) → slice_get run.starts q ≡ Some start → began_with weight run.starts q ≡ lives_of weight start
-  began weight q start at = ap (λ o. option_map_or (lives_of weight) o 0) at
+  began : (weight : PeView C → ℕ) (q : ℕ) (start : PeView C) → slice_get run.starts q ≡ Some start → at_start weight run.starts q ≡ weight start
+  began weight q start at = ap (λ o. option_map_or weight o 0) at
+
+  -- what one PE has posted since it began, of which its count has grown
+  module _ (pe : PeView C) (seat : SeatView Parcel) (w : IsSeated step opened count run pe seat) where
+    before : count_before run.starts pe.me ≡ w.start.count
+    before = began (λ x. x.count) pe.me w.start w.started
+
+    has_grown : count_before run.starts pe.me ≤ pe.count
+    has_grown = omega (arith, before, w.local.letters.counted)
+
+    since : map (λ l. l.id) w.ledger.posted ≡ numbers_since run.starts pe
+    since =
+        let n : length w.ledger.posted ≡ pe.count - count_before run.starts pe.me = omega (arith, before, w.local.letters.counted) in
+        w.local.letters.numbered ∙ ap (λ (v : ℕ × ℕ). map (λ k. (pe.me, k)) (range_with_len v.0 v.1)) (pairs (sym before) n)
+      where
+        pairs : {a b c d : ℕ} → a ≡ b → c ≡ d → (a, c) ≡ (b, d)
+        pairs e f = cc
 
   pub gathered_first : (pe : PeView C) (seat : SeatView Parcel) → IsSeated step opened count run pe seat → HasHistories step fits pack opened pe → pe.me ≡ 0 → Tied (pe ∷ []) seat
   gathered_first pe seat w h first =
@@ -65,24 +81,31 @@ module _ {C : Type 0} (step : Step C) (fits : C → Type 0) (pack : C → List �
         ledger = w.ledger;
         letters = λ g.
             let a = w.local.letters.conserved g in
-            let b = sum_by-cons (λ (x : PeView C). sum_by (weigh g) (all_letters_at x)) pe [] in
-            let z : sum_by (λ (x : PeView C). sum_by (weigh g) (all_letters_at x)) [] ≡ 0 = refl in
-            omega (arith, a, b, z);
-        numbered = w.local.letters.numbered ∙ sym (append_none (numbers_of pe));
+            let b = sum_by-cons (letters_of g) pe [] in
+            let c = sum_by-cons (λ (x : PeView C). at_start (letters_of g) run.starts x.me) pe [] in
+            let d = began (letters_of g) pe.me w.start w.started in
+            let z : sum_by (letters_of {C = C} g) [] ≡ 0 = refl in
+            let y : sum_by (λ (x : PeView C). at_start (letters_of g) run.starts x.me) [] ≡ 0 = refl in
+            omega (arith, a, b, c, d, z, y);
+        grown = All-cons (λ (x : PeView C). count_before run.starts x.me ≤ x.count) pe [] (has_grown pe seat w) (All-nil (λ (x : PeView C). count_before run.starts x.me ≤ x.count));
+        numbered = since pe seat w ∙ sym (append_none (numbers_since run.starts pe));
         lives = λ g steady.
             let a = w.local.lives g steady in
             let b = sum_by-cons (lives_of g) pe [] in
-            let c = sum_by-cons (λ (x : PeView C). began_with g run.starts x.me) pe [] in
-            let d = began g pe.me w.start w.started in
+            let c = sum_by-cons (λ (x : PeView C). at_start (lives_of g) run.starts x.me) pe [] in
+            let d = began (lives_of g) pe.me w.start w.started in
             let z : sum_by (lives_of {C = C} g) [] ≡ 0 = refl in
-            let y : sum_by (λ (x : PeView C). began_with g run.starts x.me) [] ≡ 0 = refl in
+            let y : sum_by (λ (x : PeView C). at_start (lives_of g) run.starts x.me) [] ≡ 0 = refl in
             omega (arith, a, b, c, d, z, y);
         sent = λ g.
             let a = w.local.sent g in
-            let f : PeView C → ℕ = λ x. sum_by g (flat_map (sends_of step opened) (lives_at x)) in
+            let f : PeView C → ℕ = sends_by step opened g in
             let b : sum_by f (pe ∷ []) ≡ f pe + sum_by f [] = sum_by-cons f pe [] in
+            let c = sum_by-cons (λ (x : PeView C). at_start f run.starts x.me) pe [] in
+            let d : at_start f run.starts pe.me ≡ f w.start = began f pe.me w.start w.started in
             let z : sum_by f [] ≡ 0 = refl in
-            omega (arith, a, b, z);
+            let y : sum_by (λ (x : PeView C). at_start f run.starts x.me) [] ≡ 0 = refl in
+            omega (arith, a, b, c, d, z, y);
         matches = w.matches;
       }
 
@@ -107,33 +130,39 @@ module _ {C : Type 0} (step : Step C) (fits : C → Type 0) (pack : C → List �
         letters = λ g.
             let a = t.letters g in
             let b = w.local.letters.conserved g in
-            let c = sum_by_push (λ (x : PeView C). sum_by (weigh g) (all_letters_at x)) ends pe in
+            let c = sum_by_push (letters_of g) ends pe in
             let d = joined_all g t.ledger.came w.ledger.came in
             let e = joined_all g t.ledger.gone w.ledger.gone in
             let f = sum_by-append (weigh g) t.ledger.posted w.ledger.posted in
-            omega (arith, a, b, c, d, e, f);
+            let h = sum_by_push (λ (x : PeView C). at_start (letters_of g) run.starts x.me) ends pe in
+            let i = began (letters_of g) pe.me w.start w.started in
+            omega (arith, a, b, c, d, e, f, h, i);
+        grown = All-push (λ (x : PeView C). count_before run.starts x.me ≤ x.count) ends pe t.grown (has_grown pe other w);
         numbered =
+            let n : PeView C → List (ℕ × ℕ) = numbers_since run.starts in
             let a = map-append (λ (l : LetterView). l.id) t.ledger.posted w.ledger.posted in
-            let b : flat_map numbers_of (ends ++ pe ∷ []) ≡ flat_map numbers_of ends ++ flat_map numbers_of (pe ∷ []) = flat_map-append numbers_of ends (pe ∷ []) in
-            let c : flat_map numbers_of (pe ∷ []) ≡ numbers_of pe = append_none (numbers_of pe) in
-            a ∙ (ap (λ v. v ++ map (λ (l : LetterView). l.id) w.ledger.posted) t.numbered ∙ (ap (λ v. flat_map numbers_of ends ++ v) (w.local.letters.numbered ∙ sym c) ∙ sym b));
+            let b : flat_map n (ends ++ pe ∷ []) ≡ flat_map n ends ++ flat_map n (pe ∷ []) = flat_map-append n ends (pe ∷ []) in
+            let c : flat_map n (pe ∷ []) ≡ n pe = append_none (n pe) in
+            a ∙ (ap (λ v. v ++ map (λ (l : LetterView). l.id) w.ledger.posted) t.numbered ∙ (ap (λ v. flat_map n ends ++ v) (since pe other w ∙ sym c) ∙ sym b));
         lives = λ g steady.
             let a = t.lives g steady in
             let b = w.local.lives g steady in
             let c = sum_by_push (lives_of g) ends pe in
-            let d = sum_by_push (λ (x : PeView C). began_with g run.starts x.me) ends pe in
-            let e = began g pe.me w.start w.started in
+            let d = sum_by_push (λ (x : PeView C). at_start (lives_of g) run.starts x.me) ends pe in
+            let e = began (lives_of g) pe.me w.start w.started in
             let i = lives_joined g t.ledger.came w.ledger.came in
             let j = lives_joined g t.ledger.gone w.ledger.gone in
             omega (arith, a, b, c, d, e, i, j);
         sent = λ g.
             let a = t.sent g in
             let b = w.local.sent g in
-            let f : PeView C → ℕ = λ x. sum_by g (flat_map (sends_of step opened) (lives_at x)) in
+            let f : PeView C → ℕ = sends_by step opened g in
             let c : sum_by f (ends ++ pe ∷ []) ≡ sum_by f ends + f pe = sum_by_push f ends pe in
+            let d = sum_by_push (λ (x : PeView C). at_start f run.starts x.me) ends pe in
+            let e : at_start f run.starts pe.me ≡ f w.start = began f pe.me w.start w.started in
             let i = sends_joined step opened g t.ledger.came w.ledger.came in
             let j = sends_joined step opened g t.ledger.gone w.ledger.gone in
             let p : sum_by (λ l. g (message l)) (t.ledger.posted ++ w.ledger.posted) ≡ sum_by (λ l. g (message l)) t.ledger.posted + sum_by (λ l. g (message l)) w.ledger.posted = sum_by-append (λ (l : LetterView). g (message l)) t.ledger.posted w.ledger.posted in
-            omega (arith, a, b, c, i, j, p);
+            omega (arith, a, b, c, d, e, i, j, p);
         matches = both_match t.ledger w.ledger seat other (t.own ∙ sym w.own) t.matches w.matches;
       }

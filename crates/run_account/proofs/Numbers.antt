@@ -43,10 +43,10 @@ module _ {C : Type 0} where
   abbrev pub InOrder : ℕ → List (PeView C) → Type 0
   InOrder a ends = map (λ pe. pe.me) ends ≡ range_with_len a (length ends)
 
-  first_of : (a : ℕ) (pe : PeView C) (ends : List (PeView C)) → InOrder a (pe ∷ ends) → pe.me ≡ a
+  pub first_of : (a : ℕ) (pe : PeView C) (ends : List (PeView C)) → InOrder a (pe ∷ ends) → pe.me ≡ a
   first_of a pe ends is = cc
 
-  rest_of : (a : ℕ) (pe : PeView C) (ends : List (PeView C)) → InOrder a (pe ∷ ends) → InOrder (a + 1) ends
+  pub rest_of : (a : ℕ) (pe : PeView C) (ends : List (PeView C)) → InOrder a (pe ∷ ends) → InOrder (a + 1) ends
   rest_of a pe ends is = cc
 
   one_more : (q j : ℕ) (pe : PeView C) (ends : List (PeView C))

@@ -1,3 +1,4 @@
 pub mod Buffers
 pub mod Gathering
+pub mod Reopenings
 pub mod RunAccounts

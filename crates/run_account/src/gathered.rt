@@ -1,10 +1,10 @@
 //! The PEs of a run, gathered from their workers.
 
 ghost use Rattle.std.specs.Prelude.{◌≡◌, ◌+◌, ◌++◌, ◌∷◌, [], ◌<◌, ◌≤◌, length, map, sum_by, vec_capacity};
+ghost use Rattle.std.specs.List.{range_with_len};
 ghost use Rattle.chare_index.specs.declared.limits.TheConstants.Limits.{SEATS};
 ghost use Rattle.pe_queues.specs.Seats.{pes};
 ghost use Rattle.rts_core.specs.Histories.{AreHistories};
-ghost use Rattle.rts_core.specs.Worlds.{opening_pes};
 ghost use Rattle.run_account.specs.RunAccounts.{IsRunAccount, left_world};
 
 use crate::left_buffers::LeftBuffers;
@@ -80,7 +80,8 @@ impl<C: Chare<A>, H: Openings<C>, J: RunBeginning<C>, A: Allocator> Gathered<C, 
     }
 
     /// Ends the queues, once all PEs are gathered, and returns the PEs, in order, and what is left in the queue of each,
-    /// front first. The clause `account` is the account of the run. This takes no memory.
+    /// front first. The clause `account` is the account of the run, with what the PEs that it began with had done before. This takes
+    /// no memory.
     pub fn settled<R: Wait>(
         self,
         rt: &R,
@@ -91,8 +92,8 @@ impl<C: Chare<A>, H: Openings<C>, J: RunBeginning<C>, A: Allocator> Gathered<C, 
         requires all_seats { sum_by (λ n. n) J.beginning.shares ≡ SEATS }
         requires shared { length self.ends ≡ length J.beginning.shares }
         requires whole { length self.ends ≡ length J.beginning.starts }
-        requires opening { J.beginning.starts ≡ opening_pes H.pes H.opened }
-        requires some_pe { 1 ≤ H.pes }
+        requires in_order { map (λ pe. pe.me) J.beginning.starts ≡ range_with_len 0 (length J.beginning.starts) }
+        requires beginning { IsRunAccount C.step H.opened (left_world J.beginning.starts []) }
         requires served { pes post ≡ length self.ends }
         requires one_each { room.queues ≡ length self.ends }
         requires wide { room.capacity ≡ post.capacity }

@@ -52,8 +52,11 @@ settled-ends-requires-clause-whole g c =
     let n = counted_by (λ w. w.seated.pe.me) 0 g.H.Openings.pes c.work_all-done.result.items (c.work_all-done.ensures.in_order ∙ c.in_ok-field.ensures.in_order) in
     omega (arith, n, ap length c.in-Some.ensures.taken, c.gather-gathered.ensures.all, c.in_ok-field.ensures.beginning.counted)
 
-pub settled-ends-requires-clause-opening : goal.settled-ends-requires-clause-opening
-settled-ends-requires-clause-opening g c = c.in_ok-field.ensures.beginning.opening
+pub settled-ends-requires-clause-in_order : goal.settled-ends-requires-clause-in_order
+settled-ends-requires-clause-in_order g c = c.in_ok-field.ensures.beginning.in_order
+
+pub settled-ends-requires-clause-beginning : goal.settled-ends-requires-clause-beginning
+settled-ends-requires-clause-beginning g c = c.in_ok-field.ensures.beginning.account
 
 pub settled-ends-requires-clause-served : goal.settled-ends-requires-clause-served
 settled-ends-requires-clause-served g c =

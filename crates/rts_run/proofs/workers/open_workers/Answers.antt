@@ -2,7 +2,6 @@ use Rattle.std.proofs.Common.{◌≡◌, ◌∙◌, ℕ, arith, ap, sym, refl, s
 use Rattle.std.specs.Prelude.{slice_get}
 use Rattle.std.specs.List.{range_with_len}
 use Rattle.pe_queues.specs.Seats.{new_seat}
-use Rattle.rts_core.specs.Ledgers.{no_ledger, IsLocalAccount}
 use Rattle.rts_core.proofs.Openings.{drop_next}
 use Rattle.run_account.proofs.Passing.{next_is, rest_is, more_in_order, all_next, drop_head, counted_more}
 use Rattle.rts_run.proofs.workers.open_workers.Goals as goal
@@ -19,7 +18,6 @@ loop-pe-init g c =
       starts = rw e c.requires.starts;
       shares = rw e c.requires.shares;
       in_order = rw e c.requires.in_order;
-      fresh = c.requires.fresh;
       new = c.requires.new;
     }
 
@@ -35,10 +33,6 @@ seated-seated-requires-clause-share g c =
     let i = c.loop-pe.invariant in
     rw (next_is (λ pe. pe.me) (length c.loop-pe.workers.items) c.in-Some.pe c.take_next.new.left.items c.loop-pe.states.items c.in-Some.ensures.taken i.in_order)
     (drop_head (λ s. s.seats) g.J.RunBeginning.beginning.shares (length c.loop-pe.workers.items) c.in-Some-take_next.seat c.take_next-in-Some.new.left.items c.loop-pe.seats.items c.in-Some-take_next.ensures.taken i.shares).1
-
-pub seated-seated-requires-clause-fresh : goal.seated-seated-requires-clause-fresh
-seated-seated-requires-clause-fresh g c =
-    (all_next (λ pe. IsLocalAccount g.C.Chare.step g.H.Openings.opened pe pe no_ledger) c.in-Some.pe c.take_next.new.left.items c.loop-pe.states.items c.in-Some.ensures.taken c.loop-pe.invariant.fresh).0
 
 pub seated-seated-requires-clause-seat : goal.seated-seated-requires-clause-seat
 seated-seated-requires-clause-seat g c =
@@ -60,7 +54,6 @@ loop-pe-preserved g c =
       starts = rw n (drop_next g.J.RunBeginning.beginning.starts (length made) c.in-Some.pe c.take_next.new.left.items (sym is ∙ i.starts)).0;
       shares = rw n (drop_head (λ s. s.seats) g.J.RunBeginning.beginning.shares (length made) c.in-Some-take_next.seat c.take_next-in-Some.new.left.items c.loop-pe.seats.items at i.shares).0;
       in_order = rw n (rest_is (λ pe. pe.me) (length made) c.in-Some.pe c.take_next.new.left.items c.loop-pe.states.items is i.in_order);
-      fresh = (all_next (λ pe. IsLocalAccount g.C.Chare.step g.H.Openings.opened pe pe no_ledger) c.in-Some.pe c.take_next.new.left.items c.loop-pe.states.items is i.fresh).1;
       new = (all_next (λ s. s ≡ new_seat g.J.RunBeginning.beginning.post s.seats) c.in-Some-take_next.seat c.take_next-in-Some.new.left.items c.loop-pe.seats.items at i.new).1;
     }
 

@@ -3,7 +3,6 @@ use Rattle.std.specs.Prelude.{All}
 use Rattle.std.specs.List.{range_with_len}
 use Rattle.std.specs.VecDeque.{deque_capacity}
 use Rattle.pe_queues.specs.Seats.{new_seat}
-use Rattle.rts_core.specs.Ledgers.{no_ledger, IsLocalAccount}
 use Rattle.rts_run.proofs.workers.open_workers.Given as goal
 
 abbrev pub invariant-loop-pe : goal.invariant-loop-pe
@@ -15,7 +14,6 @@ invariant-loop-pe g l = record {
   starts : l.states.items ≡ drop (length l.workers.items) g.J.RunBeginning.beginning.starts;
   shares : map (λ s. s.seats) l.seats.items ≡ drop (length l.workers.items) g.J.RunBeginning.beginning.shares;
   in_order : map (λ pe. pe.me) l.states.items ≡ range_with_len (length l.workers.items) (length l.states.items);
-  fresh : All (λ pe. IsLocalAccount g.C.Chare.step g.H.Openings.opened pe pe no_ledger) l.states.items;
   new : All (λ s. s ≡ new_seat g.J.RunBeginning.beginning.post s.seats) l.seats.items;
 }
 
