@@ -58,6 +58,21 @@ impl<A: Allocator> Annals<A> {
         }
     }
 
+    /// Annals of so many entries, all of them settled, which keep those to come.
+    pub(crate) fn arrived(alloc: A, past: Past, settled: u64) -> Self
+    where
+        A: Copy,
+        requires counted { length past.entries ≡ settled }
+        ensures value { result.entries ≡ past.entries }
+    {
+        Annals {
+            past,
+            kept: Journal::new(alloc),
+            settled,
+            history: History::Kept,
+        }
+    }
+
     /// Keeps or drops what is handled from now on.
     pub(crate) fn set_history(&mut self, history: History)
         ensures entries { self.new.entries ≡ self.old.entries }

@@ -86,6 +86,21 @@ pub trait Chare<A: Allocator>: Pup<A> + Drop {
     ghost packs: { (s : Self) → Self.fits s → Self.counted s × (length (Self.pack s) ≤ STATE_BYTES) };
 }
 
+/// A chare that can be given what no contract sees, as the answer to its next entry that was worked out elsewhere. It leaves
+/// the chare as it is.
+pub trait Armed<A: Allocator>: Chare<A> {
+    /// What it is given.
+    type Given: Drop;
+
+    /// What it may be given.
+    ghost may_take: { Self → Self.Given → Type 0 };
+
+    /// Takes it.
+    fn take_in(&mut self, given: Self::Given)
+        requires fit { may_take self.old given }
+        ensures kept { self.new ≡ self.old };
+}
+
 /// Names an opening of a run: the chares that it begins with, in order of their index, and the number of its PEs.
 /// What a type promises of a whole run, such as what an element has done since the opening, it promises of the
 /// opening that is named.

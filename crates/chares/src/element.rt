@@ -11,7 +11,7 @@ ghost use Rattle.chares.specs.Posting.{with_execution, with_resumption};
 ghost use Rattle.chares.specs.Progressing.{note_at, synced_mark};
 
 use crate::annals::Annals;
-use crate::chare::{Chare, Here};
+use crate::chare::{Armed, Chare, Here};
 use crate::history::History;
 use crate::kept_mark::KeptMark;
 use crate::letter::Letter;
@@ -111,6 +111,16 @@ impl<C: Chare<A>, A: Allocator> Element<C, A> {
         ensures value { result.now ≡ self.now.marks }
     {
         self.marks.as_slice()
+    }
+}
+
+impl<C: Armed<A>, A: Allocator> Element<C, A> {
+    /// Gives its chare what no contract sees.
+    pub fn arm(&mut self, given: C::Given)
+        requires fit { C.may_take self.old.chare given }
+        ensures kept { self.new ≡ self.old }
+    {
+        self.chare.take_in(given);
     }
 }
 

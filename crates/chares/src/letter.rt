@@ -1,16 +1,16 @@
-ghost use Rattle.std.specs.Prelude.{◌≡◌, ℕ, ◌+◌, min};
+ghost use Rattle.std.specs.Prelude.{◌≡◌, ℕ, ◌+◌, min, IfOk};
 ghost use Rattle.chares.specs.Letters.{LetterView, hopped};
 
 use crate::body::Body;
 use chare_index::{Index, Pe};
-use std::alloc::{Allocator, Global};
+use std::alloc::{AllocError, Allocator, Global};
 use std::marker::Model;
 
 /// The number of a letter: the PE that posted it, and how many letters that PE had posted before.
 pub type LetterId = (Pe, u32);
 
-/// A letter to an element. Only [`Sends::put`](crate::Sends::put) makes one, and it cannot be copied. Contracts
-/// see it as the record `LetterView`.
+/// A letter to an element. [`Sends::put`](crate::Sends::put) makes one, and [`Letter::arrived`] one that another process has given
+/// up; it cannot be copied. Contracts see it as the record `LetterView`.
 #[derive(Drop)]
 pub struct Letter<A: Allocator = Global> {
     id: LetterId,
@@ -73,5 +73,24 @@ impl<A: Allocator> Letter<A> {
         ensures ok { self.new ≡ hopped self.old }
     {
         self.hops = self.hops.saturating_add(1);
+    }
+}
+
+impl<A: Allocator> Letter<A> {
+    /// A letter that came as a message from another process, where it was given up as this one is made. The only error is that
+    /// memory was refused.
+    pub fn arrived(
+        alloc: A,
+        id: LetterId,
+        to: Index,
+        hops: u32,
+        body: Vec<u8, A>,
+    ) -> Result<Self, AllocError>
+    where
+        A: Copy,
+        ensures value { IfOk result (λ l. l ≡ record { id = id; to = to; body = body.items; hops = hops }) }
+    {
+        let body = Body::of_vec(alloc, body)?;
+        Ok(Letter { id, to, hops, body })
     }
 }

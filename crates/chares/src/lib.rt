@@ -1,11 +1,13 @@
 //! Chares: the objects of a chare array, the letters that they send each other, and an element, which is on a PE
 //! or packed on its way to another.
 //!
-//! - [`Chare`], with [`Here`], [`Effect`] and [`Openings`]: what a program writes, and what its handlers return.
+//! - [`Chare`], with [`Here`], [`Effect`] and [`Openings`]: what a program writes, and what its handlers return; [`Armed`], for one
+//!   whose handlers run elsewhere.
 //! - [`Sends`], with [`SendError`]: how a handler posts letters, with bodies up to a [`BodyLimit`].
 //! - [`Letter`], with [`LetterId`]: what is posted.
 //! - [`Element`], with [`Progress`] and [`Entry`]: a chare with what it has done.
-//! - [`Annals`] and [`Journal`], by a [`History`]: what an element has handled, and how much of that it keeps in memory.
+//! - [`Annals`] and [`Journal`], by a [`History`], with [`Past`]: what an element has handled, and how much of that it keeps in
+//!   memory.
 //! - [`Packed`]: an element on its way; [`PackedElement`]: one whose bytes are the pack of what its journal
 //!   says.
 //! - [`Carried`] and [`Addressed`]: what goes from PE to PE, and where.
@@ -36,7 +38,7 @@ mod trace_entry;
 pub use annals::Annals;
 pub use body_limit::BodyLimit;
 pub use carried::{Addressed, Carried};
-pub use chare::{Chare, Effect, Here, Openings};
+pub use chare::{Armed, Chare, Effect, Here, Openings};
 pub use element::{Element, Unread};
 pub use entry::Entry;
 pub use history::History;
@@ -45,6 +47,7 @@ pub use kept_mark::KeptMark;
 pub use letter::{Letter, LetterId};
 pub use note::{Mark, Note};
 pub use packed::{Packed, PackedElement, Packing};
+pub use past::Past;
 pub use progress::{Ending, Progress};
 pub use sends::{Out, SendError, Sends, add_entry, reserve_entry};
 pub use state_bytes::StateBytes;

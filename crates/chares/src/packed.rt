@@ -1,6 +1,6 @@
 //! An element on its way.
 
-ghost use Rattle.std.specs.Prelude.{◌≡◌, ℕ, ◌<◌, ◌≤◌, [], Ok, IsOk, IfOk, IfErr, OnErr};
+ghost use Rattle.std.specs.Prelude.{◌≡◌, ℕ, ◌<◌, ◌≤◌, [], length, Ok, IsOk, IfOk, IfErr, OnErr};
 ghost use Rattle.chare_index.specs.declared.limits.TheConstants.Limits.{ROUND};
 ghost use Rattle.chares.specs.Elements.{ElementView, PackedView, packed, unpacked, IsHistory, IsPackedHistory};
 
@@ -8,6 +8,7 @@ use crate::annals::Annals;
 use crate::chare::{Chare, Openings};
 use crate::element::Element;
 use crate::kept_mark::KeptMark;
+use crate::past::Past;
 use crate::progress::Progress;
 use chare_index::Index;
 use pup_pack::PupError;
@@ -51,6 +52,37 @@ impl<A: Allocator> Model for Packed<A> {
 }
 
 impl<A: Allocator> Packed<A> {
+    /// An element that came as a message from another process, where it was given up as this one is made: with the pack of its chare,
+    /// how many entries its journal has, which are those of `past` and all settled, how far it has come, and its marks. The only
+    /// error is that memory was refused.
+    pub fn arrived(
+        alloc: A,
+        index: Index,
+        bytes: Vec<u8, A>,
+        past: Past,
+        settled: u64,
+        progress: Progress,
+        marks: Vec<KeptMark, A>,
+    ) -> Result<Self, AllocError>
+    where
+        A: Copy,
+        requires counted { length past.entries ≡ settled }
+        requires before_last_round { progress.round < ROUND }
+        ensures value { IfOk result (λ e. e ≡ record { index = index; bytes = bytes.items; journal = past.entries; progress = progress; marks = marks.items }) }
+    {
+        let luggage = Luggage {
+            index,
+            bytes,
+            journal: Annals::arrived(alloc, past, settled),
+            progress,
+            marks,
+        };
+        match Box::new(alloc, luggage) {
+            Ok(luggage) => Ok(Packed { luggage }),
+            Err(_) => Err(AllocError),
+        }
+    }
+
     /// Its index.
     pub fn index(&self) -> Index
         ensures value { result ≡ self.now.index }

@@ -13,7 +13,7 @@ use crate::error::StepError;
 use crate::parcel::{HeldParcel, Item, Parcel, into_held, into_parcel};
 use crate::room::Room;
 use chare_index::{Index, Limits, Pe, Round};
-use chares::{Addressed, BodyLimit, Carried, Chare, History, Note, Openings, Progress};
+use chares::{Addressed, Armed, BodyLimit, Carried, Chare, History, Note, Openings, Progress};
 use std::alloc::{AllocError, Allocator, Global};
 use std::marker::{Model, PhantomData};
 
@@ -322,6 +322,18 @@ impl<C: Chare<A>, H: Openings<C>, A: Allocator> PeState<C, H, A> {
             return None;
         }
         Some(Round::new(progress.round.get() + 1).unwrap())
+    }
+}
+
+impl<C: Armed<A>, H: Openings<C>, A: Allocator> PeState<C, H, A> {
+    /// Gives the chare of an element, which stands here, what no contract sees.
+    pub fn arm(&mut self, index: Index, given: C::Given)
+        requires stands { IsSome (found index self.old.room) }
+        requires fit { IfSome (found index self.old.room) (λ el. C.may_take el.chare given) }
+        ensures kept { self.new ≡ self.old }
+    {
+        let end = &mut self.end;
+        end.room.arm(index, given);
     }
 }
 

@@ -12,7 +12,7 @@ ghost use Rattle.pe_state.specs.Rows.{row_of, row_count, entries_of, IsRoom};
 use crate::entries::Entries;
 use crate::row::Row;
 use chare_index::{Gate, Index, Limits, Pe, Round};
-use chares::{Chare, Element, History, Letter, Note, Packed, SendError, Sends, Unread};
+use chares::{Armed, Chare, Element, History, Letter, Note, Packed, SendError, Sends, Unread};
 use std::alloc::{AllocError, AllocFailed, Allocator, Global};
 use std::marker::Model;
 
@@ -237,5 +237,17 @@ impl<C: Chare<A>, A: Allocator + Copy> Room<C, A> {
     {
         let row = row_number(index);
         self.rows[row].depart(alloc, index)
+    }
+}
+
+impl<C: Armed<A>, A: Allocator> Room<C, A> {
+    /// Gives the chare of an element, which stands here, what no contract sees.
+    pub(crate) fn arm(&mut self, index: Index, given: C::Given)
+        requires stands { IsSome (found index self.old) }
+        requires fit { IfSome (found index self.old) (λ el. C.may_take el.chare given) }
+        ensures kept { self.new ≡ self.old }
+    {
+        let row = row_number(index);
+        self.rows[row].arm(index, given);
     }
 }

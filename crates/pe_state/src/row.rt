@@ -10,7 +10,9 @@ ghost use Rattle.pe_state.specs.Rooms.{found, joined, without, ran_in, sends_in,
 ghost use Rattle.pe_state.specs.Rows.{IsPlace, IsGap, StandsAt, BelongsAt};
 
 use chare_index::{Gate, Index, Limits, Pe, Round};
-use chares::{Chare, Element, History, Letter, Note, Packed, Packing, SendError, Sends, Unread};
+use chares::{
+    Armed, Chare, Element, History, Letter, Note, Packed, Packing, SendError, Sends, Unread,
+};
 use std::alloc::{AllocError, AllocFailed, Allocator, Global};
 use std::marker::Model;
 
@@ -249,5 +251,19 @@ impl<C: Chare<A>, A: Allocator + Copy> Row<C, A> {
         if self.items.is_empty() {
             self.items = Vec::new(alloc);
         }
+    }
+}
+
+impl<C: Armed<A>, A: Allocator> Row<C, A> {
+    /// Gives the chare of an element, which is of this row, what no contract sees.
+    pub(crate) fn arm(&mut self, index: Index, given: C::Given)
+        requires stands { IsSome (found index self.old) }
+        requires fit { IfSome (found index self.old) (λ el. C.may_take el.chare given) }
+        ensures kept { self.new ≡ self.old }
+    {
+        let Ok(place) = self.seek(index) else {
+            unreachable!()
+        };
+        self.items[place].1.arm(given);
     }
 }
