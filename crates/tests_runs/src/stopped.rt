@@ -7,6 +7,8 @@ use crate::found::compare;
 use crate::tallies::{EXAMPLE, EXAMPLE_TEXT, tallies, text_of};
 use chare_index::{NoGate, Round};
 use chares::Chare;
+use lb_refinement::Refined;
+use lb_snapshot::Snapshot;
 use pe_state::PeEnd;
 use pe_worker::{Fault, Watch};
 use rts_core::Account;
@@ -155,4 +157,49 @@ fn a_run_that_is_stopped_between_rounds_loses_nothing(rt: HostRuntime) {
     let stopped = outcome.fault() == Some(Fault::Stopped) && outcome.rounds().len() == 1;
     drop(outcome);
     assert_for(&rt, stopped && seen == (1, 104), seen);
+}
+
+// Writes down, for each round that it is shown, the number, the bottleneck and the bytes moved, one behind the other.
+#[derive(Drop)]
+struct Shown {
+    seen: AtomicU64,
+    is_wanted: bool,
+}
+
+impl Watch for Shown {
+    fn decided(&self, _round: Round, _executed: u64) {}
+
+    fn follows_rounds(&self) -> bool {
+        self.is_wanted
+    }
+
+    fn made_round<B: Allocator + Copy>(&self, snapshot: &Snapshot<B>, decision: &Refined<B>) {
+        let round = u64::from(snapshot.step()).wrapping_mul(1_000);
+        let round = round.wrapping_add(decision.bottleneck().wrapping_mul(100));
+        let before = self.seen.load(Ordering::SeqCst).wrapping_mul(10_000);
+        let after = before.wrapping_add(round.wrapping_add(decision.moved()));
+        self.seen.store(after, Ordering::SeqCst);
+    }
+}
+
+// What is written down of the worked example.
+fn shown_of<R: Threads + Wait + Sync + Abort + AllocGlobal>(rt: &R, is_wanted: bool) -> u64 {
+    let shown = Shown {
+        seen: AtomicU64::new(0),
+        is_wanted,
+    };
+    let chares = tallies(rt.alloc(), &EXAMPLE).expect(rt, "no tallies");
+    drop(run_seen(rt, 2, &shown, chares));
+    shown.seen.load(Ordering::SeqCst)
+}
+
+// In round 1 the bottleneck is 6 and 40 bytes move, in round 2 it is 4 and 40 bytes move.
+#[test]
+fn a_watch_that_follows_rounds_sees_each_in_order(rt: HostRuntime) {
+    let (wanted, unwanted) = (shown_of(&rt, true), shown_of(&rt, false));
+    assert_for(
+        &rt,
+        wanted == 16_402_440 && unwanted == 0,
+        (wanted, unwanted),
+    );
 }
