@@ -1,7 +1,7 @@
-//! Arrays of chares that contribute, runs of them, and what each has got.
+//! Arrays of chares that contribute, and runs of them.
 
 use crate::giver::{Giver, Way};
-use chare_index::{Index, NoGate};
+use chare_index::NoGate;
 use messages::Typed;
 use reductions::{Combines, Reducing};
 use rts_run::{Config, Outcome, run};
@@ -78,14 +78,4 @@ pub(crate) fn run_by<V: Combines<Global>>(
 ) -> Explored<Member<V>> {
     let explored = explore(rt.alloc(), &Schedule::usual(3), seed, members);
     explored.expect(rt, "the run did not begin")
-}
-
-/// What an element has got, or `None` where it is not on a PE.
-pub(crate) fn got<V: Combines<Global>>(
-    outcome: &Outcome<Member<V>>,
-    element: u32,
-) -> Option<(V, V, V)> {
-    let found = outcome.element(Index::new(element)?)?;
-    let giver = found.chare().chare().chare();
-    Some((giver.first, giver.second, giver.third))
 }

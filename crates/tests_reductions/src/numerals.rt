@@ -1,9 +1,7 @@
 //! Numbers written one after another, in the order of the elements: arrays of many sizes, several reductions one after another, and
 //! elements that move in between.
 
-use crate::fixtures::{
-    MOVING, Member, RESTING, assert_for, got, make_member, run_by, run_on, told,
-};
+use crate::fixtures::{MOVING, Member, RESTING, assert_for, make_member, run_by, run_on, told};
 use crate::giver::Way;
 use crate::numeral::Numeral;
 use chare_index::Index;
@@ -45,10 +43,11 @@ fn writers(rt: &(impl Abort + AllocGlobal), elements: u32, way: Way) -> Vec<Writ
     writers
 }
 
-// The numbers that an element has got.
+// The numbers that an element has got, or `None` where it is not on a PE.
 fn numbers_got(outcome: &Outcome<Writer>, element: u32) -> Option<(u64, u64, u64)> {
-    let (first, second, third) = got(outcome, element)?;
-    Some((first.number, second.number, third.number))
+    let found = outcome.element(Index::new(element)?)?;
+    let giver = found.chare().chare().chare();
+    Some((giver.first.number, giver.second.number, giver.third.number))
 }
 
 // Whether each element has got these numbers.

@@ -1,7 +1,8 @@
 //! The least and the greatest of four kinds of numbers at once.
 
-use crate::fixtures::{Member, assert_for, got, make_member, run_on, told};
+use crate::fixtures::{Member, assert_for, make_member, run_on, told};
 use crate::span::Span;
+use chare_index::Index;
 use rts_run::{Fault, Outcome};
 use std::num::f64_to_bits_with_nan;
 use std::process::Abort;
@@ -79,12 +80,13 @@ fn is_row(found: Span, row: &Row) -> bool {
     found.fewest == fewest && found.most == most && alike(found.low, low) && alike(found.high, high)
 }
 
-// Whether an element has got what is wanted.
-fn has_got(outcome: &Outcome<Member<Span>>, element: u32) -> bool {
-    let Some((first, second, third)) = got(outcome, element) else {
-        return false;
-    };
-    is_row(first, &WANTED.0) && is_row(second, &WANTED.1) && is_row(third, &WANTED.2)
+// Whether an element has got what is wanted, or `None` where it is not on a PE.
+fn has_got(outcome: &Outcome<Member<Span>>, element: u32) -> Option<bool> {
+    let found = outcome.element(Index::new(element)?)?;
+    let giver = found.chare().chare().chare();
+    let plain = is_row(giver.first, &WANTED.0);
+    let limits = is_row(giver.second, &WANTED.1);
+    Some(plain && limits && is_row(giver.third, &WANTED.2))
 }
 
 // How a run on so many PEs ended, and whether each element got what is wanted.
@@ -95,7 +97,7 @@ fn spanned<R: Threads + Wait + Sync + Abort + AllocGlobal>(
     let outcome = run_on(rt, pes, spans(rt));
     let mut same = true;
     for element in 0..5 {
-        same &= has_got(&outcome, element);
+        same &= has_got(&outcome, element) == Some(true);
     }
     let fault = outcome.fault();
     drop(outcome);

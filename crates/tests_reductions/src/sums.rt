@@ -1,7 +1,8 @@
 //! Sums of doubles whose bits depend on the order of the operands, and on the parentheses.
 
-use crate::fixtures::{MOVING, Member, assert_for, got, make_member, run_by, run_on, told};
+use crate::fixtures::{MOVING, Member, assert_for, make_member, run_by, run_on, told};
 use crate::giver::Way;
+use chare_index::Index;
 use reductions::Sum;
 use rts_run::{Fault, Outcome};
 use std::num::f64_to_bits_with_nan;
@@ -43,13 +44,14 @@ fn adders(rt: &(impl Abort + AllocGlobal), way: Way) -> Vec<Adder> {
     adders
 }
 
-// The bits of what an element has got.
+// The bits of what an element has got, or `None` where it is not on a PE.
 fn bits_got(outcome: &Outcome<Adder>, element: u32) -> Option<(u64, u64, u64)> {
-    let (first, second, third) = got(outcome, element)?;
+    let found = outcome.element(Index::new(element)?)?;
+    let giver = found.chare().chare().chare();
     Some((
-        f64_to_bits_with_nan(first.0),
-        f64_to_bits_with_nan(second.0),
-        f64_to_bits_with_nan(third.0),
+        f64_to_bits_with_nan(giver.first.0),
+        f64_to_bits_with_nan(giver.second.0),
+        f64_to_bits_with_nan(giver.third.0),
     ))
 }
 
