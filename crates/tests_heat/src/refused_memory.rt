@@ -1,8 +1,9 @@
 //! A small run, with each of its requests for memory refused in turn.
 
 use crate::fixtures::{assert_for, rod};
+use chare_index::Index;
 use heat_rod::RodChare;
-use heat_run::{run_rod, text_of};
+use heat_run::{Ending, run_rod};
 use pe_worker::Fault;
 use rts_run::{Config, Outcome, RunError};
 use std::alloc::Global;
@@ -15,18 +16,29 @@ use tests_fixtures::Refusing;
 const MOST_TURNS: u64 = 2_000;
 
 // What `heat 2 3 20` of `examples/heat.c` prints.
-const TEXT: &str = "steps 3 residual 3fb83e74c4bc7724 checksum 7ddadaec9d01e2de\n";
+const ENDING: Ending = Ending {
+    steps: 3,
+    residual: 0x3fb8_3e74_c4bc_7724,
+    checksum: 0x7dda_daec_9d01_e2de,
+};
 
 type Lent<'a> = &'a Refusing<Global>;
 
-// Whether a run ended early because memory was refused, or with that text, unless memory was refused for that.
-fn is_whole<'a>(alloc: Lent<'a>, outcome: &Outcome<RodChare<Lent<'a>>, Lent<'a>>) -> bool {
-    if outcome.fault().is_some() {
-        return outcome.fault() == Some(Fault::OutOfMemory);
+// How the two strips ended, or `None` where one of them is on no PE.
+fn ending_of<'a>(outcome: &Outcome<RodChare<Lent<'a>>, Lent<'a>>) -> Option<Ending> {
+    let mut ending = Ending::of_no_strip();
+    for place in 0..2 {
+        let element = outcome.element(Index::new(place)?)?;
+        ending = ending.with(element.chare().chare().chare());
     }
-    match text_of(alloc, 2, outcome) {
-        Ok(text) => text.as_str() == TEXT,
-        Err(_) => alloc.has_refused(),
+    Some(ending)
+}
+
+// Whether a run ended early because memory was refused, or as it should.
+fn is_whole<'a>(outcome: &Outcome<RodChare<Lent<'a>>, Lent<'a>>) -> bool {
+    match outcome.fault() {
+        Some(fault) => fault == Fault::OutOfMemory,
+        None => ending_of(outcome) == Some(ENDING),
     }
 }
 
@@ -39,7 +51,7 @@ fn refuses<R: Threads + Wait + Sync + Abort + AllocGlobal>(
     let alloc = Refusing::new(rt.alloc(), turn);
     match run_rod(rt, &alloc, &Config::usual(2), &rod(2, 3, 2)) {
         Ok(outcome) => {
-            assert_for(rt, is_whole(&alloc, &outcome), turn);
+            assert_for(rt, is_whole(&outcome), turn);
             if outcome.fault().is_some() {
                 *early = early.saturating_add(1);
             }

@@ -1,0 +1,50 @@
+//! How a rod ended.
+
+use heat_rod::RodStrip;
+use std::alloc::Allocator;
+use std::num::f64_to_bits_with_nan;
+
+// The checksum is the FNV-1a hash of all cells, a double at a time.
+const BASIS: u64 = 0xcbf2_9ce4_8422_2325;
+
+const PRIME: u64 = 0x100_0000_01b3;
+
+/// How the strips of a rod ended, as far as they have been visited, in order.
+#[derive(Clone, Copy, Debug, PartialEq, Eq)]
+pub struct Ending {
+    /// How many steps they took.
+    pub steps: u32,
+    /// The bits of the residual of the last one.
+    pub residual: u64,
+    /// A checksum of the bits of all their cells.
+    pub checksum: u64,
+}
+
+impl Ending {
+    /// No strip has been visited.
+    pub fn of_no_strip() -> Ending {
+        Ending {
+            steps: 0,
+            residual: 0,
+            checksum: BASIS,
+        }
+    }
+
+    /// The ending with the next strip. All strips have taken the same steps, and heard of the same residual.
+    pub fn with<A: Allocator>(self, strip: &RodStrip<A>) -> Ending {
+        Ending {
+            steps: strip.steps(),
+            residual: f64_to_bits_with_nan(strip.residual()),
+            checksum: joined(self.checksum, strip.cells()),
+        }
+    }
+}
+
+// The checksum with these cells added.
+fn joined(sum: u64, cells: &[f64]) -> u64 {
+    let mut sum = sum;
+    for cell in cells {
+        sum = (sum ^ f64_to_bits_with_nan(*cell)).wrapping_mul(PRIME);
+    }
+    sum
+}
