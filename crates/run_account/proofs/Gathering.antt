@@ -62,10 +62,10 @@ module _ {C : Type 0} (step : Step C) (fits : C → Type 0) (pack : C → List �
     since : map (λ l. l.id) w.ledger.posted ≡ numbers_since run.starts pe
     since =
         let n : length w.ledger.posted ≡ pe.count - count_before run.starts pe.me = omega (arith, before, w.local.letters.counted) in
-        w.local.letters.numbered ∙ ap (λ (v : ℕ × ℕ). map (λ k. (pe.me, k)) (range_with_len v.0 v.1)) (pairs (sym before) n)
-      where
-        pairs : {a b c d : ℕ} → a ≡ b → c ≡ d → (a, c) ≡ (b, d)
-        pairs e f = cc
+        let number : ℕ → ℕ × ℕ = λ k. (pe.me, k) in
+        w.local.letters.numbered
+        ∙ (ap (λ (v : ℕ). map number (range_with_len v (length w.ledger.posted))) (sym before)
+        ∙ ap (λ (v : ℕ). map number (range_with_len (count_before run.starts pe.me) v)) n)
 
   pub gathered_first : (pe : PeView C) (seat : SeatView Parcel) → IsSeated step opened count run pe seat → HasHistories step fits pack opened pe → pe.me ≡ 0 → Tied (pe ∷ []) seat
   gathered_first pe seat w h first =

@@ -45,14 +45,17 @@ pub record Merged {C : Type 0} (ends : List (PeView C)) (old new : List LetterVi
   pub numbered : map (λ l. l.id) posts ≡ flat_map numbers_of ends
   pub whole : (f : LetterView → ℕ) → sum_by f posts ≡ sum_by f old + sum_by f new
 
+abbrev number_by : ℕ → ℕ → ℕ × ℕ
+number_by me k = (me, k)
+
 -- the numbers of one PE, those before and those since
 numbers_joined : (me a n count : ℕ) → a ≤ count → n ≡ count - a
-    → map (λ k. (me, k)) (range_with_len 0 a) ++ map (λ k. (me, k)) (range_with_len a n) ≡ map (λ k. (me, k)) (range_with_len 0 count)
+    → map (number_by me) (range_with_len 0 a) ++ map (number_by me) (range_with_len a n) ≡ map (number_by me) (range_with_len 0 count)
 numbers_joined me a n count le is =
     let e : count ≡ a + n = omega (arith, le, is) in
     let z : 0 + a ≡ a = omega arith in
     let r : range_with_len 0 (a + n) ≡ range_with_len 0 a ++ range_with_len a n = range_split 0 a n ∙ ap (λ (v : ℕ). range_with_len 0 a ++ range_with_len v n) z in
-    sym (map-append (λ (k : ℕ). (me, k)) (range_with_len 0 a) (range_with_len a n)) ∙ ap (map (λ (k : ℕ). (me, k))) (sym r ∙ ap (range_with_len 0) (sym e))
+    sym (map-append (number_by me) (range_with_len 0 a) (range_with_len a n)) ∙ ap (map (number_by me)) (sym r ∙ ap (range_with_len 0) (sym e))
 
 module _ {C : Type 0} (whole : List (PeView C)) where
   -- the posts of one PE
@@ -62,12 +65,12 @@ module _ {C : Type 0} (whole : List (PeView C)) where
   one_pe a start end s e at grown old new olds news =
       let c : count_before whole end.me ≡ start.count = ap (count_before whole) e ∙ ap (λ o. option_map_or (λ (pe : PeView C). pe.count) o 0) at in
       let m : start.me ≡ end.me = s ∙ sym e in
-      let f : map (λ l. l.id) old ≡ map (λ k. (end.me, k)) (range_with_len 0 start.count) = olds ∙ ap (λ (v : ℕ). map (λ k. (v, k)) (range_with_len 0 start.count)) m in
-      let g : map (λ l. l.id) new ≡ map (λ k. (end.me, k)) (range_with_len start.count (end.count - start.count)) = news ∙ ap (λ (v : ℕ). map (λ k. (end.me, k)) (range_with_len v (end.count - v))) c in
+      let f : map (λ l. l.id) old ≡ map (number_by end.me) (range_with_len 0 start.count) = olds ∙ ap (λ (v : ℕ). map (number_by v) (range_with_len 0 start.count)) m in
+      let g : map (λ l. l.id) new ≡ map (number_by end.me) (range_with_len start.count (end.count - start.count)) = news ∙ ap (λ (v : ℕ). map (number_by end.me) (range_with_len v (end.count - v))) c in
       let le : start.count ≤ end.count = omega (arith, c, grown) in
       map-append (λ (l : LetterView). l.id) old new
       ∙ (ap (λ v. v ++ map (λ (l : LetterView). l.id) new) f
-      ∙ (ap (λ v. map (λ k. (end.me, k)) (range_with_len 0 start.count) ++ v) g
+      ∙ (ap (λ v. map (number_by end.me) (range_with_len 0 start.count) ++ v) g
       ∙ numbers_joined end.me start.count (end.count - start.count) end.count le refl))
 
   -- the weights of four lists, taken in pairs
