@@ -13,8 +13,7 @@ use Rattle.pe_state.specs.Pes.{PeView, Parcel}
 use Rattle.pe_queues.specs.Seats.{SeatView, pes, joined}
 use Rattle.rts_core.specs.Accounts.{message}
 use Rattle.pe_state.specs.Histories.{HasHistories}
-use Rattle.rts_core.specs.Ledgers.{Ledger, all_letters_at}
-use Rattle.rts_core.specs.Places.{Life, lives_at, sends_of}
+use Rattle.rts_core.specs.Ledgers.{Ledger}
 use Rattle.rts_core.proofs.LocalAccount.{lives_joined, sends_joined}
 use Rattle.rts_core.proofs.LocalBalance.{joined_all, range_split}
 use Rattle.pe_worker.specs.Seated.{Beginning, Matches, IsSeated}

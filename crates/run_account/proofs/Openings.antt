@@ -1,20 +1,17 @@
 -- The account of PEs as a run opens: nothing is posted, and each element is in one place.
-use Rattle.std.proofs.Common.{◌≡◌, ℕ, ◌+◌, ◌<◌, ◌≤◌, List, [], ◌∷◌, ◌++◌, length, map, Option, Some, None, sum_by, arith, refl, sym, ◌∙◌, ap, nat_lt}
-use Rattle.std.specs.Prelude.{All, slice_get, ◌==◌, if◌then◌else◌}
+use Rattle.std.proofs.Common.{◌≡◌, ℕ, ◌+◌, ◌≤◌, List, [], ◌∷◌, ◌++◌, length, map, sum_by, arith, refl, sym, ◌∙◌, ap}
+use Rattle.std.specs.Prelude.{All, slice_get, ◌==◌}
 use Rattle.std.specs.List.{flat_map, range_with_len}
-use Rattle.std.specs.Option.{option_map_or}
 use Rattle.std.proofs.lemmas.List.Elements.{All-head, All-tail}
 use Rattle.std.proofs.lemmas.List.Sums.{sum_by-cons}
-use Rattle.chares.specs.Letters.{LetterView}
 use Rattle.chares.specs.Steps.{Step}
 use Rattle.pe_state.specs.Pes.{PeView}
 use Rattle.at_sync.specs.declared.strategy.Strategy.TheVariants.{Least}
 use Rattle.rts_core.specs.Accounts.{times, is_number, message, AreSent, IsCounted}
 use Rattle.rts_core.specs.Ledgers.{IsUnused}
-use Rattle.rts_core.specs.Own.{AreOwn}
 use Rattle.rts_core.specs.Places.{Life, letters, lives, journaled, sends_of, sends}
 use Rattle.rts_core.specs.Worlds.{WorldView, opening_pes}
-use Rattle.rts_core.proofs.Weights.{Weight, weigh, of_pe, of_queue, sum_by-flat_map}
+use Rattle.rts_core.proofs.Weights.{Weight, weigh, of_queue, sum_by-flat_map}
 use Rattle.rts_core.proofs.Listings.{no_life, no_letter, sum_zero, world_letters, world_lives, world_journals}
 use Rattle.rts_core.proofs.LocalAccount.{opening_unused, states_weigh}
 use Rattle.rts_core.proofs.LocalBalance.{in_journal}

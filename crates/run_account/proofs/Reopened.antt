@@ -1,19 +1,17 @@
 -- The account of what a run left is that of its PEs as they open again, with what their queues still held.
-use Rattle.std.proofs.Common.{◌≡◌, ℕ, zero, suc, ◌+◌, ◌<◌, List, [], ◌∷◌, ◌++◌, length, map, Option, Some, None, sum_by, arith, refl, sym, ◌∙◌, ap, nat_lt}
-use Rattle.std.specs.Prelude.{All, slice_get, ◌==◌, if◌then◌else◌}
-use Rattle.std.specs.List.{flat_map, range_with_len}
+use Rattle.std.proofs.Common.{◌≡◌, ℕ, zero, suc, ◌+◌, List, [], ◌∷◌, ◌++◌, length, map, Option, Some, None, sum_by, arith, refl, sym, ◌∙◌, ap, nat_lt}
+use Rattle.std.specs.Prelude.{slice_get, ◌==◌, if◌then◌else◌}
+use Rattle.std.specs.List.{flat_map}
 use Rattle.std.specs.Option.{option_map, option_map_or}
 use Rattle.std.proofs.lemmas.List.Sums.{sum_by-cons, sum_by-append}
-use Rattle.chares.specs.Letters.{LetterView}
 use Rattle.chares.specs.Steps.{Step}
 use Rattle.pe_state.specs.Pes.{PeView, Parcel, Item}
 use Rattle.pe_state.specs.Reopening.{readdressed, parcel_at, reopened}
 use Rattle.rts_core.specs.Accounts.{times, is_number, message, AreSent, IsCounted}
-use Rattle.rts_core.specs.Own.{AreOwn}
 use Rattle.rts_core.specs.Places.{Life, letters, lives, journaled, letters_of_life, sends_of, sends}
 use Rattle.rts_core.specs.Worlds.{WorldView}
 use Rattle.rts_core.proofs.Weights.{Weight, weigh, of_hand, of_item, of_parcel, of_pe, of_queue, sum_by-flat_map, sum_by-map}
-use Rattle.rts_core.proofs.Listings.{no_life, no_letter, world_letters, world_lives, world_journals}
+use Rattle.rts_core.proofs.Listings.{no_life, no_letter, world_letters, world_lives}
 use Rattle.rts_core.proofs.LocalBalance.{in_journal}
 use Rattle.rts_core.proofs.Sent.{by_message, each_one, length_sum, sends_weight}
 use Rattle.run_account.specs.Gathering.{numbers_of}

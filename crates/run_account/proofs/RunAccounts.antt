@@ -1,5 +1,5 @@
 -- The account of a run, once all PEs are gathered and the queues are settled.
-use Rattle.std.proofs.Common.{◌≡◌, ℕ, zero, suc, ◌+◌, ◌<◌, ◌≤◌, List, [], ◌∷◌, length, map, Option, Some, None, sum_by, arith, refl, sym, ◌∙◌, ap, nat_lt}
+use Rattle.std.proofs.Common.{◌≡◌, ℕ, zero, suc, ◌+◌, ◌<◌, List, [], ◌∷◌, length, map, Option, Some, None, sum_by, arith, refl, sym, ◌∙◌, ap, nat_lt}
 use Rattle.std.specs.Prelude.{All, Vec, slice_get, slice_index_or, ◌==◌, ◌++◌, if◌then◌else◌}
 use Rattle.std.specs.List.{flat_map, range_with_len}
 use Rattle.std.specs.Option.{option_map_or}
@@ -16,16 +16,14 @@ use Rattle.pe_state.specs.Pes.{PeView, Parcel}
 use Rattle.pe_queues.specs.Conservation.{Balances}
 use Rattle.pe_queues.specs.Seats.{SeatView, AreLeft}
 use Rattle.rts_core.specs.Accounts.{times, is_number, message, AreSent, IsCounted}
-use Rattle.rts_core.specs.Ledgers.{IsSteady, all_letters_in, all_letters_at}
+use Rattle.rts_core.specs.Ledgers.{IsSteady, all_letters_in}
 use Rattle.rts_core.specs.Own.{IsOwn, AreOwn}
 use Rattle.rts_core.specs.Places.{Life, lives_in, lives_at, letters, lives, journaled, letters_of_entry, letters_of_life, sends_of, sends}
-use Rattle.rts_core.specs.Worlds.{WorldView, opening_pes}
+use Rattle.rts_core.specs.Worlds.{WorldView}
 use Rattle.rts_core.proofs.Weights.{Weight, of_parcel, of_pe, of_queue, sum_by-flat_map, sum_by-map, sum_by-same, sum_by-both}
 use Rattle.rts_core.proofs.Listings.{no_life, no_letter, pe_lives, queue_lives, world_letters, world_lives, world_journals}
-use Rattle.rts_core.proofs.LocalAccount.{states_weigh}
 use Rattle.rts_core.proofs.LocalBalance.{in_journal, pe_all, parcels_all}
-use Rattle.rts_core.proofs.OpeningWeights.{opened_lives, opened_once, one_at}
-use Rattle.rts_core.proofs.RunAccount.{unlived}
+use Rattle.rts_core.proofs.OpeningWeights.{one_at}
 use Rattle.rts_core.proofs.Sent.{by_message, sends_weight, journal_more, length_sum}
 use Rattle.rts_core.proofs.WorldSteps.{known}
 use Rattle.pe_worker.specs.Seated.{Beginning, sum_each}
