@@ -15,7 +15,7 @@ unreachable-requires g c =
 
 pub returns-clause-account : goal.returns-clause-account
 returns-clause-account g c =
-    rw c.release.ensures.parcels (accounted {B = Unit {0}} g.C.Chare.step g.C.Pup.fits g.C.Pup.pack g.H.Openings.opened g.J.RunBeginning.beginning c.self.inside.ends.items c.self.inside.seat c.in-Ok.left.items [] (new_board 0 0 Least) c.self.invariant c.in-Ok.ensures.left c.requires.beginning c.requires.in_order c.requires.whole)
+    rw c.release.ensures.parcels (accounted {B = Unit {0}} g.C.Chare.step g.C.Pup.fits g.C.Pup.pack g.H.Openings.opened g.J.RunBeginning.beginning c.self.inside.ends.items c.self.inside.seat c.in-Ok.left.items [] (new_board 0 0 Least) c.self.invariant c.in-Ok.ensures.left c.requires.beginning c.requires.in_order (search rules))
 
 pub returns-clause-counted : goal.returns-clause-counted
 returns-clause-counted g c =
