@@ -1,5 +1,9 @@
 //! How a rod ended.
 
+ghost use Rattle.std.specs.Prelude.{◌≡◌};
+ghost use Rattle.std.specs.Float.{binary64};
+ghost use Rattle.std.specs.Float.Ieee.{to_bits};
+
 use heat_rod::RodStrip;
 use std::alloc::Allocator;
 use std::num::f64_to_bits_with_nan;
@@ -11,7 +15,7 @@ const PRIME: u64 = 0x100_0000_01b3;
 
 /// How the strips of a rod ended, as far as they have been visited, in order.
 #[derive(Clone, Copy, Debug, PartialEq, Eq)]
-pub struct Ending {
+pub struct RodEnding {
     /// How many steps they took.
     pub steps: u32,
     /// The bits of the residual of the last one.
@@ -20,10 +24,10 @@ pub struct Ending {
     pub checksum: u64,
 }
 
-impl Ending {
+impl RodEnding {
     /// No strip has been visited.
-    pub fn of_no_strip() -> Ending {
-        Ending {
+    pub fn of_no_strip() -> RodEnding {
+        RodEnding {
             steps: 0,
             residual: 0,
             checksum: BASIS,
@@ -31,8 +35,11 @@ impl Ending {
     }
 
     /// The ending with the next strip. All strips have taken the same steps, and heard of the same residual.
-    pub fn with<A: Allocator>(self, strip: &RodStrip<A>) -> Ending {
-        Ending {
+    pub fn with<A: Allocator>(self, strip: &RodStrip<A>) -> RodEnding
+        ensures steps { result.steps ≡ strip.now.stage.done }
+        ensures residual { result.residual ≡ to_bits binary64 strip.now.stage.residual }
+    {
+        RodEnding {
             steps: strip.steps(),
             residual: f64_to_bits_with_nan(strip.residual()),
             checksum: joined(self.checksum, strip.cells()),

@@ -2,7 +2,7 @@
 //!
 //! - [`read_options`]: the words of the command line, as [`RodOptions`].
 //! - [`run_rod`]: the run of a rod.
-//! - [`text_of`]: how many steps it took, the residual of the last one, and a checksum of all cells. [`Ending`]: the same as numbers,
+//! - [`text_of`]: how many steps it took, the residual of the last one, and a checksum of all cells. [`RodEnding`]: the same as numbers,
 //!   from one strip after another.
 #![tactic(auto)]
 
@@ -12,7 +12,7 @@ mod run;
 mod text;
 mod words;
 
-pub use ending::Ending;
+pub use ending::RodEnding;
 pub use run::run_rod;
 pub use text::text_of;
 pub use words::{RodOptions, read_options};

@@ -1,6 +1,6 @@
 //! The printed text of a run. All of it is made before any of it is printed.
 
-use crate::ending::Ending;
+use crate::ending::RodEnding;
 use chare_index::Index;
 use heat_rod::RodChare;
 use rts_run::Outcome;
@@ -27,8 +27,8 @@ pub fn text_of(
 }
 
 // How a rod of `n` strips ended, or `None` where a strip is on no PE.
-fn ending_of(n: u32, outcome: &Outcome<RodChare<Global>>) -> Option<Ending> {
-    let mut ending = Ending::of_no_strip();
+fn ending_of(n: u32, outcome: &Outcome<RodChare<Global>>) -> Option<RodEnding> {
+    let mut ending = RodEnding::of_no_strip();
     for place in 0..n {
         let element = outcome.element(Index::new(place)?)?;
         ending = ending.with(element.chare().chare().chare());
@@ -39,12 +39,12 @@ fn ending_of(n: u32, outcome: &Outcome<RodChare<Global>>) -> Option<Ending> {
 // Adds the line that tells how a rod ended.
 fn push_ending<A: Allocator>(
     text: &mut String<A>,
-    ending: Option<Ending>,
+    ending: Option<RodEnding>,
 ) -> Result<(), AllocError> {
     let Some(ending) = ending else {
         return writeln!(text, "steps unknown");
     };
-    let Ending {
+    let RodEnding {
         steps,
         residual,
         checksum,

@@ -3,7 +3,7 @@
 use crate::fixtures::{assert_for, rod};
 use chare_index::Index;
 use heat_rod::RodChare;
-use heat_run::{Ending, run_rod};
+use heat_run::{RodEnding, run_rod};
 use pe_worker::Fault;
 use rts_run::{Config, Outcome, RunError};
 use std::alloc::Global;
@@ -16,7 +16,7 @@ use tests_fixtures::Refusing;
 const MOST_TURNS: u64 = 2_000;
 
 // What `heat 2 3 20` of `examples/heat.c` prints.
-const ENDING: Ending = Ending {
+const ENDING: RodEnding = RodEnding {
     steps: 3,
     residual: 0x3fb8_3e74_c4bc_7724,
     checksum: 0x7dda_daec_9d01_e2de,
@@ -25,8 +25,8 @@ const ENDING: Ending = Ending {
 type Lent<'a> = &'a Refusing<Global>;
 
 // How the two strips ended, or `None` where one of them is on no PE.
-fn ending_of<'a>(outcome: &Outcome<RodChare<Lent<'a>>, Lent<'a>>) -> Option<Ending> {
-    let mut ending = Ending::of_no_strip();
+fn ending_of<'a>(outcome: &Outcome<RodChare<Lent<'a>>, Lent<'a>>) -> Option<RodEnding> {
+    let mut ending = RodEnding::of_no_strip();
     for place in 0..2 {
         let element = outcome.element(Index::new(place)?)?;
         ending = ending.with(element.chare().chare().chare());
