@@ -1,6 +1,6 @@
 //! The PEs of a run that is carried on, and where its elements are.
 
-ghost use Rattle.std.specs.Prelude.{◌≡◌, ◌<◌, ◌≤◌, All, IfOk, length, map, slice_set};
+ghost use Rattle.std.specs.Prelude.{◌≡◌, ◌<◌, ◌≤◌, All, IfOk, length, map};
 ghost use Rattle.pe_state.specs.Histories.{HasHistories, IsParcelHistory};
 ghost use Rattle.run_account.specs.Reopenings.{all_reopened};
 
@@ -52,20 +52,53 @@ pub(crate) fn places_of<C: Chare<A>, H: Openings<C>, A: Allocator + Copy>(
     ensures counted { IfOk result (λ places. length places.items ≡ n) }
     ensures named { IfOk result (λ places. All (λ q. q < H.pes) places.items) }
 {
-    let mut places = opening_words(alloc, n, pes)?;
-    for state in states {
-        note_standing(&mut places, state);
-        note_leaving(&mut places, state);
-    }
+    let mut places = homes_of::<C, H, A>(alloc, n, pes)?;
+    note_all(&mut places, states);
     Ok(places)
 }
 
-// Notes that this element is at this PE, if there is such an element.
-fn note_place(places: &mut [Pe], element: Index, pe: Pe)
-    ensures set { places.new ≡ slice_set places.old element pe }
+// The PE where each of `n` elements opens. The only error is that memory was refused.
+fn homes_of<C, H: Openings<C>, A: Allocator>(
+    alloc: A,
+    n: u32,
+    pes: u32,
+) -> Result<Vec<Pe, A>, AllocError>
+    requires few { n ≤ Limits.ELEMENTS }
+    requires some_pe { 1 ≤ pes }
+    requires few_pes { pes ≤ Limits.PES }
+    requires run { pes ≡ H.pes }
+    ensures counted { IfOk result (λ places. length places.items ≡ n) }
+    ensures named { IfOk result (λ places. All (λ q. q < H.pes) places.items) }
 {
-    if let Some(place) = places.get_mut(element.get() as usize) {
-        *place = pe;
+    let places = opening_words(alloc, n, pes)?;
+    Ok(places)
+}
+
+// Notes the elements of these PEs.
+fn note_all<C: Chare<A>, H: Openings<C>, A: Allocator>(
+    places: &mut [Pe],
+    states: &[PeState<C, H, A>],
+)
+    requires named { All (λ q. q < H.pes) places.old }
+    ensures counted { length places.new ≡ length places.old }
+    ensures named { All (λ q. q < H.pes) places.new }
+{
+    for state in states {
+        note_standing(places, state);
+        note_leaving(places, state);
+    }
+}
+
+// Notes that this element is at this PE, if there is such an element.
+fn note_place<C, H: Openings<C>>(places: &mut [Pe], element: Index, pe: Pe)
+    requires below { pe < H.pes }
+    requires named { All (λ q. q < H.pes) places.old }
+    ensures counted { length places.new ≡ length places.old }
+    ensures named { All (λ q. q < H.pes) places.new }
+{
+    let at = element.get() as usize;
+    if at < places.len() {
+        places[at] = pe;
     }
 }
 
@@ -80,7 +113,7 @@ fn note_standing<C: Chare<A>, H: Openings<C>, A: Allocator>(
 {
     let me = state.me();
     for (_, element) in state.room().iter() {
-        note_place(places, element.index(), me);
+        note_place::<C, H>(places, element.index(), me);
     }
 }
 
@@ -133,5 +166,5 @@ fn note_item<C: Chare<A>, H: Openings<C>, A: Allocator>(
         Some(q) if q.get() < state.pes() => q,
         _ => state.me(),
     };
-    note_place(places, element.index(), to);
+    note_place::<C, H>(places, element.index(), to);
 }
