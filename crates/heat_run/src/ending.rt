@@ -1,8 +1,9 @@
 //! How a rod ended.
 
-ghost use Rattle.std.specs.Prelude.{◌≡◌};
+ghost use Rattle.std.specs.Prelude.{◌≡◌, to_bits};
 ghost use Rattle.std.specs.Float.{binary64};
-ghost use Rattle.std.specs.Float.Ieee.{to_bits};
+ghost use Rattle.std.specs.List.{fold};
+ghost use Rattle.heat_run.specs.Checksums.{joined};
 
 use heat_rod::RodStrip;
 use std::alloc::Allocator;
@@ -10,8 +11,6 @@ use std::num::f64_to_bits_with_nan;
 
 // The checksum is the FNV-1a hash of all cells, a double at a time.
 const BASIS: u64 = 0xcbf2_9ce4_8422_2325;
-
-const PRIME: u64 = 0x100_0000_01b3;
 
 /// How the strips of a rod ended, as far as they have been visited, in order.
 #[derive(Clone, Copy, Debug, PartialEq, Eq)]
@@ -26,7 +25,9 @@ pub struct RodEnding {
 
 impl RodEnding {
     /// No strip has been visited.
-    pub fn of_no_strip() -> RodEnding {
+    pub fn of_no_strip() -> RodEnding
+        ensures value { result ≡ record { steps = 0; residual = 0; checksum = 0xcbf2_9ce4_8422_2325 } }
+    {
         RodEnding {
             steps: 0,
             residual: 0,
@@ -38,20 +39,31 @@ impl RodEnding {
     pub fn with<A: Allocator>(self, strip: &RodStrip<A>) -> RodEnding
         ensures steps { result.steps ≡ strip.now.stage.done }
         ensures residual { result.residual ≡ to_bits binary64 strip.now.stage.residual }
+        ensures checksum { result.checksum ≡ fold joined self.checksum strip.now.cells }
     {
         RodEnding {
             steps: strip.steps(),
             residual: f64_to_bits_with_nan(strip.residual()),
-            checksum: joined(self.checksum, strip.cells()),
+            checksum: joined_all(self.checksum, strip.cells()),
         }
     }
 }
 
-// The checksum with these cells added.
-fn joined(sum: u64, cells: &[f64]) -> u64 {
+// The checksum with these cells.
+fn joined_all(sum: u64, cells: &[f64]) -> u64
+    ensures value { result ≡ fold joined sum cells.now }
+{
     let mut sum = sum;
     for cell in cells {
-        sum = (sum ^ f64_to_bits_with_nan(*cell)).wrapping_mul(PRIME);
+        sum = joined(sum, *cell);
     }
     sum
+}
+
+// The checksum with one more cell.
+#[tactic(auto, unfolding(crate::specs::Checksums::joined))]
+fn joined(sum: u64, cell: f64) -> u64
+    ensures value { result ≡ joined sum cell }
+{
+    (sum ^ f64_to_bits_with_nan(cell)).wrapping_mul(0x100_0000_01b3)
 }

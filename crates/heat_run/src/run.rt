@@ -28,5 +28,6 @@ pub fn run_rod<R: Threads + Wait + Sync, A: Allocator + Copy + Send + Sync>(
         (opening_rod rod.now.plan rod.now.strips) config.now.pes config.now.strategy) }
 {
     let chares = rod.chares(alloc)?;
-    run(rt, alloc, config, &NoGate, chares)
+    let outcome = run(rt, alloc, config, &NoGate, chares)?;
+    Ok(outcome)
 }

@@ -1,4 +1,3 @@
-pub mod Again
 pub mod Counts
 pub mod Faults
 pub mod Opened

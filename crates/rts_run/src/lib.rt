@@ -2,10 +2,10 @@
 //!
 //! - [`run`]: runs chares until every one has finished, or a fault is met.
 //! - [`run_watched`]: the same, observed by a [`Watch`].
-//! - [`carry_on`]: goes on from what a run has left that ended early.
 //! - [`Config`]: on how many PEs, with which limits (a [`BodyLimit`] among them), how rounds are decided (a [`Strategy`], within a
 //!   [`Tolerance`]), and whether elements keep what they have handled (a [`History`]).
 //! - [`Outcome`]: what a run left. Nothing is lost, whatever the schedule was and whatever went wrong.
+//! - [`OpenedRun`], with [`open_post`] and [`run_opened`]: what a run begins with, for one that opens in another way.
 //! - [`RunError`]: why a run did not begin, with the [`Setting`] that is out of its limits. [`Fault`]: why one ended early.
 //!
 //! docs/RUNS.md has the protocol.
@@ -34,7 +34,6 @@ mod error;
 mod gathering;
 mod opened_run;
 mod outcome;
-mod reopening;
 mod running;
 mod workers;
 
@@ -43,6 +42,7 @@ pub use chain_refinement::Tolerance;
 pub use chares::{BodyLimit, History};
 pub use config::Config;
 pub use error::{RunError, Setting};
+pub use opened_run::{OpenedRun, open_post};
 pub use outcome::Outcome;
 pub use pe_worker::{Fault, NoWatch, PeStep, Watch};
-pub use running::{carry_on, run, run_watched};
+pub use running::{run, run_opened, run_watched};

@@ -6,12 +6,9 @@ ghost use Rattle.std.specs.VecDeque.{deque_len};
 ghost use Rattle.chare_index.specs.declared.limits.TheConstants.Limits.{SEATS};
 ghost use Rattle.pe_queues.specs.Seats.{pes};
 ghost use Rattle.rts_run.specs.Configs.{IsWithin};
-ghost use Rattle.rts_run.specs.Openings.{AreNewSeats, IsBeginning};
-ghost use Rattle.rts_run.specs.Outcomes.{IsOutcome};
+ghost use Rattle.rts_run.specs.Openings.{AreNewSeats, AreOfRun, IsBeginning};
 
 use crate::config::Config;
-use crate::outcome::Outcome;
-use crate::reopening::{places_of, reopen_all};
 use crate::workers::open_workers;
 use at_sync::Board;
 use barrier::RunStrategy;
@@ -28,7 +25,7 @@ use std::marker::Model;
 /// A run that has opened, or opened again, before its workers begin: its queues with a seat for each PE, its PEs, a location word for
 /// each element, and its board. Contracts see its beginning.
 #[derive(Drop)]
-pub(crate) struct OpenedRun<C: Chare<A>, H: Openings<C> + RunStrategy, A: Allocator> {
+pub struct OpenedRun<C: Chare<A>, H: Openings<C> + RunStrategy, A: Allocator> {
     post: Post<Parcel<C, H, A>, A>,
     seats: Vec<Seat<Parcel<C, H, A>, A>, A>,
     states: Vec<PeState<C, H, A>, A>,
@@ -75,31 +72,27 @@ impl<C: Chare<A>, H: Openings<C> + RunStrategy, A: Allocator + Copy> OpenedRun<C
         })
     }
 
-    /// A run that goes on from what an earlier run of the chares that `H` names has left. The only error is that memory was refused.
-    pub(crate) fn again(
-        alloc: A,
-        config: &Config,
-        outcome: Outcome<C, A>,
-    ) -> Result<Self, AllocError>
-        requires within { IsWithin config.now }
-        requires few { length H.opened ≤ Limits.ELEMENTS }
-        requires run { config.now.pes ≡ H.pes }
-        requires earlier { IsOutcome C.step C.fits C.pack C.refuses H.opened H.pes H.strategy outcome }
-        ensures capacity { IfOk result (λ o. o.post.capacity ≡ config.now.capacity) }
+    /// A run that begins with these queues, with a seat of each PE, these PEs, words and board: what a run that opens in another way is
+    /// made of.
+    pub fn of_parts(
+        post: Post<Parcel<C, H, A>, A>,
+        seats: Vec<Seat<Parcel<C, H, A>, A>, A>,
+        states: Vec<PeState<C, H, A>, A>,
+        words: Locations<OfRun<C, H>, A>,
+        board: Board<A>,
+    ) -> Self
+        requires beginning { IsBeginning C.step H.pes H.opened (record { post = post; starts = states.items; shares = map (λ s. s.seats) seats.items }) }
+        requires new_seats { AreNewSeats post seats.items }
+        requires of_run { AreOfRun H.pes (length H.opened) H.strategy words board }
+        ensures post { result.post ≡ post }
     {
-        let (ends, left, board, _) = outcome.into_parts();
-        let n = board.len() as u32;
-        let states = reopen_all(alloc, config.pes, ends, left)?;
-        let places = places_of::<C, H, A>(alloc, n, config.pes, &states)?;
-        let words = Locations::<OfRun<C, H>, A>::new(alloc, &places, config.pes)?;
-        let (post, seats) = open_post::<C, H, A>(alloc, config)?;
-        Ok(OpenedRun {
+        OpenedRun {
             post,
             seats,
             states,
             words,
             board,
-        })
+        }
     }
 
     /// What its workers share, and a worker for each PE, in order. The only error is that memory was refused.
@@ -145,12 +138,12 @@ fn element_count<C>(chares: &[C]) -> u32
     chares.len() as u32
 }
 
-// The queues of a run, with a seat for each PE.
-fn open_post<C: Chare<A>, H: Openings<C> + RunStrategy, A: Allocator + Copy>(
+/// The queues of a run, with a seat for each PE. The only error is that memory was refused.
+pub fn open_post<C: Chare<A>, H: Openings<C> + RunStrategy, A: Allocator + Copy>(
     alloc: A,
     config: &Config,
 ) -> Result<(Post<Parcel<C, H, A>, A>, Vec<Seat<Parcel<C, H, A>, A>, A>), AllocError>
-    requires { IsWithin config.now }
+    requires within { IsWithin config.now }
     ensures served { IfOk result (λ made. pes made.0 ≡ config.now.pes) }
     ensures capacity { IfOk result (λ made. made.0.capacity ≡ config.now.capacity) }
     ensures seated { IfOk result (λ made. length made.1.items ≡ config.now.pes) }

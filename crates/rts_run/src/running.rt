@@ -29,7 +29,6 @@ use run_account::{LeftBuffers, take_next};
 use std::alloc::{AllocError, Allocator};
 use std::collections::VecDeque;
 use std::marker::Brand;
-use std::snapshot::Snapshot;
 use std::sync::Wait;
 use std::thread::Threads;
 use worker_threads::Crew;
@@ -97,75 +96,6 @@ pub fn run_watched<
     }
 }
 
-/// Carries on a run that ended early, from what it left, on as many PEs and by the same strategy: its elements where they are, its
-/// letters where they were held, its rounds counted on. What each PE's queue still held comes back to that PE first. Elements that
-/// have started keep or drop what they handle as before; the watch is told of what happens from now on. `opening` is a snapshot of the
-/// chares that the first run opened with, which has no bytes: only the contract reads it.
-///
-/// The outcome is one of both runs together, as if they were one: the clause `outcome` says of it what [`run`] promises. So what was
-/// posted in the first run is executed in one of the two, or held at the end, and it may be carried on in turn. Where every element
-/// has finished the run ends at once. After a [`Mismatch`](Fault::Mismatch) it ends in one.
-///
-/// # Errors
-///
-/// Those of [`run`]. The outcome is dropped then.
-pub fn carry_on<
-    C: Chare<A> + Send,
-    G: Gate + Sync,
-    V: Watch + Sync,
-    R: Threads + Wait + Sync,
-    A: Allocator + Copy + Send + Sync,
->(
-    rt: &R,
-    alloc: A,
-    config: &Config,
-    gate: &G,
-    watch: &V,
-    opening: &Snapshot<Vec<C, A>>,
-    outcome: Outcome<C, A>,
-) -> Result<Outcome<C, A>, RunError>
-    requires earlier { IsOutcome C.step C.fits C.pack C.refuses opening.now.value.items config.now.pes config.now.strategy outcome }
-    ensures answer { MatchResult result (λ _. MayBegin config.now (length opening.now.value.items))
-        (RefusesRun config.now (length opening.now.value.items)) }
-    ensures outcome { IfOk result (IsOutcome C.step C.fits C.pack C.refuses opening.now.value.items config.now.pes config.now.strategy) }
-{
-    if let Some(setting) = config.first_outside(outcome.board().len()) {
-        return Err(RunError::Config(setting));
-    }
-    match carry_on_as::<C, Brand, G, V, R, A>(rt, alloc, config, gate, watch, opening, outcome) {
-        Ok(outcome) => Ok(outcome),
-        Err(_) => Err(RunError::OutOfMemory),
-    }
-}
-
-// The same, for the chares that `H` names.
-fn carry_on_as<
-    C: Chare<A> + Send,
-    H: Openings<C> + RunStrategy + Send + Sync,
-    G: Gate + Sync,
-    V: Watch + Sync,
-    R: Threads + Wait + Sync,
-    A: Allocator + Copy + Send + Sync,
->(
-    rt: &R,
-    alloc: A,
-    config: &Config,
-    gate: &G,
-    watch: &V,
-    _opening: &Snapshot<Vec<C, A>>,
-    outcome: Outcome<C, A>,
-) -> Result<Outcome<C, A>, AllocError>
-    requires opened { _opening.now.value.items ≡ H.opened }
-    requires within { IsWithin config.now }
-    requires few { length H.opened ≤ Limits.ELEMENTS }
-    requires run { config.now.pes ≡ H.pes }
-    requires earlier { IsOutcome C.step C.fits C.pack C.refuses H.opened H.pes H.strategy outcome }
-    ensures outcome { IfOk result (IsOutcome C.step C.fits C.pack C.refuses H.opened H.pes H.strategy) }
-{
-    let opened = OpenedRun::<C, H, A>::again(alloc, config, outcome)?;
-    run_opened(rt, alloc, config, gate, watch, opened)
-}
-
 // The run of the chares that `H` names; the types of all that it is made of name them too.
 fn run_as<
     C: Chare<A> + Send,
@@ -193,8 +123,9 @@ fn run_as<
     run_opened(rt, alloc, config, gate, watch, opened)
 }
 
-// The run of PEs that have opened. It picks the name of its beginning.
-fn run_opened<
+/// The run of PEs that have opened, under a name of its beginning that it picks. The only error is that memory was refused. The outcome
+/// is what [`run`] promises of the chares that `H` names.
+pub fn run_opened<
     C: Chare<A> + Send,
     H: Openings<C> + RunStrategy + Send + Sync,
     G: Gate + Sync,
