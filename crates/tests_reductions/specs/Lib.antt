@@ -1,3 +1,1 @@
 pub mod Givers
-pub mod Numerals
-pub mod Spans
