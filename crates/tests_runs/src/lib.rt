@@ -1,7 +1,9 @@
 //! Tests of runs over threads: worked examples whose results come from outside, runs that end early or are stopped, gates, refused
-//! memory, full sizes, queues of little capacity, and random runs after which each letter is found by hand.
+//! memory, runs that are carried on, full sizes, queues of little capacity, and random runs after which each letter is found by hand.
 #![tactic(auto)]
 
+#[cfg(test)]
+mod carried_on;
 #[cfg(test)]
 mod dropped;
 #[cfg(test)]

@@ -30,9 +30,15 @@ fn run_seen<
     run_watched(rt, rt.alloc(), &config, &NoGate, watch, chares).expect(rt, "the run did not begin")
 }
 
-// Lets this number of questions pass, and then asks the run to stop.
+/// Lets this number of questions pass, and then asks the run to stop.
 #[derive(Drop)]
-struct Patience(AtomicU64);
+pub(crate) struct Patience(AtomicU64);
+
+impl Patience {
+    pub(crate) fn of(questions: u64) -> Patience {
+        Patience(AtomicU64::new(questions))
+    }
+}
 
 impl Watch for Patience {
     fn decided(&self, _round: Round, _executed: u64) {}
@@ -55,8 +61,8 @@ fn started_on<A: Allocator + Copy>(end: &PeEnd<Errand, A>) -> usize {
     started
 }
 
-// Elements, each of which sends the first one two letters as it starts, and that wait for more.
-fn that_wait(rt: &(impl Abort + AllocGlobal), elements: usize) -> Vec<Errand> {
+/// Elements, each of which sends the first one two letters as it starts, and that wait for more.
+pub(crate) fn that_wait(rt: &(impl Abort + AllocGlobal), elements: usize) -> Vec<Errand> {
     let mut errands = Vec::new(rt.alloc());
     for _ in 0..elements {
         let waits = Errand {
@@ -75,7 +81,7 @@ type Row = (usize, u64, (Option<Fault>, Account, usize));
 
 fn expect_stopped<R: Threads + Wait + Sync + Abort + AllocGlobal>(rt: &R, row: &Row) {
     let (elements, questions, want) = *row;
-    let watch = Patience(AtomicU64::new(questions));
+    let watch = Patience::of(questions);
     let outcome = run_seen(rt, 1, &watch, that_wait(rt, elements));
     compare(rt, &outcome, elements);
     let started = outcome.ends().first().map_or(0, |end| started_on(end));
