@@ -94,10 +94,25 @@ fn note_leaving<C: Chare<A>, H: Openings<C>, A: Allocator>(
     ensures named { All (λ q. q < H.pes) places.new }
 {
     if let Some(item) = state.as_end().hand() {
-        note_item::<C, H, A>(places, state, item);
+        note_item(places, state, item);
     }
-    for item in state.as_end().outbox() {
-        note_item::<C, H, A>(places, state, item);
+    let (front, back) = state.as_end().outbox().as_slices();
+    note_items(places, state, front);
+    note_items(places, state, back);
+}
+
+// Notes the elements of these parcels.
+fn note_items<C: Chare<A>, H: Openings<C>, A: Allocator>(
+    places: &mut [Pe],
+    state: &PeState<C, H, A>,
+    items: &[Item<A>],
+)
+    requires named { All (λ q. q < H.pes) places.old }
+    ensures counted { length places.new ≡ length places.old }
+    ensures named { All (λ q. q < H.pes) places.new }
+{
+    for item in items {
+        note_item(places, state, item);
     }
 }
 
