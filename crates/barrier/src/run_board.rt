@@ -1,7 +1,8 @@
 ghost use Rattle.std.specs.Prelude.{◌≡◌, ℕ, ◌<◌, ◌≤◌, ◌↔◌, IfOk, IfErr, IfSome, IsTrue, IsFalse, IsSome, None, MatchResult, OnOk, OnErr};
+ghost use Rattle.std.specs.Option.{option_copied};
 ghost use Rattle.lb_database.specs.Measuring.{IsComplete, elements};
 ghost use Rattle.lb_database.specs.Refusals.{IsReport, RefusesReport};
-ghost use Rattle.at_sync.specs.Boards.{Decides, HaveFinished, IsBoard, after_finish, after_report, decision_of, place_in};
+ghost use Rattle.at_sync.specs.Boards.{Decides, HaveFinished, IsBoard, after_finish, after_report, decision_of, kept_of, place_in};
 ghost use Rattle.at_sync.specs.Refusals.{RefusesDecision, RefusesFinish, database_error_of};
 ghost use Rattle.barrier.specs.Places.{place_among, places_by};
 ghost use Rattle.barrier.specs.Refusals.{IsRefusedDecision};
@@ -10,7 +11,8 @@ use crate::board_size::BoardSize;
 use crate::round_places::RoundPlaces;
 use at_sync::{Board, BoardError};
 use chare_index::{Gate, Index, Limits, Pe, Round};
-use lb_snapshot::Units;
+use lb_refinement::Refined;
+use lb_snapshot::{Snapshot, Units};
 use std::alloc::{Allocator, Global};
 use std::marker::{Model, PhantomData};
 use std::thread::Threads;
@@ -118,6 +120,13 @@ impl<J: BoardSize, A: Allocator> RunBoard<J, A> {
         ensures err { OnErr result (self.new ≡ self.old) }
     {
         self.board.decide_with(rt, workers, gate)
+    }
+
+    /// The snapshot and the decision of a round, as [`Board::kept_for`] gives them, or `None` where the round is not decided.
+    pub fn kept_for(&self, round: Round) -> Option<&(Snapshot<A>, Refined<A>)>
+        ensures value { option_copied result ≡ kept_of self.now.rounds round }
+    {
+        self.board.kept_for(round)
     }
 
     /// The place of element `i` in the decision of a round, as [`Board::place_for`] gives it: one of the run's PEs, or

@@ -7,12 +7,13 @@ use std::alloc::Global;
 use std::fs::{File, Files};
 use std::io::{self, Write};
 use workload_run::{
-    Beside, BesideText, Driven, DumpFiles, DumpFormat, Lost, NotWritten, write_asked, write_beside,
+    Beside, BesideText, Driven, DumpFiles, DumpFormat, Lost, NotWritten, finish_dumped,
+    write_asked, write_beside,
 };
 
-// The files of the system.
+/// The files of the system.
 #[derive(Drop)]
-struct SystemFiles<'a, R>(&'a R);
+pub(crate) struct SystemFiles<'a, R>(pub(crate) &'a R);
 
 impl<R: Files> DumpFiles for SystemFiles<'_, R> {
     type File = R::File;
@@ -35,6 +36,21 @@ pub(crate) fn write_dumps<R: Files + Eprint + AllocGlobal, W: Write>(
     let format = DumpFormat::asked(asked.lbd1);
     let mut files = SystemFiles(rt);
     let (status, failed) = write_asked(rt.alloc(), driven, format, asked.dump, &mut files, writer);
+    if let Some(dump) = failed {
+        tell_dump(rt, asked.dump.unwrap_or(""), dump);
+    }
+    status
+}
+
+/// Writes what was wrong with the first dump that was not written as its round was decided, if there is one, and returns the status.
+pub(crate) fn finish_dumps<R: Eprint, W: Write>(
+    rt: &R,
+    asked: &Asked<'_>,
+    driven: &Driven<Global>,
+    failed: Option<NotWritten>,
+    writer: &mut W,
+) -> u8 {
+    let status = finish_dumped(driven, failed.is_some(), writer);
     if let Some(dump) = failed {
         tell_dump(rt, asked.dump.unwrap_or(""), dump);
     }

@@ -7,17 +7,20 @@
 //!   arguments ask for no run.
 //! - `workload_run::drive_file`: the run of a workload, from a file to its text; `write_asked`: the dumps of its rounds, and
 //!   the status; `write_beside`: the list of events and the trace, where they are asked for and there was a run.
+//! - `early_dumps`: dumps that are written as the rounds are decided, where elements drop what they have handled.
 //! - `one_thread`: the runs on one thread, by the crate `schedule_run`. `traces`: the trace of a run, by `run_trace`. `files`: the
 //!   files of the system.
 //! - `progress_line::Progress`: what is written to the standard error meanwhile; `streams::Advice`: what is printed about a
 //!   file with a fault.
 #![tactic(auto)]
 
+mod early_dumps;
 mod files;
 mod one_thread;
 mod traces;
 
-use crate::files::write_dumps;
+use crate::early_dumps::EarlyDumps;
+use crate::files::{finish_dumps, write_dumps};
 use crate::one_thread::{run_by_list, run_by_seed, run_by_seeds};
 use crate::traces::{Onlookers, keep_recorded, lose_trace};
 use at_sync::Strategy;
@@ -79,7 +82,15 @@ fn run_on_threads<
 >(rt: &R, asked: &Asked<'_>, progress: bool, errors: &mut E) -> u8 {
     let progress = Progress::new(rt, progress).unwrap_or(Progress::Off);
     match Tracing::new(rt, rt.alloc(), asked.trace.is_some()) {
-        Ok(tracing) => run_watched(rt, asked, Onlookers { progress, tracing }, errors),
+        Ok(tracing) => {
+            let dumps = EarlyDumps::of(rt, asked);
+            let onlookers = Onlookers {
+                progress,
+                tracing,
+                dumps,
+            };
+            run_watched(rt, asked, onlookers, errors)
+        }
         Err(error) => lose_trace(rt, asked, error, &mut io::writer(rt)),
     }
 }
@@ -105,12 +116,20 @@ fn run_watched<R: Threads + Wait + Sync + Files + Clock + Print + Eprint + Alloc
         history_of(asked),
         &onlookers,
     );
-    let Onlookers { progress, tracing } = onlookers;
+    let Onlookers {
+        progress,
+        tracing,
+        dumps,
+    } = onlookers;
     progress.finish();
     let is_fault = driven.status() == BAD_FILE;
     let _told = ADVICE.tell(rt.alloc(), errors, asked.file, reason, is_fault);
     let is_lost = keep_recorded(rt, asked.trace, tracing, &driven, &mut writer);
-    let status = write_dumps(rt, asked, &driven, &mut writer);
+    let status = if dumps.is_on() {
+        finish_dumps(rt, asked, &driven, dumps.into_failed(), &mut writer)
+    } else {
+        write_dumps(rt, asked, &driven, &mut writer)
+    };
     status_beside(status, is_lost)
 }
 

@@ -1,13 +1,16 @@
 //! The trace of a run, in the file that is asked for.
 
+use crate::early_dumps::EarlyDumps;
 use crate::files::keep_file;
 use chare_index::{Pe, Round};
+use lb_refinement::Refined;
+use lb_snapshot::Snapshot;
 use pe_worker::{PeStep, Watch};
 use progress_line::Progress;
 use rts_run::Outcome;
 use run_command_line::Asked;
 use run_trace::{Timeline, TraceError, Tracing, write_trace};
-use std::alloc::Global;
+use std::alloc::{Allocator, Global};
 use std::fs::Files;
 use std::io::Write;
 use std::sync::Wait;
@@ -15,17 +18,26 @@ use std::time::Clock;
 use tally::Tally;
 use workload_run::{Beside, BesideText, Driven, Onlooker, report_lost, status_beside};
 
-/// The watches of a run over threads: the progress line, and the recorder of a trace.
+/// The watches of a run over threads: the progress line, the recorder of a trace, and the dumps that are written as rounds are decided.
 #[derive(Drop)]
 pub(crate) struct Onlookers<'a, R> {
     pub(crate) progress: Progress<'a, R>,
     pub(crate) tracing: Tracing<'a, R>,
+    pub(crate) dumps: EarlyDumps<'a, R>,
 }
 
-impl<R: Clock + Eprint + Wait> Watch for Onlookers<'_, R> {
+impl<R: Clock + Eprint + Files + Wait + AllocGlobal> Watch for Onlookers<'_, R> {
     fn decided(&self, round: Round, executed: u64) {
         self.progress.decided(round, executed);
         self.tracing.decided(round, executed);
+    }
+
+    fn follows_rounds(&self) -> bool {
+        self.dumps.follows_rounds()
+    }
+
+    fn made_round<B: Allocator + Copy>(&self, snapshot: &Snapshot<B>, decision: &Refined<B>) {
+        self.dumps.made_round(snapshot, decision);
     }
 
     fn wants_stop(&self) -> bool {
@@ -45,7 +57,7 @@ impl<R: Clock + Eprint + Wait> Watch for Onlookers<'_, R> {
     }
 }
 
-impl<R: Clock + Eprint + Wait> Onlooker for Onlookers<'_, R> {
+impl<R: Clock + Eprint + Files + Wait + AllocGlobal> Onlooker for Onlookers<'_, R> {
     fn expects(&self, rounds: u32) {
         self.progress.expects(rounds);
     }

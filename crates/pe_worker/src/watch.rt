@@ -1,5 +1,8 @@
 use chare_index::{Index, Pe, Round};
 use chares::LetterId;
+use lb_refinement::Refined;
+use lb_snapshot::Snapshot;
+use std::alloc::Allocator;
 
 /// What a worker did with its PE in one step. Posts are counted beside it: see [`Watch::made_step`].
 #[derive(Clone, Copy, Debug, PartialEq, Eq)]
@@ -27,6 +30,16 @@ pub trait Watch {
     /// A round was decided, and so many letters have been executed, as far as the workers have counted them by then. It is called by
     /// the worker that has decided the round, without a lock; the next round may be decided meanwhile.
     fn decided(&self, round: Round, executed: u64);
+
+    /// Whether [`made_round`](Watch::made_round) is called.
+    fn follows_rounds(&self) -> bool {
+        false
+    }
+
+    /// A round was decided: its snapshot, and what was decided for it. The worker that has decided it calls this under the lock of
+    /// the board, before [`decided`](Watch::decided) and before any other worker is told. So the rounds come in order, and the run
+    /// waits meanwhile.
+    fn made_round<B: Allocator + Copy>(&self, _snapshot: &Snapshot<B>, _decision: &Refined<B>) {}
 
     /// Whether the run is to stop, as after a signal or when its time is up. Each worker asks before it starts an
     /// element and before each of its turns, of up to 64 letters, without a lock, so the answer has to come fast. Where it is

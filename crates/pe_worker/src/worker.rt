@@ -13,7 +13,7 @@ use crate::telling::{after, after_act, after_going_on, before_act, before_elemen
 use crate::watch::{PeStep, Watch};
 use at_sync::BoardError;
 use barrier::{RunBoard, RunStrategy};
-use chare_index::{Gate, Index, Pe};
+use chare_index::{Gate, Index, Pe, Round};
 use chares::{Carried, Chare, Openings};
 use pe_state::{Acted, PeState};
 use std::alloc::{AllocError, Allocator, Global};
@@ -456,6 +456,7 @@ impl<C: Chare<A>, H: Openings<C> + RunStrategy, J: RunBeginning<C>, A: Allocator
         self.completes = false;
         match field.barrier.decide_with(rt, field.probe_workers(), gate) {
             Ok(round) => {
+                show_round(rt, watch, field, round);
                 field.tell_decided(round);
                 watch.decided(round, field.executed());
                 Ok(true)
@@ -464,6 +465,24 @@ impl<C: Chare<A>, H: Openings<C> + RunStrategy, J: RunBeginning<C>, A: Allocator
             Err(BoardError::OutOfMemory) => Err(Fault::OutOfMemory),
             Err(_) => Ok(false),
         }
+    }
+}
+
+// Shows a round that was decided to the watch, where that follows rounds.
+fn show_round<
+    C: Chare<A>,
+    H: Openings<C> + RunStrategy,
+    J: RunBeginning<C>,
+    V: Watch,
+    R: Wait,
+    A: Allocator + Copy,
+>(rt: &R, watch: &V, field: &Field<C, H, J, A>, round: Round) {
+    if !watch.follows_rounds() {
+        return;
+    }
+    let guard = field.barrier.lock(rt);
+    if let Some((snapshot, decision)) = guard.kept_for(round) {
+        watch.made_round(snapshot, decision);
     }
 }
 

@@ -1,6 +1,7 @@
-ghost use Rattle.std.specs.Prelude.{◌≡◌, [], None, IfNone, IfSome};
+ghost use Rattle.std.specs.Prelude.{◌≡◌, [], None, IfNone, IfSome, IsFalse, IsTrue};
 ghost use Rattle.std.specs.Option.{option_map_or};
-ghost use Rattle.workload_run.specs.Finishing.{FinishesWithDumps, IsFinished};
+ghost use Rattle.streams.specs.Writing.{WritesPrefix};
+ghost use Rattle.workload_run.specs.Finishing.{FinishesWithDumps, IsFinished, dump_line};
 
 use crate::driven::Driven;
 use crate::dumps::{DumpFiles, NotWritten, write_dumps};
@@ -14,6 +15,24 @@ const NO_DUMP: &str = "dump: write failed\n";
 
 /// The status where a dump was not written.
 const NO_OUTPUT: u8 = 5;
+
+/// The status that a program exits with whose dumps were written as the rounds were decided, by
+/// [`write_dump_of`](crate::write_dump_of): that of the run, or 5 where one was not written. In that case the writer gets the line
+/// `dump: write failed`, or a prefix of it where it fails.
+pub fn finish_dumped<W: Write, B: Allocator + Copy>(
+    driven: &Driven<B>,
+    has_failed: bool,
+    writer: &mut W,
+) -> u8
+    ensures written { IsFalse has_failed → IsFinished driven.now.ended (W.contents writer.old) (W.contents writer.new) result }
+    ensures failed { IsTrue has_failed → (result ≡ 5) × WritesPrefix (W.contents writer.old) (W.contents writer.new) dump_line }
+{
+    if !has_failed {
+        return driven.status();
+    }
+    let _told = write_out(writer, NO_DUMP.as_bytes());
+    NO_OUTPUT
+}
 
 /// Writes the dump of each round that was decided, as [`write_dumps`] does, where a prefix is given, however the run ended.
 /// Returns the status that a program exits with: that of the run, or 5 where a dump was not written. In that case the dump
