@@ -48,6 +48,7 @@ impl WireElement {
     /// - [`OutOfMemory`](PupError::OutOfMemory): memory was refused.
     /// - [`TooLong`](PupError::TooLong): its journal has 2^64 entries or more.
     /// - [`Bad`](PupError::Bad): it waits for the last round, or the load of a mark is above the limit of a load.
+    #[tactic(auto, using(crate::proofs::Lengths::journal_length))]
     pub fn of(alloc: Global, element: &Packed) -> Result<Self, PupError>
         ensures value { IfOk result (λ e. e ≡ sent_of element.now) }
     {

@@ -100,6 +100,7 @@ impl WireMark {
     }
 
     /// The mark, as an element keeps it.
+    #[tactic(auto, using(crate::proofs::Lights::light))]
     pub fn to_kept(&self) -> KeptMark
         ensures value { result ≡ self.now }
     {
