@@ -79,7 +79,7 @@ into_loose_spec 𝓤 𝓛 𝓜 𝓡 wired T L g d met =
     (λ closed. sets ! (agg ! (and_then ! (lit ! tt) (no_more !))) refl (tt, (record { fits = lit< tt }, tt)) $
     use0 𝓛 (‵ (Out.own_val None (none ∷ []))) (none_of 𝓛 Lr) $
     let Told : Type 0 = v.is_open ≡ false in use0 𝓛 (raw (fact 𝓤 Told)) (fact_i 𝓤 Told (emp 𝓤) (shut v.is_open closed)) $ nothing ! $ nothing ! $ fjoin ! $ nothing ! $ fjoin ! $
-    returns_within ! Post refl (look_at ! 0 refl) $ free_all ! refl $ keep ! (6 ∷ 0 ∷ 2 ∷ 1 ∷ []) $ by ! (leaves 𝓛 En hs c z none None (_, (tt, tt)) (tt, (tt, tt))))
+    returns_within ! Post refl (look_at ! 0 refl) $ free_all ! refl $ keep ! (6 ∷ 0 ∷ 2 ∷ 1 ∷ []) $ by ! (leaves 𝓛 En hs c z none None (tt, (tt, tt)) (tt, (tt, tt))))
     (λ opened. skips ! $ exec ! 𝓣.C 𝓣.Λ Ev (after 4 fn.body) (at_ret Ev Post) $ let is : v.is_open ≡ true = ajar v.is_open opened in
     rewrite ! 2 (λ (b : Bool). ‵ (lodged P g v.at b v.pe)) is refl $ move ! (2 ∷ []) $
     in_a_block ! v.at (λ p. box_owns chunk R p v.pe) (fst∗ 𝓤 (never 𝓤) (sem 𝓛 (ghosts.dealloc_token a (bare (lone R.mir)) null_ptr))) (λ b o e.
@@ -90,4 +90,4 @@ into_loose_spec 𝓤 𝓛 𝓜 𝓡 wired T L g d met =
     loose_in R Z LZ ghosts ! b o h a v.pe $ use1 𝓛 (‵ (Out.own_val (Some d') (some ∷ []))) (Some-of 𝓛 Lr d' made) $
     let Told : Type 0 = (v.is_open ≡ true) × (d'.value ≡ v.pe) in use0 𝓛 (raw (fact 𝓤 Told)) (fact_i 𝓤 Told (emp 𝓤) (is, refl)) $ nothing ! $ nothing ! $ fjoin ! $ nothing ! $ fjoin ! $
     -- [the last values; the facts; the box; the rest; the tokens]
-    returns ! (look_at ! 0 refl) $ free_all ! refl $ keep ! (4 ∷ 0 ∷ 2 ∷ 1 ∷ []) $ by ! (leaves 𝓛 En hs c z some (Some d') (_, (tt, tt)) (tt, (tt, tt)))))))))
+    returns ! (look_at ! 0 refl) $ free_all ! refl $ keep ! (4 ∷ 0 ∷ 2 ∷ 1 ∷ []) $ by ! (leaves 𝓛 En hs c z some (Some d') (tt, (tt, tt)) (tt, (tt, tt)))))))))

@@ -50,4 +50,4 @@ of_spec 𝓤 𝓛 𝓜 𝓡 wired T L g d met =
     -- [the box; its handle to the allocator; the rest; the tokens]
     move ! (1 ∷ []) $ drop ! $ lodge_in P g ! (block_ptr b o) true v.value $ let Told : Type 0 = true ≡ true in let Kept : Type 0 = v.value ≡ v.value in
     use0 𝓛 (raw (fact 𝓤 Kept)) (fact_i 𝓤 Kept (emp 𝓤) refl) $ use0 𝓛 (raw (fact 𝓤 Told)) (fact_i 𝓤 Told (emp 𝓤) refl) $ join ! $ nothing ! $ nothing ! $ fjoin ! $
-    returns ! (look_at ! 0 refl) $ free_all ! refl $ keep ! (4 ∷ 0 ∷ 2 ∷ 1 ∷ []) $ by ! (leaves 𝓛 En hs c z (both (vptr b o) (vbool true)) (record { at = block_ptr b o; is_open = true; pe = v.value }) (_, tt) (tt, tt)))))
+    returns ! (look_at ! 0 refl) $ free_all ! refl $ keep ! (4 ∷ 0 ∷ 2 ∷ 1 ∷ []) $ by ! (leaves 𝓛 En hs c z (both (vptr b o) (vbool true)) (record { at = block_ptr b o; is_open = true; pe = v.value }) (tt, tt) (tt, tt)))))
