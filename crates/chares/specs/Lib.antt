@@ -4,6 +4,7 @@ pub mod Elements
 pub mod Journals
 pub mod Keeping
 pub mod Letters
+pub mod Marks
 pub mod Orders
 pub mod Posting
 pub mod Progressing

@@ -1,10 +1,11 @@
 //! An element on a PE.
 
-ghost use Rattle.std.specs.Prelude.{◌≡◌, ◌≢◌, ℕ, List, ◌+◌, ◌∷◌, ◌++◌, [], ◌<◌, ◌≤◌, length, false, true, IfOk, IfErr, IfSome, OnOk, OnErr, Some, None, slice_get, vec_len, vec_capacity};
+ghost use Rattle.std.specs.Prelude.{◌≡◌, ◌≢◌, ℕ, List, ◌+◌, ◌∷◌, ◌++◌, [], ◌<◌, ◌≤◌, length, false, true, IfOk, IfErr, IfSome, OnOk, OnErr, Some, None, slice_get};
 ghost use Rattle.chare_index.specs.declared.limits.TheConstants.Limits.{LOAD, ROUND};
 ghost use Rattle.chares.specs.declared.entry.Entry.{Entry};
 ghost use Rattle.chares.specs.declared.sends.SendError.TheVariants.{OutOfMemory};
 ghost use Rattle.chares.specs.Elements.{ElementView, opening_element, sent_by, note_of, ran, MayReturn};
+ghost use Rattle.chares.specs.declared.note.Mark.{Mark};
 ghost use Rattle.chares.specs.declared.trace_entry.TraceEntry.{TraceEntry};
 ghost use Rattle.chares.specs.Keeping.{IsLight};
 ghost use Rattle.chares.specs.Posting.{with_execution, with_resumption};
@@ -15,6 +16,7 @@ use crate::chare::{Armed, Chare, Here};
 use crate::history::History;
 use crate::kept_mark::KeptMark;
 use crate::letter::Letter;
+use crate::marks::Marks;
 use crate::note::Note;
 use crate::progress::{Ending, Progress};
 use crate::sends::{SendError, Sends};
@@ -32,7 +34,7 @@ pub struct Element<C: Chare<A>, A: Allocator = Global> {
     chare: C,
     journal: Annals<A>,
     progress: Progress,
-    marks: Vec<KeptMark, A>,
+    marks: Marks<A>,
 }
 
 impl<C: Chare<A>, A: Allocator> Model for Element<C, A> {
@@ -42,7 +44,7 @@ impl<C: Chare<A>, A: Allocator> Model for Element<C, A> {
 
     ghost Value = { ElementView C };
 
-    ghost view = { λ e. record { index = e.index; chare = e.chare; journal = e.journal.entries; progress = e.progress; marks = e.marks.items } };
+    ghost view = { λ e. record { index = e.index; chare = e.chare; journal = e.journal.entries; progress = e.progress; marks = e.marks.marks } };
 
     ghost invariant = { λ e. e.progress.round < ROUND };
 }
@@ -59,7 +61,7 @@ impl<C: Chare<A>, A: Allocator> Element<C, A> {
             chare,
             journal: Annals::new(alloc),
             progress: Progress::opening(),
-            marks: Vec::new(alloc),
+            marks: Marks::new(alloc),
         }
     }
 
@@ -91,11 +93,12 @@ impl<C: Chare<A>, A: Allocator> Element<C, A> {
         &self.journal
     }
 
-    /// Keeps or drops what it handles from now on. Its journal is what it was.
+    /// Keeps or drops what it handles from now on. Its journal and its marks are what they were.
     pub fn set_history(&mut self, history: History)
         ensures same { self.new ≡ self.old }
     {
         self.journal.set_history(history);
+        self.marks.set_history(history);
     }
 
     /// How far it has come.
@@ -106,11 +109,18 @@ impl<C: Chare<A>, A: Allocator> Element<C, A> {
         self.progress
     }
 
-    /// Its marks of the rounds that it has seen.
+    /// Its marks of the rounds that it has seen, but for those that are settled: the last ones.
     pub fn marks(&self) -> &[KeptMark]
-        ensures value { result.now ≡ self.now.marks }
+        ensures last { (past : List Mark) × (self.now.marks ≡ past ++ result.now) }
     {
-        self.marks.as_slice()
+        self.marks.kept()
+    }
+
+    /// All its marks, where none is settled.
+    pub fn all_marks(&self) -> Option<&[KeptMark]>
+        ensures value { IfSome result (λ marks. marks.now ≡ self.now.marks) }
+    {
+        self.marks.all()
     }
 }
 
@@ -126,11 +136,11 @@ impl<C: Armed<A>, A: Allocator> Element<C, A> {
 
 impl<C: Chare<A>, A: Allocator> Element<C, A> {
     /// All but its chare, which is dropped.
-    pub(crate) fn into_parts(self) -> (Index, Annals<A>, Progress, Vec<KeptMark, A>)
+    pub(crate) fn into_parts(self) -> (Index, Annals<A>, Progress, Marks<A>)
         ensures index { result.0 ≡ self.index }
         ensures journal { result.1.entries ≡ self.journal }
         ensures progress { result.2 ≡ self.progress }
-        ensures marks { result.3.items ≡ self.marks }
+        ensures marks { result.3.marks ≡ self.marks }
         ensures before_last_round { self.progress.round < ROUND }
     {
         let Element {
@@ -149,10 +159,10 @@ impl<C: Chare<A>, A: Allocator> Element<C, A> {
         chare: C,
         journal: Annals<A>,
         progress: Progress,
-        marks: Vec<KeptMark, A>,
+        marks: Marks<A>,
     ) -> Self
         requires before_last_round { progress.round < ROUND }
-        ensures value { result ≡ record { index = index; chare = chare; journal = journal.entries; progress = progress; marks = marks.items } }
+        ensures value { result ≡ record { index = index; chare = chare; journal = journal.entries; progress = progress; marks = marks.marks } }
     {
         Element {
             index,
@@ -193,7 +203,7 @@ impl<C: Chare<A>, A: Allocator> Element<C, A> {
         ensures refused { IfErr result (λ unread. MayReturn C.refuses self.old sends.old.n sends.old.count (Entry.Letter letter.body) unread.error) }
         ensures taken_back { OnErr result (sends.new ≡ sends.old) }
     {
-        if self.journal.reserve_letter().is_err() || self.marks.reserve(1).is_err() {
+        if self.journal.reserve_letter().is_err() || self.marks.reserve_one().is_err() {
             let error = SendError::OutOfMemory;
             return Err(Unread { letter, error });
         }
@@ -247,7 +257,7 @@ impl<C: Chare<A>, A: Allocator> Element<C, A> {
         ensures taken_back { OnErr result (sends.new ≡ sends.old) }
     {
         self.journal.reserve_resumption()?;
-        self.marks.reserve(2)?;
+        self.marks.reserve_two()?;
         let (count, waiting, logged) = (sends.count(), sends.waiting(), sends.logged());
         sends.log(TraceEntry::Resumed(self.index, round))?;
         let here = Here {
@@ -268,9 +278,7 @@ impl<C: Chare<A>, A: Allocator> Element<C, A> {
         self.progress = progress.ended(ending);
         let kept = KeptMark::resumed(round, pe);
         self.journal.push_resumption(round);
-        let Ok(()) = self.marks.push(kept) else {
-            unreachable!()
-        };
+        self.marks.push(kept);
         mark(&mut self.marks, &note);
         Ok(note)
     }
@@ -301,10 +309,10 @@ fn owed<C: Chare<A>, A: Allocator>(
 }
 
 // Adds the mark of a note by which an element waits; any other note leaves no mark.
-fn mark<A: Allocator>(marks: &mut Vec<KeptMark, A>, note: &Option<Note>)
-    requires room { vec_len marks.old < vec_capacity marks.old }
+fn mark<A: Allocator>(marks: &mut Marks<A>, note: &Option<Note>)
+    requires room { 0 < marks.old.mark_room }
     requires light { IfSome note.now IsLight }
-    ensures { marks.new.items ≡ marks.old.items ++ synced_mark note.now }
+    ensures { marks.new.marks ≡ marks.old.marks ++ synced_mark note.now }
 {
     let Some(note) = note else {
         return;
@@ -313,7 +321,5 @@ fn mark<A: Allocator>(marks: &mut Vec<KeptMark, A>, note: &Option<Note>)
         return;
     }
     let kept = KeptMark::synced(*note).unwrap();
-    let Ok(()) = marks.push(kept) else {
-        unreachable!()
-    };
+    marks.push(kept);
 }

@@ -1,13 +1,15 @@
 //! An element on its way.
 
-ghost use Rattle.std.specs.Prelude.{◌≡◌, ℕ, ◌<◌, ◌≤◌, [], length, Ok, IsOk, IfOk, IfErr, OnErr};
+ghost use Rattle.std.specs.Prelude.{◌≡◌, ℕ, ◌<◌, ◌≤◌, ◌++◌, [], List, length, Ok, IsOk, IfOk, IfErr, IfSome, OnErr};
 ghost use Rattle.chare_index.specs.declared.limits.TheConstants.Limits.{ROUND};
 ghost use Rattle.chares.specs.Elements.{ElementView, PackedView, packed, unpacked, IsHistory, IsPackedHistory};
+ghost use Rattle.chares.specs.declared.note.Mark.{Mark};
 
 use crate::annals::Annals;
 use crate::chare::{Chare, Openings};
 use crate::element::Element;
 use crate::kept_mark::KeptMark;
+use crate::marks::Marks;
 use crate::past::Past;
 use crate::progress::Progress;
 use chare_index::Index;
@@ -22,7 +24,7 @@ struct Luggage<A: Allocator> {
     bytes: Vec<u8, A>,
     journal: Annals<A>,
     progress: Progress,
-    marks: Vec<KeptMark, A>,
+    marks: Marks<A>,
 }
 
 /// An element on its way, with its state packed. It is as small as a pointer, since queues move it. Contracts see it as the
@@ -45,7 +47,7 @@ impl<A: Allocator> Model for Packed<A> {
       bytes = e.luggage.value.bytes.items;
       journal = e.luggage.value.journal.entries;
       progress = e.luggage.value.progress;
-      marks = e.luggage.value.marks.items;
+      marks = e.luggage.value.marks.marks;
     } };
 
     ghost invariant = { λ e. e.luggage.value.progress.round < ROUND };
@@ -75,7 +77,7 @@ impl<A: Allocator> Packed<A> {
             bytes,
             journal: Annals::arrived(alloc, past, settled),
             progress,
-            marks,
+            marks: Marks::of(marks),
         };
         match Box::new(alloc, luggage) {
             Ok(luggage) => Ok(Packed { luggage }),
@@ -111,11 +113,18 @@ impl<A: Allocator> Packed<A> {
         self.luggage.progress
     }
 
-    /// Its marks of the rounds that it has seen.
+    /// Its marks of the rounds that it has seen, but for those that are settled: the last ones.
     pub fn marks(&self) -> &[KeptMark]
-        ensures value { result.now ≡ self.now.marks }
+        ensures last { (past : List Mark) × (self.now.marks ≡ past ++ result.now) }
     {
-        self.luggage.marks.as_slice()
+        self.luggage.marks.kept()
+    }
+
+    /// All its marks, where none is settled.
+    pub fn all_marks(&self) -> Option<&[KeptMark]>
+        ensures value { IfSome result (λ marks. marks.now ≡ self.now.marks) }
+    {
+        self.luggage.marks.all()
     }
 
     /// Unpacks its chare, where its bytes are the pack of what its journal says, of the array that `H` names. Such bytes
@@ -226,9 +235,9 @@ impl<C: Chare<A>, H: Openings<C>, A: Allocator> PackedElement<C, H, A> {
         self.packed.progress()
     }
 
-    /// Its marks of the rounds that it has seen.
+    /// Its marks of the rounds that it has seen, but for those that are settled: the last ones.
     pub fn marks(&self) -> &[KeptMark]
-        ensures value { result.now ≡ self.now.marks }
+        ensures last { (past : List Mark) × (self.now.marks ≡ past ++ result.now) }
     {
         self.packed.marks()
     }
@@ -267,7 +276,7 @@ impl<A: Allocator> Packing<A> {
             bytes,
             journal: Annals::new(alloc),
             progress: element.progress(),
-            marks: Vec::new(alloc),
+            marks: Marks::new(alloc),
         };
         match Box::new(alloc, luggage) {
             Ok(luggage) => Ok(Packing { luggage }),

@@ -36,26 +36,26 @@ returns-in_err-reserve_resumption-clause-taken_back g c = whatever _ _ refl
 
 -- none for the marks
 
-pub invariant_of-self-in_err-reserve : goal.invariant_of-self-in_err-reserve
-invariant_of-self-in_err-reserve g c = c.self.invariant
+pub invariant_of-self-in_err-reserve_two : goal.invariant_of-self-in_err-reserve_two
+invariant_of-self-in_err-reserve_two g c = c.self.invariant
 
-pub returns-in_err-reserve-clause-element : goal.returns-in_err-reserve-clause-element
-returns-in_err-reserve-clause-element g c = no_answer _ _ c.from_residual-in_err-reserve.ensures.0
+pub returns-in_err-reserve_two-clause-element : goal.returns-in_err-reserve_two-clause-element
+returns-in_err-reserve_two-clause-element g c = no_answer _ _ c.from_residual-in_err-reserve_two.ensures.0
 
-pub returns-in_err-reserve-clause-note : goal.returns-in_err-reserve-clause-note
-returns-in_err-reserve-clause-note g c = no_note _ _ c.from_residual-in_err-reserve.ensures.0
+pub returns-in_err-reserve_two-clause-note : goal.returns-in_err-reserve_two-clause-note
+returns-in_err-reserve_two-clause-note g c = no_note _ _ c.from_residual-in_err-reserve_two.ensures.0
 
-pub returns-in_err-reserve-clause-sends : goal.returns-in_err-reserve-clause-sends
-returns-in_err-reserve-clause-sends g c = no_answer _ _ c.from_residual-in_err-reserve.ensures.0
+pub returns-in_err-reserve_two-clause-sends : goal.returns-in_err-reserve_two-clause-sends
+returns-in_err-reserve_two-clause-sends g c = no_answer _ _ c.from_residual-in_err-reserve_two.ensures.0
 
-pub returns-in_err-reserve-clause-err : goal.returns-in_err-reserve-clause-err
-returns-in_err-reserve-clause-err g c = whatever _ _ (same_parts _ _ _ _ _ refl c.reserve_resumption.ensures.entries c.reserve.ensures.items c.self.view_is)
+pub returns-in_err-reserve_two-clause-err : goal.returns-in_err-reserve_two-clause-err
+returns-in_err-reserve_two-clause-err g c = whatever _ _ (same_parts _ _ _ _ _ refl c.reserve_resumption.ensures.entries c.reserve_two.ensures.marks c.self.view_is)
 
-pub returns-in_err-reserve-clause-refused : goal.returns-in_err-reserve-clause-refused
-returns-in_err-reserve-clause-refused g c = memory _ _ c.from_residual-in_err-reserve.ensures.1
+pub returns-in_err-reserve_two-clause-refused : goal.returns-in_err-reserve_two-clause-refused
+returns-in_err-reserve_two-clause-refused g c = memory _ _ c.from_residual-in_err-reserve_two.ensures.1
 
-pub returns-in_err-reserve-clause-taken_back : goal.returns-in_err-reserve-clause-taken_back
-returns-in_err-reserve-clause-taken_back g c = whatever _ _ refl
+pub returns-in_err-reserve_two-clause-taken_back : goal.returns-in_err-reserve_two-clause-taken_back
+returns-in_err-reserve_two-clause-taken_back g c = whatever _ _ refl
 
 -- none for the trace entry
 
@@ -72,7 +72,7 @@ pub returns-in_err-log-clause-sends : goal.returns-in_err-log-clause-sends
 returns-in_err-log-clause-sends g c = no_answer _ _ c.from_residual-in_err-log.ensures.0
 
 pub returns-in_err-log-clause-err : goal.returns-in_err-log-clause-err
-returns-in_err-log-clause-err g c = whatever _ _ (same_parts _ _ _ _ _ refl c.reserve_resumption.ensures.entries c.reserve.ensures.items c.self.view_is)
+returns-in_err-log-clause-err g c = whatever _ _ (same_parts _ _ _ _ _ refl c.reserve_resumption.ensures.entries c.reserve_two.ensures.marks c.self.view_is)
 
 pub returns-in_err-log-clause-refused : goal.returns-in_err-log-clause-refused
 returns-in_err-log-clause-refused g c = memory _ _ c.from_residual-in_err-log.ensures.1
@@ -86,7 +86,7 @@ pub invariant_of-self-in-Err : goal.invariant_of-self-in-Err
 invariant_of-self-in-Err g c = c.self.invariant
 
 pub returns-in-Err-clause-err : goal.returns-in-Err-clause-err
-returns-in-Err-clause-err g c = same_parts _ _ _ _ _ c.in-Err.ensures.err c.reserve_resumption.ensures.entries c.reserve.ensures.items c.self.view_is
+returns-in-Err-clause-err g c = same_parts _ _ _ _ _ c.in-Err.ensures.err c.reserve_resumption.ensures.entries c.reserve_two.ensures.marks c.self.view_is
 
 pub returns-in-Err-clause-refused : goal.returns-in-Err-clause-refused
 returns-in-Err-clause-refused g c =
@@ -115,7 +115,7 @@ returns-clause-element g c =
     _ _ _
     (c.push_resumption.ensures.entries ∙ ap (λ v. v ++ Resumption c.args.round ∷ []) c.reserve_resumption.ensures.entries)
     c.ended-self-inside.ensures.value
-    (c.mark.ensures ∙ ap (λ v. v ++ synced_mark c.owed-note.result) (c.in-Ok-push.ensures.items ∙ ap (λ v. v ++ c.resumed-kept.result ∷ []) c.reserve.ensures.items ∙ ap (λ m. c.self.inside.marks.items ++ m ∷ []) c.resumed-kept.ensures.value) ∙ append_assoc c.self.inside.marks.items (Resumed c.args.round c.args.pe ∷ []) (synced_mark c.owed-note.result))
+    (c.mark.ensures ∙ ap (λ v. v ++ synced_mark c.owed-note.result) (c.push.ensures.marks ∙ ap (λ v. v ++ c.resumed-kept.result ∷ []) c.reserve_two.ensures.marks ∙ ap (λ m. c.self.inside.marks.marks ++ m ∷ []) c.resumed-kept.ensures.value) ∙ append_assoc c.self.inside.marks.marks (Resumed c.args.round c.args.pe ∷ []) (synced_mark c.owed-note.result))
 
 pub invariant_of-self-2 : goal.invariant_of-self-2
 invariant_of-self-2 g c =
