@@ -309,9 +309,13 @@ fn all_running<A: Allocator>(alloc: A, n: usize) -> Result<Vec<bool, A>, AllocEr
     Ok(finished)
 }
 
-// What is to be kept of the round that was measured.
+/// What is to be kept of the round that was measured: its snapshot, and what the strategy decides for it.
+///
+/// # Errors
+///
+/// Those of [`Board::decide`], in their order.
 #[tactic(auto, using(crate::proofs::Rounds::decided_by))]
-fn decided<A: Allocator + Copy>(
+pub fn decided<A: Allocator + Copy>(
     alloc: A,
     database: &LoadDb<A>,
     pes: u32,
@@ -329,9 +333,13 @@ fn decided<A: Allocator + Copy>(
     Ok((snapshot, decision))
 }
 
-// The same, decided by several workers.
+/// The same, with the least division found by 1 to 64 workers, as [`Board::decide_with`] finds it.
+///
+/// # Errors
+///
+/// Those of [`Board::decide`], in their order.
 #[tactic(auto, using(crate::proofs::Rounds::decided_by))]
-fn decided_with<R: Threads + Sync, G: Gate + Sync, A: Allocator + Copy>(
+pub fn decided_with<R: Threads + Sync, G: Gate + Sync, A: Allocator + Copy>(
     rt: &R,
     alloc: A,
     database: &LoadDb<A>,

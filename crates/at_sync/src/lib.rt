@@ -3,7 +3,7 @@
 //!
 //! - [`Board`]: the reports of the present round, the snapshot and the decision of each round before it, and who
 //!   has finished.
-//! - [`Strategy`]: how each round is decided.
+//! - [`Strategy`]: how each round is decided; [`decided`] and [`decided_with`]: what is decided for a round that was measured.
 //! - [`BoardError`]: why a call was refused.
 //!
 //! Nothing here waits. The board that the threads of a run share, under a lock, is `Barrier` of the crate `barrier`.
@@ -29,6 +29,6 @@ mod board;
 mod error;
 mod strategy;
 
-pub use board::Board;
+pub use board::{Board, decided, decided_with};
 pub use error::BoardError;
 pub use strategy::Strategy;
