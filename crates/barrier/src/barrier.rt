@@ -5,9 +5,10 @@ ghost use Rattle.barrier.specs.Refusals.{IsRefusedDecision};
 
 use crate::board_size::BoardSize;
 use crate::run_board::RunBoard;
-use at_sync::{Board, BoardError};
+use at_sync::BoardError;
 use chare_index::{Gate, Index, Limits, Pe, Round};
 use lb_snapshot::Units;
+use lean_board::LeanBoard;
 use std::alloc::{Allocator, Global};
 use std::sync::{Mutex, MutexGuard, Wait};
 use std::thread::Threads;
@@ -23,10 +24,11 @@ pub struct Barrier<J: BoardSize, A: Allocator = Global> {
 
 impl<J: BoardSize, A: Allocator> Barrier<J, A> {
     /// Puts a board of this size under a lock.
-    pub fn new(board: Board<A>) -> Self
-        requires counted { elements board.database ≡ J.elements }
-        requires on_pes { board.pes ≡ J.pes }
-        requires by_strategy { board.strategy ≡ J.strategy }
+    pub fn new(board: LeanBoard<A>) -> Self
+        requires counted { elements board.board.database ≡ J.elements }
+        requires on_pes { board.board.pes ≡ J.pes }
+        requires by_strategy { board.board.strategy ≡ J.strategy }
+        requires book { IfSome board.book (λ book. book ≡ J.book) }
     {
         Barrier {
             board: Mutex::new(RunBoard::new(board)),
@@ -104,13 +106,14 @@ impl<J: BoardSize, A: Allocator> Barrier<J, A> {
         self.lock(rt).all_finished()
     }
 
-    /// The board, once no thread uses it any more. It still has its size, and each decision that it keeps is the best
+    /// The board, once no thread uses it any more. It still has its size, and each decision that it has made is the best
     /// for what was reported.
-    pub fn into_board(self) -> Board<A>
-        ensures counted { elements result.database ≡ J.elements }
-        ensures on_pes { result.pes ≡ J.pes }
-        ensures by_strategy { result.strategy ≡ J.strategy }
-        ensures board { IsBoard result }
+    pub fn into_board(self) -> LeanBoard<A>
+        ensures counted { elements result.board.database ≡ J.elements }
+        ensures on_pes { result.board.pes ≡ J.pes }
+        ensures by_strategy { result.board.strategy ≡ J.strategy }
+        ensures book { IfSome result.book (λ book. book ≡ J.book) }
+        ensures board { IsBoard result.board }
     {
         let Barrier { board } = self;
         board.into_inner().into_board()

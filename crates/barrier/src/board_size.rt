@@ -3,22 +3,31 @@ ghost use Rattle.at_sync.specs.declared.strategy.Strategy.{Strategy};
 
 use std::marker::Brand;
 
-/// The strategy by which the rounds of a run are decided.
+/// How the rounds of a run are decided, and which list that grows has them.
 pub trait RunStrategy {
+    ghost use Rattle.logbook.specs.Pages.{Book};
+
     /// The strategy.
     ghost strategy: { Strategy };
+
+    /// The list that grows, where the board keeps its last round alone. Where it keeps all, no clause rests on this.
+    ghost book: { Book };
 }
 
 impl RunStrategy for Brand {
     ghost use Rattle.at_sync.specs.declared.strategy.Strategy.TheVariants.{Least};
 
     ghost strategy = { Least };
+
+    ghost book = { record { number = 0; log_name = 0; cells_name = 0 } };
 }
 
 /// How many elements the board of a run has, on how many PEs, and by which strategy it decides. A thread that takes the
 /// lock knows what is under it only by its type, so a type names these numbers; the code that makes a
 /// [`Barrier`](crate::Barrier) chooses them.
 pub trait BoardSize {
+    ghost use Rattle.logbook.specs.Pages.{Book};
+
     /// How many elements there are.
     ghost elements: { ℕ };
 
@@ -27,6 +36,9 @@ pub trait BoardSize {
 
     /// The strategy by which rounds are decided.
     ghost strategy: { Strategy };
+
+    /// The list that grows, where the board keeps its last round alone.
+    ghost book: { Book };
 }
 
 impl BoardSize for Brand {
@@ -37,4 +49,6 @@ impl BoardSize for Brand {
     ghost pes = { 1 };
 
     ghost strategy = { Least };
+
+    ghost book = { record { number = 0; log_name = 0; cells_name = 0 } };
 }

@@ -1,5 +1,4 @@
-ghost use Rattle.std.specs.Prelude.{◌≡◌, ℕ, ◌<◌, ◌≤◌, ◌↔◌, IfOk, IfErr, IfSome, IsTrue, IsFalse, IsSome, None, MatchResult, OnOk, OnErr};
-ghost use Rattle.std.specs.Option.{option_copied};
+ghost use Rattle.std.specs.Prelude.{◌≡◌, ℕ, ◌<◌, ◌≤◌, ◌↔◌, IfOk, IfErr, IfSome, IsTrue, IsFalse, IsSome, Some, MatchResult, OnOk, OnErr};
 ghost use Rattle.lb_database.specs.Measuring.{IsComplete, elements};
 ghost use Rattle.lb_database.specs.Refusals.{IsReport, RefusesReport};
 ghost use Rattle.at_sync.specs.Boards.{Decides, HaveFinished, IsBoard, after_finish, after_report, decision_of, kept_of, place_in};
@@ -9,41 +8,46 @@ ghost use Rattle.barrier.specs.Refusals.{IsRefusedDecision};
 
 use crate::board_size::BoardSize;
 use crate::round_places::RoundPlaces;
-use at_sync::{Board, BoardError};
+use at_sync::BoardError;
 use chare_index::{Gate, Index, Limits, Pe, Round};
+use grown_list::Front;
 use lb_refinement::Refined;
 use lb_snapshot::{Snapshot, Units};
+use lean_board::LeanBoard;
 use std::alloc::{Allocator, Global};
 use std::marker::{Model, PhantomData};
 use std::thread::Threads;
 
-/// The [`Board`] of a run, of the size that the type `J` names. Contracts see it as the record of that board. Its calls
-/// are those of the board, and so are their errors. A call that is refused leaves it unchanged.
+/// The board of a run, of the size that the type `J` names. Contracts see it as the record of that board, with all rounds that it has
+/// decided. Its calls are those of the [`LeanBoard`], and so are their errors. A call that is refused leaves it unchanged.
 #[derive(Drop)]
 pub struct RunBoard<J: BoardSize, A: Allocator = Global> {
-    board: Board<A>,
+    board: LeanBoard<A>,
     size: PhantomData<J>,
 }
 
 impl<J: BoardSize, A: Allocator> Model for RunBoard<J, A> {
-    ghost use Rattle.std.specs.Prelude.{◌≡◌};
+    ghost use Rattle.std.specs.Prelude.{◌≡◌, IfSome};
     ghost use Rattle.at_sync.specs.Boards.{BoardState};
     ghost use Rattle.lb_database.specs.Measuring.{elements};
 
     ghost Value = { BoardState A };
 
-    ghost view = { λ b. b.board };
+    ghost view = { λ b. b.board.board };
 
-    ghost invariant = { λ b. (elements b.board.database ≡ J.elements) × (b.board.pes ≡ J.pes) × (b.board.strategy ≡ J.strategy) };
+    ghost invariant = { λ b.
+        (elements b.board.board.database ≡ J.elements) × (b.board.board.pes ≡ J.pes) × (b.board.board.strategy ≡ J.strategy)
+        × IfSome b.board.book (λ book. book ≡ J.book) };
 }
 
 impl<J: BoardSize, A: Allocator> RunBoard<J, A> {
     /// Makes a board of this size that of a run.
-    pub(crate) fn new(board: Board<A>) -> Self
-        requires counted { elements board.database ≡ J.elements }
-        requires on_pes { board.pes ≡ J.pes }
-        requires by_strategy { board.strategy ≡ J.strategy }
-        ensures value { result ≡ board }
+    pub(crate) fn new(board: LeanBoard<A>) -> Self
+        requires counted { elements board.board.database ≡ J.elements }
+        requires on_pes { board.board.pes ≡ J.pes }
+        requires by_strategy { board.board.strategy ≡ J.strategy }
+        requires book { IfSome board.book (λ book. book ≡ J.book) }
+        ensures value { result ≡ board.board }
     {
         RunBoard {
             board,
@@ -52,7 +56,7 @@ impl<J: BoardSize, A: Allocator> RunBoard<J, A> {
     }
 
     /// Charges `units` to element `i`, and notes that it waits at its place `pe` for the end of `round`, with a packed
-    /// state of `bytes` bytes, as [`Board::report`] does. The errors are [`Stranger`](BoardError::Stranger),
+    /// state of `bytes` bytes, as [`LeanBoard::report`] does. The errors are [`Stranger`](BoardError::Stranger),
     /// [`WrongRound`](BoardError::WrongRound), [`Twice`](BoardError::Twice) and [`TooLarge`](BoardError::TooLarge), the
     /// first that applies.
     pub fn report(
@@ -80,14 +84,14 @@ impl<J: BoardSize, A: Allocator> RunBoard<J, A> {
         self.board.pes()
     }
 
-    /// Whether every element has reported in the present round, as [`Board::is_complete`] says.
+    /// Whether every element has reported in the present round, as [`LeanBoard::is_complete`] says.
     pub fn is_complete(&self) -> bool
         ensures value { IsTrue result ↔ IsComplete self.now.database }
     {
         self.board.is_complete()
     }
 
-    /// Decides the present round, as [`Board::decide`] does. The errors are [`Incomplete`](BoardError::Incomplete),
+    /// Decides the present round, as [`LeanBoard::decide`] does. The errors are [`Incomplete`](BoardError::Incomplete),
     /// [`Worn`](BoardError::Worn) and [`OutOfMemory`](BoardError::OutOfMemory), the first that applies.
     pub fn decide(&mut self) -> Result<Round, BoardError>
     where
@@ -101,7 +105,7 @@ impl<J: BoardSize, A: Allocator> RunBoard<J, A> {
         self.board.decide()
     }
 
-    /// Decides the present round by 1 to [`Limits::PROBE_WORKERS`] workers, as [`Board::decide_with`] does. The errors
+    /// Decides the present round by 1 to [`Limits::PROBE_WORKERS`] workers, as [`LeanBoard::decide_with`] does. The errors
     /// are those of [`decide`](RunBoard::decide).
     pub fn decide_with<R: Threads + Sync, G: Gate + Sync>(
         &mut self,
@@ -122,34 +126,34 @@ impl<J: BoardSize, A: Allocator> RunBoard<J, A> {
         self.board.decide_with(rt, workers, gate)
     }
 
-    /// The snapshot and the decision of a round, as [`Board::kept_for`] gives them, or `None` where the round is not decided.
+    /// The snapshot and the decision of a round, as [`LeanBoard::kept_for`] gives them, or `None` where the round is not decided, or not
+    /// kept any more.
     pub fn kept_for(&self, round: Round) -> Option<&(Snapshot<A>, Refined<A>)>
-        ensures value { option_copied result ≡ kept_of self.now.rounds round }
+        ensures found { IfSome result (λ kept. kept_of self.now.rounds round ≡ Some kept.now) }
     {
         self.board.kept_for(round)
     }
 
-    /// The place of element `i` in the decision of a round, as [`Board::place_for`] gives it: one of the run's PEs, or
-    /// `None` where the round is not decided or there is no such element.
+    /// The place of element `i` in the decision of a round, as [`LeanBoard::place_for`] gives it: one of the run's PEs, or
+    /// `None` where there is no such element, or the round is not decided, or not kept any more.
     pub fn place_for(&self, round: Round, i: Index) -> Option<Pe>
-        ensures value { i < J.elements → result ≡ place_in self.now round i }
-        ensures stranger { J.elements ≤ i → result ≡ None }
+        ensures found { IfSome result (λ pe. place_in self.now round i ≡ Some pe) }
         ensures below { IfSome result (λ pe. pe < J.pes) }
         ensures before_last_round { IfSome result (λ pe. round < Limits.ROUND) }
     {
         self.board.place_for(round, i)
     }
 
-    /// Copies the places of a round, so that they can be read without the board. Returns whether the round is decided;
-    /// where it is not, the copy is unchanged. This takes no memory.
+    /// Copies the places of a round, so that they can be read without the board. Returns whether it did: whether the round is decided,
+    /// and kept. Where it is not, the copy is unchanged. This takes no memory.
     pub fn copy_places(&self, round: Round, into: &mut RoundPlaces<J, A>) -> bool
-        ensures answer { IsTrue result ↔ IsSome (decision_of self.now round) }
+        ensures answer { IsTrue result → IsSome (decision_of self.now round) }
         ensures copied { IsTrue result → IfSome (decision_of self.now round) (λ decision. into.new ≡ places_by round decision) }
         ensures places { IsTrue result → (i : ℕ) → i < J.elements → place_among into.new i ≡ place_in self.now round i }
         ensures same { IsFalse result → into.new ≡ into.old }
     {
-        // These say of every board that a round which is decided comes before the last.
-        let (_rounds, _len) = (self.board.rounds(), self.board.len());
+        // This says of every board that a round which is decided comes before the last.
+        self.board.known();
         let Some(decision) = self.board.decision_for(round) else {
             return false;
         };
@@ -157,7 +161,7 @@ impl<J: BoardSize, A: Allocator> RunBoard<J, A> {
         true
     }
 
-    /// Notes that element `i` has finished, as [`Board::finish`] does. The only error is
+    /// Notes that element `i` has finished, as [`LeanBoard::finish`] does. The only error is
     /// [`Stranger`](BoardError::Stranger).
     pub fn finish(&mut self, i: u32) -> Result<(), BoardError>
         ensures answer { MatchResult result (λ _. i < elements self.old.database) (RefusesFinish self.old.database i) }
@@ -167,24 +171,33 @@ impl<J: BoardSize, A: Allocator> RunBoard<J, A> {
         self.board.finish(i)
     }
 
-    /// Whether every element has finished, as [`Board::all_finished`] says.
+    /// Whether every element has finished, as [`LeanBoard::all_finished`] says.
     pub fn all_finished(&self) -> bool
         ensures value { IsTrue result ↔ HaveFinished self.now }
     {
         self.board.all_finished()
     }
 
-    /// The board itself. Whatever threads have done to it, each decision that it keeps is the best for what was
+    /// Its rounds as a list that grows, where it keeps the last alone.
+    pub fn front(&self) -> Option<Front<(Snapshot<A>, Refined<A>)>>
+        ensures rounds { IfSome result (λ front. front.entries ≡ self.now.rounds) }
+        ensures book { IfSome result (λ front. front.book ≡ J.book) }
+    {
+        self.board.front()
+    }
+
+    /// The board itself. Whatever threads have done to it, each decision that it has made is the best for what was
     /// reported.
-    pub fn into_board(self) -> Board<A>
-        ensures value { result ≡ self }
-        ensures counted { elements result.database ≡ J.elements }
-        ensures on_pes { result.pes ≡ J.pes }
-        ensures by_strategy { result.strategy ≡ J.strategy }
-        ensures board { IsBoard result }
+    pub fn into_board(self) -> LeanBoard<A>
+        ensures value { result.board ≡ self }
+        ensures counted { elements result.board.database ≡ J.elements }
+        ensures on_pes { result.board.pes ≡ J.pes }
+        ensures by_strategy { result.board.strategy ≡ J.strategy }
+        ensures book { IfSome result.book (λ book. book ≡ J.book) }
+        ensures board { IsBoard result.board }
     {
         let RunBoard { board, size: _ } = self;
-        let _rounds = board.rounds();
+        board.known();
         board
     }
 }
