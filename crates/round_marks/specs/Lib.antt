@@ -2,3 +2,4 @@ pub mod Finished
 pub mod Marked
 pub mod Quiet
 pub mod Runs
+pub mod Told
