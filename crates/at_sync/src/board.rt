@@ -1,6 +1,6 @@
 //! The board, after AtSync of Charm++: nothing is decided until every element waits.
 
-ghost use Rattle.std.specs.Prelude.{◌≡◌, ℕ, ◌+◌, ◌++◌, ◌∷◌, [], ◌<◌, ◌≤◌, ◌↔◌, IfOk, IfErr, IfSome, IsTrue, None, false, MatchResult, OnOk, OnErr, replicate, slice_get};
+ghost use Rattle.std.specs.Prelude.{count_by, not, ◌≡◌, ℕ, ◌+◌, ◌++◌, ◌∷◌, [], ◌<◌, ◌≤◌, ◌↔◌, IfOk, IfErr, IfSome, IsTrue, None, false, MatchResult, OnOk, OnErr, replicate, slice_get};
 ghost use Rattle.std.specs.Option.{option_copied};
 ghost use Rattle.lb_database.specs.Measuring.{IsComplete, IsMeasured, IsSnapshotOf, StandBelow, elements, opening};
 ghost use Rattle.lb_database.specs.Refusals.{HasNextRound, IsReport, RefusesReport};
@@ -296,6 +296,49 @@ impl<A: Allocator> Board<A> {
             running: _,
         } = self;
         rounds
+    }
+}
+
+/// All that a board holds.
+#[derive(Drop)]
+pub struct BoardParts<A: Allocator = Global> {
+    /// How many PEs the elements run on.
+    pub pes: u32,
+    /// How rounds are decided.
+    pub strategy: Strategy,
+    /// The reports of the present round.
+    pub database: LoadDb<A>,
+    /// The snapshot and the decision of each round that was decided, from round 1 on.
+    pub rounds: Vec<(Snapshot<A>, Refined<A>), A>,
+    /// Whether each element has finished.
+    pub finished: Vec<bool, A>,
+    /// How many elements have not finished.
+    pub running: usize,
+}
+
+impl<A: Allocator> Board<A> {
+    /// All that it holds, by value. The clause `consistent` says what holds of every board.
+    pub fn into_parts(self) -> BoardParts<A>
+        ensures value { record { pes = result.pes; strategy = result.strategy; database = result.database; rounds = result.rounds.items; finished = result.finished.items } ≡ self }
+        ensures running { result.running ≡ count_by not result.finished.items }
+        ensures consistent { IsBoard self }
+    {
+        let Board {
+            pes,
+            strategy,
+            database,
+            rounds,
+            finished,
+            running,
+        } = self;
+        BoardParts {
+            pes,
+            strategy,
+            database,
+            rounds,
+            finished,
+            running,
+        }
     }
 }
 

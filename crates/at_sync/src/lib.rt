@@ -2,7 +2,7 @@
 //! says where each runs next.
 //!
 //! - [`Board`]: the reports of the present round, the snapshot and the decision of each round before it, and who
-//!   has finished.
+//!   has finished; [`BoardParts`]: these.
 //! - [`Strategy`]: how each round is decided; [`decided`] and [`decided_with`]: what is decided for a round that was measured.
 //! - [`BoardError`]: why a call was refused.
 //!
@@ -29,6 +29,6 @@ mod board;
 mod error;
 mod strategy;
 
-pub use board::{Board, decided, decided_with};
+pub use board::{Board, BoardParts, decided, decided_with};
 pub use error::BoardError;
 pub use strategy::Strategy;

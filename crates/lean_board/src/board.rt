@@ -10,7 +10,7 @@ ghost use Rattle.at_sync.specs.Refusals.{RefusesDecision, RefusesFinish, databas
 ghost use Rattle.lean_board.specs.Boards.{LeanView};
 
 use crate::rounds::Rounds;
-use at_sync::{Board, BoardError, Strategy, decided, decided_with};
+use at_sync::{Board, BoardError, BoardParts, Strategy, decided, decided_with};
 use chare_index::{Gate, Index, Limits, Pe, Round};
 use grown_list::Front;
 use lb_database::LoadDb;
@@ -86,6 +86,32 @@ impl<A: Allocator> LeanBoard<A> {
             finished: all_running(alloc, n)?,
             running: n,
         })
+    }
+
+    /// What a board holds, with all its rounds, of which it keeps those to come too.
+    pub fn of(board: Board<A>) -> Self
+    where
+        A: Copy,
+        ensures value { result.board ≡ board }
+        ensures whole { result.book ≡ None }
+    {
+        let BoardParts {
+            pes,
+            strategy,
+            database,
+            rounds,
+            finished,
+            running,
+        } = board.into_parts();
+        LeanBoard {
+            alloc: *rounds.allocator(),
+            pes,
+            strategy,
+            database,
+            rounds: Rounds::of(rounds),
+            finished,
+            running,
+        }
     }
 
     /// Charges `units` to element `i`, and notes that it waits at its place `pe` for the end of `round`, as [`Board::report`] does.
@@ -168,6 +194,7 @@ impl<A: Allocator> LeanBoard<A> {
 
     /// The decision of a round, or `None` where it is not decided, or not kept any more.
     pub fn decision_for(&self, round: Round) -> Option<&Refined<A>>
+        ensures whole { self.now.book ≡ None → option_copied result ≡ decision_of self.now.board round }
         ensures decided { IfSome result (λ decision. IsKeptIn self.now.board round decision.now) }
     {
         self.known();
@@ -179,6 +206,7 @@ impl<A: Allocator> LeanBoard<A> {
     /// or the round is not decided, or not kept any more.
     pub fn place_for(&self, round: Round, i: Index) -> Option<Pe>
         ensures found { IfSome result (λ pe. place_in self.now.board round i ≡ Some pe) }
+        ensures whole { self.now.book ≡ None → i < elements self.now.board.database → result ≡ place_in self.now.board round i }
         ensures below { IfSome result (λ pe. pe < self.now.board.pes) }
         ensures before_last_round { IfSome result (λ pe. round < Limits.ROUND) }
     {
@@ -312,7 +340,7 @@ impl<A: Allocator> LeanBoard<A> {
 
     /// Whether this front begins its rounds.
     pub fn has_seen(&self, front: &Front<(Snapshot<A>, Refined<A>)>) -> bool
-        requires same { self.now.book ≡ Some front.now.book }
+        requires same { IfSome self.now.book (λ book. book ≡ front.now.book) }
         ensures begins { IsTrue result → IsPrefix front.now.entries self.now.board.rounds }
     {
         self.rounds.has_seen(front)

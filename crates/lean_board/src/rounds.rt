@@ -135,7 +135,7 @@ impl<A: Allocator> Rounds<A> {
 
     /// Whether this front begins the rounds.
     pub(crate) fn has_seen(&self, front: &Front<(Snapshot<A>, Refined<A>)>) -> bool
-        requires same { self.now.book ≡ Some front.now.book }
+        requires same { IfSome self.now.book (λ book. book ≡ front.now.book) }
         ensures begins { IsTrue result → IsPrefix front.now.entries self.now.all }
     {
         match &self.grown {

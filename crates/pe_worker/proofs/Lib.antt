@@ -2,3 +2,4 @@ pub mod Causes
 pub mod Delivering
 pub mod Keeping
 pub mod Matching
+pub mod Telling

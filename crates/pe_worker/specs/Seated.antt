@@ -1,6 +1,10 @@
 -- What ties a PE of a run to the seat through which its parcels come and go, so that what is known of all seats in the
 -- end, that what was put is what was taken and what is left, is known of what the PEs have given away and received.
-use Rattle.std.specs.Prelude.{◌≡◌, ℕ, ◌+◌, List, length, sum_by, slice_get, Some}
+use Rattle.std.specs.Prelude.{◌≡◌, ℕ, ◌+◌, List, length, sum_by, slice_get, Option, Some, IfSome}
+use Rattle.logbook.specs.Pages.{Book}
+use Rattle.grown_list.specs.Fronts.{FrontView}
+use Rattle.at_sync.specs.Boards.{Kept}
+use Rattle.round_marks.specs.Told.{AreToldAt}
 use Rattle.chares.specs.Steps.{Step}
 use Rattle.pe_state.specs.Pes.{PeView, Parcel}
 use Rattle.pe_queues.specs.Seats.{PostView, SeatView, pes}
@@ -39,3 +43,7 @@ pub record IsSeated {C : Type 0} (step : Step C) (opened : List C) (count : ℕ)
 pub record SeatedView (C : Type 0) : Type 0 where
   pub pe : PeView C
   pub seat : SeatView Parcel
+
+-- the rounds that a PE of a run with n elements on so many PEs has seen, if it has, tell the marks of all elements that it has
+abbrev pub Tells : {A C : Type 0} → Book → ℕ → ℕ → PeView C → Option (FrontView (Kept A)) → Type 0
+Tells book n pes pe seen = IfSome seen (λ f. (f.book ≡ book) × AreToldAt f.entries n pes pe)

@@ -3,10 +3,10 @@
 ghost use Rattle.std.specs.Prelude.{◌≡◌, ◌+◌, ◌<◌, ◌≤◌, OnErr, OnOk};
 ghost use Rattle.std.specs.VecDeque.{deque_capacity, deque_len};
 
-use at_sync::Board;
 use barrier::{BoardSize, RoundPlaces, RunBoard};
 use chare_index::{Index, Round};
 use chares::{Chare, Note, Openings, Progress};
+use lean_board::LeanBoard;
 use pe_state::PeState;
 use std::alloc::{AllocError, Allocator, Global};
 use std::collections::VecDeque;
@@ -27,7 +27,7 @@ pub struct Agenda<J: BoardSize, A: Allocator = Global> {
 }
 
 /// The last round that a board has decided, or 0.
-pub(crate) fn last_round<A: Allocator>(board: &Board<A>) -> Round {
+pub(crate) fn last_round<A: Allocator>(board: &LeanBoard<A>) -> Round {
     let present = board.database().round();
     Round::new(present.get().saturating_sub(1)).unwrap()
 }
@@ -39,7 +39,7 @@ impl<J: BoardSize, A: Allocator + Copy> Agenda<J, A> {
     pub fn new<C: Chare<A>, H: Openings<C>>(
         alloc: A,
         pe: &PeState<C, H, A>,
-        board: &Board<A>,
+        board: &LeanBoard<A>,
         pes: u32,
     ) -> Result<Self, AllocError>
         requires on_pes { pes ≡ J.pes }
@@ -62,7 +62,7 @@ impl<J: BoardSize, A: Allocator + Copy> Agenda<J, A> {
         &mut self,
         element: Index,
         progress: Progress,
-        board: &Board<A>,
+        board: &LeanBoard<A>,
     ) -> Result<(), AllocError> {
         if !progress.started {
             self.starting.push_back(element)?;

@@ -1,18 +1,18 @@
 //! What the workers of a run share.
 
-ghost use Rattle.std.specs.Prelude.{◌≡◌, ◌≤◌, IfOk, length};
+ghost use Rattle.std.specs.Prelude.{◌≡◌, ◌≤◌, IfOk, IfSome, length};
 ghost use Rattle.at_sync.specs.Boards.{IsBoard};
 ghost use Rattle.lb_database.specs.Measuring.{elements};
 
 use crate::agenda::last_round;
 use crate::ballot::Ballot;
+use crate::mail::Mail;
 use crate::seated::{OfRun, RunBeginning};
-use at_sync::Board;
 use barrier::{Barrier, RunStrategy};
 use chare_index::{Limits, Round};
 use chares::{Chare, History, Openings};
+use lean_board::LeanBoard;
 use pe_queues::{Locations, Post};
-use pe_state::Parcel;
 use std::alloc::{AllocError, Allocator, Global};
 use std::marker::{Model, PhantomData};
 use std::sync::Wait;
@@ -33,7 +33,7 @@ pub struct Field<
     J: RunBeginning<C>,
     A: Allocator = Global,
 > {
-    pub(crate) post: Post<Parcel<C, H, A>, A>,
+    pub(crate) post: Post<Mail<C, H, A>, A>,
     pub(crate) words: Locations<OfRun<C, H>, A>,
     pub(crate) barrier: Barrier<OfRun<C, H>, A>,
     decided: AtomicU64,
@@ -76,9 +76,9 @@ impl<C: Chare<A>, H: Openings<C> + RunStrategy, J: RunBeginning<C>, A: Allocator
     /// handled, and a round is decided by at most so many probe workers, 1 to 64, and by one where its PEs are few.
     pub fn new(
         alloc: A,
-        post: Post<Parcel<C, H, A>, A>,
+        post: Post<Mail<C, H, A>, A>,
         words: Locations<OfRun<C, H>, A>,
-        board: Board<A>,
+        board: LeanBoard<A>,
         turns: u64,
         history: History,
         probe_workers: u32,
@@ -86,9 +86,10 @@ impl<C: Chare<A>, H: Openings<C> + RunStrategy, J: RunBeginning<C>, A: Allocator
         requires own { post ≡ J.beginning.post }
         requires run_pes { words.pes ≡ H.pes }
         requires run_elements { words.elements ≡ length H.opened }
-        requires counted { elements board.database ≡ length H.opened }
-        requires on_pes { board.pes ≡ H.pes }
-        requires by_strategy { board.strategy ≡ H.strategy }
+        requires counted { elements board.board.database ≡ length H.opened }
+        requires on_pes { board.board.pes ≡ H.pes }
+        requires by_strategy { board.board.strategy ≡ H.strategy }
+        requires book { IfSome board.book (λ book. book ≡ H.book) }
         requires some_worker { 1 ≤ probe_workers }
         requires few_workers { probe_workers ≤ Limits.PROBE_WORKERS }
         ensures post { IfOk result (λ field. field ≡ post) }
@@ -118,7 +119,7 @@ impl<C: Chare<A>, H: Openings<C> + RunStrategy, J: RunBeginning<C>, A: Allocator
     }
 
     /// The queues.
-    pub fn post(&self) -> &Post<Parcel<C, H, A>, A>
+    pub fn post(&self) -> &Post<Mail<C, H, A>, A>
         ensures value { result.now ≡ self.now }
         ensures own { result.now ≡ J.beginning.post }
     {
@@ -178,13 +179,14 @@ impl<C: Chare<A>, H: Openings<C> + RunStrategy, J: RunBeginning<C>, A: Allocator
     }
 
     /// The queues and the board again, once no thread uses them any more. Each decision that the board keeps is right.
-    pub fn into_parts(self) -> (Post<Parcel<C, H, A>, A>, Board<A>)
+    pub fn into_parts(self) -> (Post<Mail<C, H, A>, A>, LeanBoard<A>)
         ensures post { result.0 ≡ self }
         ensures own { result.0 ≡ J.beginning.post }
-        ensures counted { elements result.1.database ≡ length H.opened }
-        ensures on_pes { result.1.pes ≡ H.pes }
-        ensures by_strategy { result.1.strategy ≡ H.strategy }
-        ensures board { IsBoard result.1 }
+        ensures counted { elements result.1.board.database ≡ length H.opened }
+        ensures on_pes { result.1.board.pes ≡ H.pes }
+        ensures by_strategy { result.1.board.strategy ≡ H.strategy }
+        ensures book { IfSome result.1.book (λ book. book ≡ H.book) }
+        ensures board { IsBoard result.1.board }
     {
         let Field {
             post,

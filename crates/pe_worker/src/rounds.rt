@@ -7,7 +7,9 @@ ghost use Rattle.pe_state.specs.Refusals.{RefusesResume, RefusesStep};
 ghost use Rattle.rts_core.specs.Events.{board_after};
 ghost use Rattle.pe_worker.specs.Causes.{MayRefuse};
 ghost use Rattle.pe_worker.specs.Steps.{ReportsNote, due_by, after_round};
+ghost use Rattle.round_marks.specs.Told.{IsToldNext};
 
+use crate::mail::{SeenRounds, joined};
 use crate::seated::{OfRun, RunBeginning, SeatedPe};
 use barrier::{BoardSize, RoundPlaces, RunBoard, RunStrategy};
 use chare_index::{Gate, Index, Limits, Pe, Round};
@@ -83,7 +85,8 @@ impl<C: Chare<A>, H: Openings<C> + RunStrategy, J: RunBeginning<C>, A: Allocator
 
     /// Resume or Depart: lets an element that stands here and waits for the end of this round go on, here where its place
     /// is here, and otherwise it departs for its place, which its word names from now on. Returns whether it did; it
-    /// changes nothing where the element does not wait for that round.
+    /// changes nothing where the element does not wait for that round. `told` is what the PE has seen with that round, as
+    /// [`told`](SeatedPe::told) gives it; where it is `None`, and the element goes on here, the PE has seen nothing any more.
     ///
     /// # Errors
     ///
@@ -94,9 +97,12 @@ impl<C: Chare<A>, H: Openings<C> + RunStrategy, J: RunBeginning<C>, A: Allocator
         words: &Locations<OfRun<C, H>, A>,
         places: &RoundPlaces<OfRun<C, H>, A>,
         element: Index,
+        told: Option<SeenRounds<A>>,
     ) -> Result<bool, StepError>
         requires run_pes { words.now.pes ≡ H.pes }
         requires run_elements { words.now.elements ≡ length H.opened }
+        requires own { IfSome told (λ f. f.book ≡ H.book) }
+        requires told { IfSome told (λ f. IsToldNext f.entries (length H.opened) H.pes places.now.round self.old.pe element) }
         ensures ok { OnOk result (self.new ≡ record self.old { pe = after_round C.step C.pack self.old.pe places.now element (due_by self.old.pe places.now element) }) }
         ensures done { IfOk result (λ done. done ≡ is_some (due_by self.old.pe places.now element)) }
         ensures err { OnErr result (self.new ≡ self.old) }
@@ -110,6 +116,7 @@ impl<C: Chare<A>, H: Openings<C> + RunStrategy, J: RunBeginning<C>, A: Allocator
             return Ok(false);
         };
         if place == self.pe.me() {
+            self.seen = joined(self.seen.take(), told);
             self.pe.resume(gate, element, places.round())?;
             return Ok(true);
         }

@@ -1,14 +1,15 @@
 //! A PE of a run with the seat through which its parcels come and go.
 
-ghost use Rattle.std.specs.Prelude.{◌≡◌, slice_get, Some};
+ghost use Rattle.std.specs.Prelude.{◌≡◌, length, slice_get, Some};
 ghost use Rattle.pe_queues.specs.Seats.{new_seat, pes};
-ghost use Rattle.pe_worker.specs.Seated.{Beginning, IsSeated};
+ghost use Rattle.pe_worker.specs.Seated.{Beginning, IsSeated, Tells};
 
+use crate::mail::{Mail, SeenRounds};
 use barrier::{BoardSize, RunStrategy};
 use chare_index::Pe;
 use chares::{Chare, Openings};
 use pe_queues::{PeCount, Seat};
-use pe_state::{Parcel, PeState};
+use pe_state::PeState;
 use std::alloc::{Allocator, Global};
 use std::marker::{Brand, Model, PhantomData};
 
@@ -41,39 +42,61 @@ impl<C, H: Openings<C> + RunStrategy> BoardSize for OfRun<C, H> {
     ghost pes = { H.pes };
 
     ghost strategy = { H.strategy };
+
+    ghost book = { H.book };
 }
 
 /// A PE and its seat. Contracts see it as the record `SeatedView`. What the PE has received was taken through the seat and
-/// what it has given away was put through it, so that the local account of the PE is one of these.
+/// what it has given away was put through it, so that the local account of the PE is one of these. Beside them are the rounds that the PE
+/// has seen, if it has: these tell the marks of each element that it has, of the rounds which that has seen.
 #[derive(Drop)]
-pub struct SeatedPe<C: Chare<A>, H: Openings<C>, J: RunBeginning<C>, A: Allocator = Global> {
+pub struct SeatedPe<
+    C: Chare<A>,
+    H: Openings<C> + RunStrategy,
+    J: RunBeginning<C>,
+    A: Allocator = Global,
+> {
     pub(crate) pe: PeState<C, H, A>,
-    pub(crate) seat: Seat<Parcel<C, H, A>, A>,
+    pub(crate) seat: Seat<Mail<C, H, A>, A>,
+    pub(crate) seen: Option<SeenRounds<A>>,
     of: PhantomData<J>,
 }
 
-impl<C: Chare<A>, H: Openings<C>, J: RunBeginning<C>, A: Allocator> Model for SeatedPe<C, H, J, A> {
-    ghost use Rattle.pe_worker.specs.Seated.{IsSeated, SeatedView};
+impl<C: Chare<A>, H: Openings<C> + RunStrategy, J: RunBeginning<C>, A: Allocator> Model
+    for SeatedPe<C, H, J, A> {
+    ghost use Rattle.std.specs.Prelude.{length};
+    ghost use Rattle.pe_worker.specs.Seated.{IsSeated, SeatedView, Tells};
 
     ghost Value = { SeatedView C };
 
     ghost view = { λ w. record { pe = w.pe; seat = w.seat } };
 
-    ghost invariant = { λ w. IsSeated C.step H.opened H.pes J.beginning w.pe w.seat };
+    ghost invariant = { λ w. IsSeated C.step H.opened H.pes J.beginning w.pe w.seat × Tells H.book (length H.opened) H.pes w.pe w.seen };
 }
 
-impl<C: Chare<A>, H: Openings<C>, J: RunBeginning<C>, A: Allocator> SeatedPe<C, H, J, A> {
-    /// A PE as it begins, with a seat through which nothing has gone.
-    pub fn new(pe: PeState<C, H, A>, seat: Seat<Parcel<C, H, A>, A>) -> Self
+impl<C: Chare<A>, H: Openings<C> + RunStrategy, J: RunBeginning<C>, A: Allocator> SeatedPe<
+    C,
+    H,
+    J,
+    A,
+> {
+    /// A PE as it begins, with a seat through which nothing has gone, and with the rounds that it has seen, if it has.
+    pub fn new(
+        pe: PeState<C, H, A>,
+        seat: Seat<Mail<C, H, A>, A>,
+        seen: Option<SeenRounds<A>>,
+    ) -> Self
         requires start { slice_get J.beginning.starts pe.me ≡ Some pe }
         requires seat { seat ≡ new_seat J.beginning.post seat.seats }
         requires share { slice_get J.beginning.shares pe.me ≡ Some seat.seats }
         requires served { pes J.beginning.post ≡ H.pes }
+        requires told { Tells H.book (length H.opened) H.pes pe seen }
         ensures made { result ≡ record { pe = pe; seat = seat } }
     {
         SeatedPe {
             pe,
             seat,
+            seen,
             of: PhantomData,
         }
     }
@@ -92,13 +115,25 @@ impl<C: Chare<A>, H: Openings<C>, J: RunBeginning<C>, A: Allocator> SeatedPe<C, 
         &self.pe
     }
 
-    /// Its PE and its seat. The clause `tied` says what ties them.
-    pub fn into_parts(self) -> (PeState<C, H, A>, Seat<Parcel<C, H, A>, A>)
+    /// Its PE and its seat, and the rounds that it has seen. The clauses `tied` and `told` say what ties them.
+    pub fn into_parts(
+        self,
+    ) -> (
+        PeState<C, H, A>,
+        Seat<Mail<C, H, A>, A>,
+        Option<SeenRounds<A>>,
+    )
         ensures pe { result.0 ≡ self.pe }
         ensures seat { result.1 ≡ self.seat }
         ensures tied { IsSeated C.step H.opened H.pes J.beginning self.pe self.seat }
+        ensures told { Tells H.book (length H.opened) H.pes self.pe result.2 }
     {
-        let SeatedPe { pe, seat, of: _ } = self;
-        (pe, seat)
+        let SeatedPe {
+            pe,
+            seat,
+            seen,
+            of: _,
+        } = self;
+        (pe, seat, seen)
     }
 }

@@ -6,19 +6,27 @@ ghost use Rattle.pe_state.specs.Pes.{acted_of, acting, may_resume, wanted, pe_af
 ghost use Rattle.pe_state.specs.Refusals.{RefusesAct, RefusesResume, RefusesStep};
 ghost use Rattle.pe_state.specs.declared.acted.Acted.TheVariants.{Executed};
 ghost use Rattle.pe_worker.specs.Causes.{MayRefuse};
+ghost use Rattle.rts_core.specs.Worlds.{home};
 ghost use Rattle.pe_worker.specs.Steps.{Delivers, Executes, Flushes, Looks, LooksAndFlushes, Stays};
 
+use crate::mail::{Mail, SeenRounds, into_mail, out_of_mail, received};
 use crate::seated::{OfRun, RunBeginning, SeatedPe};
-use chare_index::{Gate, Index, Round};
+use barrier::RunStrategy;
+use chare_index::{Gate, Index, Limits, Round, opening_pe};
 use chares::{Chare, History, Openings};
 use pe_queues::{Locations, Post};
-use pe_state::{Acted, Parcel, PeState, StepError};
+use pe_state::{Acted, PeState, StepError};
 use std::alloc::Allocator;
 
-impl<C: Chare<A>, H: Openings<C>, J: RunBeginning<C>, A: Allocator + Copy> SeatedPe<C, H, J, A> {
+impl<C: Chare<A>, H: Openings<C> + RunStrategy, J: RunBeginning<C>, A: Allocator + Copy> SeatedPe<
+    C,
+    H,
+    J,
+    A,
+> {
     /// Deliver: takes the front of the queue of its PE into the hand, if that is empty, and returns whether it did. It is one
     /// attempt at a pop, which waits for nobody, and may fail where another thread is in the way.
-    pub fn try_deliver(&mut self, post: &Post<Parcel<C, H, A>, A>) -> bool
+    pub fn try_deliver(&mut self, post: &Post<Mail<C, H, A>, A>) -> bool
         requires own { post.now ≡ J.beginning.post }
         ensures step { MatchBool result (Delivers self.old self.new) (self.new ≡ self.old) }
         ensures same_me { self.new.pe.me ≡ self.old.pe.me }
@@ -28,9 +36,11 @@ impl<C: Chare<A>, H: Openings<C>, J: RunBeginning<C>, A: Allocator + Copy> Seate
             return false;
         }
         let me = self.pe.me();
-        let Some(parcel) = post.try_take(&mut self.seat, me) else {
+        let Some(mail) = post.try_take(&mut self.seat, me) else {
             return false;
         };
+        let (parcel, seen) = received(mail, self.seen.take());
+        self.seen = seen;
         self.pe.receive(parcel);
         true
     }
@@ -46,7 +56,7 @@ impl<C: Chare<A>, H: Openings<C>, J: RunBeginning<C>, A: Allocator + Copy> Seate
     pub fn try_deliver_and_act<G: Gate>(
         &mut self,
         gate: &G,
-        post: &Post<Parcel<C, H, A>, A>,
+        post: &Post<Mail<C, H, A>, A>,
     ) -> Result<Option<bool>, StepError>
         requires own { post.now ≡ J.beginning.post }
         ensures step { IfOk result (λ delivered. MatchOption delivered
@@ -63,9 +73,11 @@ impl<C: Chare<A>, H: Openings<C>, J: RunBeginning<C>, A: Allocator + Copy> Seate
             return Ok(None);
         }
         let me = self.pe.me();
-        let Some(parcel) = post.try_take(&mut self.seat, me) else {
+        let Some(mail) = post.try_take(&mut self.seat, me) else {
             return Ok(None);
         };
+        let (parcel, seen) = received(mail, self.seen.take());
+        self.seen = seen;
         let acted = self.pe.receive_and_act(gate, parcel)?;
         Ok(Some(acted))
     }
@@ -73,7 +85,7 @@ impl<C: Chare<A>, H: Openings<C>, J: RunBeginning<C>, A: Allocator + Copy> Seate
     /// Flush: puts the front of the outbox, if it has an address, into the queue of the PE that it is addressed to, and
     /// returns whether it did. It is one attempt at a push, which waits for nobody, and may fail where another thread is in the
     /// way. Where that happens, and where the queue is full, the parcel is the front of the outbox again.
-    pub fn try_flush(&mut self, post: &Post<Parcel<C, H, A>, A>) -> bool
+    pub fn try_flush(&mut self, post: &Post<Mail<C, H, A>, A>) -> bool
         requires own { post.now ≡ J.beginning.post }
         ensures step { MatchBool result (Flushes self.old self.new) (Stays self.old self.new) }
         ensures same_me { self.new.pe.me ≡ self.old.pe.me }
@@ -82,11 +94,11 @@ impl<C: Chare<A>, H: Openings<C>, J: RunBeginning<C>, A: Allocator + Copy> Seate
         let Some(to) = self.pe.front_out() else {
             return false;
         };
-        let parcel = self.pe.sent();
-        let Err(parcel) = post.try_put(&mut self.seat, to, parcel) else {
+        let mail = into_mail(self.pe.sent(), &self.seen);
+        let Err(mail) = post.try_put(&mut self.seat, to, mail) else {
             return true;
         };
-        self.pe.hand_back(parcel);
+        self.pe.hand_back(out_of_mail(mail));
         false
     }
 
@@ -116,7 +128,7 @@ impl<C: Chare<A>, H: Openings<C>, J: RunBeginning<C>, A: Allocator + Copy> Seate
     pub fn try_look_and_flush(
         &mut self,
         words: &Locations<OfRun<C, H>, A>,
-        post: &Post<Parcel<C, H, A>, A>,
+        post: &Post<Mail<C, H, A>, A>,
     ) -> Option<bool>
         requires own { post.now ≡ J.beginning.post }
         requires run_pes { words.now.pes ≡ H.pes }
@@ -134,11 +146,11 @@ impl<C: Chare<A>, H: Openings<C>, J: RunBeginning<C>, A: Allocator + Copy> Seate
             return None;
         }
         let to = words.look(element);
-        let parcel = self.pe.look_and_send(to);
-        let Err(parcel) = post.try_put(&mut self.seat, to, parcel) else {
+        let mail = into_mail(self.pe.look_and_send(to), &self.seen);
+        let Err(mail) = post.try_put(&mut self.seat, to, mail) else {
             return Some(true);
         };
-        self.pe.hand_back(parcel);
+        self.pe.hand_back(out_of_mail(mail));
         Some(false)
     }
 
@@ -187,7 +199,27 @@ impl<C: Chare<A>, H: Openings<C>, J: RunBeginning<C>, A: Allocator + Copy> Seate
         if !self.pe.may_resume(element, start) {
             return Ok(false);
         }
+        self.seen = seen_at_home(self.seen.take(), &self.pe, element);
         self.pe.resume(gate, element, start)?;
         Ok(true)
     }
+}
+
+// What a PE has seen, where it is the home of an element. An element starts there, but no type says so.
+fn seen_at_home<C: Chare<A>, H: Openings<C>, A: Allocator + Copy>(
+    seen: Option<SeenRounds<A>>,
+    pe: &PeState<C, H, A>,
+    element: Index,
+) -> Option<SeenRounds<A>>
+    ensures same { IfSome result (λ f. seen ≡ Some f) }
+    ensures home { IfSome result (λ f. pe.now.me ≡ home element pe.now.n H.pes) }
+{
+    let (n, pes) = (pe.as_end().n(), pe.pes());
+    if n <= element.get() || Limits::ELEMENTS < n || pes == 0 || Limits::PES < pes {
+        return None;
+    }
+    if opening_pe(element, n, pes) != pe.me() {
+        return None;
+    }
+    seen
 }

@@ -10,6 +10,7 @@ use crate::fault::{Fault, fault_of};
 use crate::field::Field;
 use crate::seated::{OfRun, RunBeginning, SeatedPe};
 use crate::telling::{after, after_act, after_going_on, before_act, before_element};
+use crate::told::told_now;
 use crate::watch::{PeStep, Watch};
 use at_sync::BoardError;
 use barrier::{RunBoard, RunStrategy};
@@ -348,7 +349,7 @@ impl<C: Chare<A>, H: Openings<C> + RunStrategy, J: RunBeginning<C>, A: Allocator
             return Err(Fault::OutOfMemory);
         }
         for gone_on in 0..ELEMENTS {
-            if !self.go_on_next(gate, watch, field)? {
+            if !self.go_on_next(rt, gate, watch, field)? {
                 return Ok(gone_on > 0);
             }
         }
@@ -356,8 +357,9 @@ impl<C: Chare<A>, H: Openings<C> + RunStrategy, J: RunBeginning<C>, A: Allocator
     }
 
     // Lets the element go on that is due next.
-    fn go_on_next<G: Gate, V: Watch>(
+    fn go_on_next<G: Gate, V: Watch, R: Wait>(
         &mut self,
+        rt: &R,
         gate: &G,
         watch: &V,
         field: &Field<C, H, J, A>,
@@ -369,9 +371,11 @@ impl<C: Chare<A>, H: Openings<C> + RunStrategy, J: RunBeginning<C>, A: Allocator
             return Ok(false);
         };
         before_element(watch, self.seated.pe());
+        let places = &self.agenda.places;
+        let told = told_now(rt, field, &self.seated, places.round(), element);
         match self
             .seated
-            .go_on(gate, &field.words, &self.agenda.places, element)
+            .go_on(gate, &field.words, places, element, told)
         {
             Ok(done) => {
                 if done {

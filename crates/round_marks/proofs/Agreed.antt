@@ -1,6 +1,6 @@
 -- Marks that come in order, and that the rounds tell, agree with these rounds.
-use Rattle.std.proofs.Common.{◌≡◌, ℕ, zero, suc, ◌+◌, ◌<◌, ◌≤◌, List, [], ◌∷◌, ◌++◌, length, map, Bool, true, false, Option, Some, None, refl, sym, ap, subst, ◌∙◌, arith, append_assoc}
-use Rattle.std.specs.Prelude.{All, IfSome, MatchOption, if◌then◌else◌}
+use Rattle.std.proofs.Common.{◌≡◌, ℕ, zero, suc, ◌+◌, ◌-◌, ◌<◌, ◌≤◌, List, [], ◌∷◌, ◌++◌, length, map, Bool, true, false, Option, Some, None, refl, sym, ap, subst, ◌∙◌, arith, append_assoc}
+use Rattle.std.specs.Prelude.{All, IfSome, IsSome, MatchOption, if◌then◌else◌, slice_get}
 use Rattle.std.proofs.lemmas.List.Elements.{All-nil, All-cons, All-head, All-tail}
 use Rattle.at_sync.specs.Boards.{BoardState, Kept, kept_of, place_in}
 use Rattle.chares.specs.declared.note.Mark.{Mark}
@@ -11,10 +11,13 @@ use Rattle.chares.specs.declared.progress.Progress.{Progress}
 use Rattle.chares.specs.Letters.{Done}
 use Rattle.chares.specs.Orders.{Stop, stop_of, stops_until, stops_by, IsInOrder}
 use Rattle.chares.specs.Orders.Stop.{AtSync, Resumes}
-use Rattle.round_marks.specs.Marked.{IsMeasuredAs, IsResumption, IsSyncMark, IsSyncOf, round_reached}
-use Rattle.round_marks.specs.Told.{IsToldSync, IsToldResumption, IsTold, but_last, seen_marks}
+use Rattle.lb_database.specs.Measuring.{elements}
+use Rattle.rts_core.specs.Worlds.{home}
+use Rattle.round_marks.specs.Fits.{Fits, FitsAll}
+use Rattle.round_marks.specs.Runs.{IsMarked}
+use Rattle.round_marks.specs.Marked.{StandsAsMarked, IsMeasuredAs, IsResumption, IsSyncMark, IsSyncOf, round_reached}
+use Rattle.round_marks.specs.Told.{IsToldSync, IsToldResumption, IsTold, AreTold, but_last, seen_marks, last_mark}
 use Rattle.round_marks.proofs.Right.{GoesRight, AreRight, are_right}
-use Rattle.round_marks.proofs.Told.{last_mark}
 
 -- the stops of so many rounds after this one
 abbrev pub stops_from : ℕ → ℕ → List Stop
@@ -171,3 +174,64 @@ module _ {A : Type 0} (b : BoardState A) (e home : ℕ) where
       bare : (ms : List Mark) → map stop_of ms ≡ [] → length b.rounds ≤ 0 → GoesRight b e home 0 0 ms
       bare [] at few = few
       bare (mark ∷ ms) at few = absurd (cc at)
+
+-- the last mark of a list is that of its end
+pub last_of_end : (past kept : List Mark) → IsSome (last_mark kept) → last_mark (past ++ kept) ≡ last_mark kept
+last_of_end [] kept h = refl
+last_of_end (mark ∷ []) [] h = absurd (cc h)
+last_of_end (mark ∷ []) (next ∷ kept) h = refl
+last_of_end (mark ∷ other ∷ past) kept h = last_of_end (other ∷ past) kept h
+
+-- the last mark, as the definition reads it
+pub last_is : (marks : List Mark) → last_mark marks ≡ slice_get marks (length marks - 1)
+last_is [] = refl
+last_is (mark ∷ []) = refl
+last_is (mark ∷ next ∷ marks) =
+    let n : length (mark ∷ next ∷ marks) - 1 ≡ suc (length (next ∷ marks) - 1) = omega arith in
+    last_is (next ∷ marks) ∙ ap (slice_get (mark ∷ next ∷ marks)) (sym n)
+
+started_some : (p : Progress) (marks : List Mark) → map stop_of marks ≡ stops_by p → p.started ≡ false → marks ≡ []
+started_some p [] at is = refl
+started_some p (mark ∷ marks) at is = absurd (cc (at ∙ ap (λ (v : Bool). if v then (stops_until p.round ++ (if p.synced then AtSync (p.round + 1) ∷ [] else [])) else []) is))
+
+more_is : (s : Bool) → one_more s ≡ (if s then 1 else 0)
+more_is true = refl
+more_is false = refl
+
+module _ {A : Type 0} (b : BoardState A) where
+  -- Marks in order that the rounds tell, and whose last one is right, agree.
+  pub fitting : (e : ℕ) (place : Option ℕ) (journal : List Done) (p : Progress) (marks : List Mark) → IsInOrder journal p marks → AreTold b.rounds (elements b.database) b.pes e p marks → FitsAll b e place p marks → IsMarked b e place marks
+  fitting e place journal p marks order told fits =
+      let kept = fits.0 in
+      let past = fits.1.0.0 in
+      let is : marks ≡ past ++ kept = fits.1.0.1 in
+      let f : Fits b e place p kept = fits.1.1 in
+      by p.started refl kept past is f
+    where
+      none_some : (o : Option Mark) (P : Mark → Type 0) → o ≡ None → IfSome o P
+      none_some None P h = tt
+      none_some (Some m) P h = absurd (cc h)
+
+      by : (t : Bool) → p.started ≡ t → (kept past : List Mark) → marks ≡ past ++ kept → Fits b e place p kept → IsMarked b e place marks
+      by true started kept past is f =
+          let same : last_mark marks ≡ last_mark kept = ap last_mark is ∙ last_of_end past kept (f.some started) in
+          let right : AreRight b e (home e (elements b.database) b.pes) marks = agreed b e (home e (elements b.database) b.pes) journal p marks order told
+              (λ s. subst (λ (o : Option Mark). IfSome o (IsSyncMark b e)) (sym same) (f.last s)) (omega (arith, f.enough, more_is p.synced)) in
+          record {
+            member = f.member;
+            synced = right.0;
+            resumed = right.1;
+            resumed_in_order = right.2;
+            stands = subst (λ (o : Option Mark). IfSome o (StandsAsMarked place)) (sym same ∙ last_is marks) f.stands;
+          }
+      by false started kept past is f =
+          let bare : marks ≡ [] = started_some p marks order.stops started in
+          let right : AreRight b e (home e (elements b.database) b.pes) marks = agreed b e (home e (elements b.database) b.pes) journal p marks order told
+              (λ s. none_some (last_mark marks) (IsSyncMark b e) (ap last_mark bare)) (omega (arith, f.enough, more_is p.synced)) in
+          record {
+            member = f.member;
+            synced = right.0;
+            resumed = right.1;
+            resumed_in_order = right.2;
+            stands = none_some (slice_get marks (length marks - 1)) (StandsAsMarked place) (ap (λ (v : List Mark). slice_get v (length v - 1)) bare);
+          }

@@ -24,10 +24,10 @@ use Rattle.chares.specs.Steps.{Step}
 use Rattle.chares.proofs.Orders.{begins_to_wait}
 use Rattle.pe_state.specs.Pes.{PeView, Parcel, Item}
 use Rattle.rts_core.specs.Worlds.{home}
-use Rattle.round_marks.specs.Told.{placed_by, IsToldSync, IsToldNote, IsToldResumption, IsTold, but_last, seen_marks, AreTold, OfElement, OfParcel, OfEach, AreToldAt, IsToldParcel}
+use Rattle.round_marks.specs.Told.{placed_by, IsToldSync, IsToldNote, IsToldResumption, IsTold, but_last, seen_marks, AreTold, OfElement, OfParcel, OfEach, AreToldAt, IsToldParcel, IsToldNext, last_mark}
 
 -- what holds of each item also holds by another fact
-all_by : {X : Type 0} (P Q : X → Type 0) → ((x : X) → P x → Q x) → (xs : List X) → All P xs → All Q xs
+pub all_by : {X : Type 0} (P Q : X → Type 0) → ((x : X) → P x → Q x) → (xs : List X) → All P xs → All Q xs
 all_by P Q f xs h = λ k d inside. f _ (h k d inside)
 
 -- rounds that are decided stay decided
@@ -48,6 +48,10 @@ module _ {A : Type 0} (xs ys : List (Kept A)) (p : IsPrefix xs ys) where
       record { same = h.same; kept = h.kept; decided = kept_longer xs ys round h.kept p h.decided; measured = h.measured }
   told_longer e home (Synced (Finish i)) h = absurd h
   told_longer e home (Resumed round pe) h =
+      record { start = h.start; place = λ later. placed_longer xs ys round e pe p (h.place later) }
+
+  pub resumption_longer : (e home round pe : ℕ) → IsToldResumption xs e home round pe → IsToldResumption ys e home round pe
+  resumption_longer e home round pe h =
       record { start = h.start; place = λ later. placed_longer xs ys round e pe p (h.place later) }
 
   pub marks_longer : (n pes e : ℕ) (progress : Progress) (marks : List Mark) → AreTold xs n pes e progress marks → AreTold ys n pes e progress marks
@@ -113,12 +117,6 @@ module _ {A C : Type 0} (step : Step C) (pack : C → List ℕ) (rounds : List (
   resumption_tells el m pe round all h =
       subst (λ (v : List Mark). All (IsTold rounds el.index (home el.index n pes)) v) (sym (seen_resumption step pack el m pe round))
       (All-push (IsTold rounds el.index (home el.index n pes)) el.marks (Resumed round pe) all h)
-
--- the last of a list, where there is one
-pub last_mark : List Mark → Option Mark
-last_mark [] = None
-last_mark (mark ∷ []) = Some mark
-last_mark (mark ∷ next ∷ marks) = last_mark (next ∷ marks)
 
 -- all marks are told where those before the last are, and that is
 pub all_told : (P : Mark → Type 0) (marks : List Mark) → All P (but_last marks) → IfSome (last_mark marks) P → All P marks

@@ -1,4 +1,5 @@
 pub mod Finished
+pub mod Fits
 pub mod Marked
 pub mod Quiet
 pub mod Runs

@@ -13,6 +13,7 @@ use Rattle.chares.specs.Elements.{ElementView}
 use Rattle.lb_strategy.specs.Moves.{planned_pe}
 use Rattle.lb_refinement.specs.Refined.{refined_cuts, refined_names}
 use Rattle.pe_state.specs.Pes.{PeView, Parcel}
+use Rattle.pe_state.specs.Rooms.{found}
 use Rattle.rts_core.specs.Worlds.{home}
 use Rattle.round_marks.specs.Marked.{IsMeasuredAs}
 
@@ -77,3 +78,14 @@ AreToldAt rounds n pes pe = OfEach (AreTold rounds n pes) pe
 -- and those of a parcel, if that is an element
 abbrev pub IsToldParcel : {A : Type 0} → List (Kept A) → ℕ → ℕ → Parcel → Type 0
 IsToldParcel rounds n pes parcel = OfParcel (AreTold rounds n pes) parcel
+
+-- the last mark, if there is one
+abbrev pub last_mark : List Mark → Option Mark
+last_mark [] = None
+last_mark (mark ∷ []) = Some mark
+last_mark (mark ∷ next ∷ marks) = last_mark (next ∷ marks)
+
+-- an element that stands on a PE may go on there after this round: the rounds tell all its marks, and that
+abbrev pub IsToldNext : {A C : Type 0} → List (Kept A) → ℕ → ℕ → ℕ → PeView C → ℕ → Type 0
+IsToldNext rounds n pes round pe e =
+    IfSome (found e pe.room) (λ el. All (IsTold rounds el.index (home el.index n pes)) el.marks × IsToldResumption rounds el.index (home el.index n pes) round pe.me)

@@ -5,6 +5,7 @@
 //! - [`pe_agrees`] and [`parcels_agree`]: whether those of all elements on a PE, or packed in parcels, agree.
 //! - [`element_agrees`]: whether those of one element agree, which opened at home.
 //! - [`marks_agree`]: whether the given marks of an element agree.
+//! - [`run_fits`]: whether those of a run agree whose marks were told as it went.
 //! - [`run_finished`]: whether every element of a run has finished.
 //! - [`run_is_quiet`]: whether nothing was left to do when it ended.
 #![tactic(auto)]
@@ -13,8 +14,10 @@ mod finished;
 mod marks;
 mod quiet;
 mod run;
+mod told;
 
 pub use finished::run_finished;
-pub use marks::marks_agree;
+pub use marks::{is_measured_as, marks_agree};
 pub use quiet::run_is_quiet;
 pub use run::{element_agrees, parcels_agree, pe_agrees, run_agrees};
+pub use told::run_fits;

@@ -1,13 +1,13 @@
 //! The marks of one element.
 
-ghost use Rattle.std.specs.Prelude.{◌≡◌, ◌+◌, ◌<◌, ◌≤◌, ◌-◌, ◌↔◌, All, IsTrue, IfSome, Some, length, slice_get};
+ghost use Rattle.std.specs.Prelude.{None, ◌≡◌, ◌+◌, ◌<◌, ◌≤◌, ◌-◌, ◌↔◌, All, IsTrue, IfSome, Some, length, slice_get};
 ghost use Rattle.std.specs.List.Sorted.{IsStrictlyIncreasing};
 ghost use Rattle.lb_database.specs.Measuring.{elements};
 ghost use Rattle.round_marks.specs.Marked.{AreMarked, AreSynced, IsMeasuredAs, IsResumption, IsResumptionMark, IsSyncOf, StandsAsMarked, round_reached, rounds_resumed};
 
-use at_sync::Board;
 use chare_index::{Index, Limits, Pe, Round};
 use chares::{KeptMark, Mark, Note};
+use lean_board::LeanBoard;
 use lb_snapshot::{Snapshot, Units};
 use std::alloc::Allocator;
 
@@ -21,13 +21,14 @@ use std::alloc::Allocator;
 /// in the order of the rounds, after none of them twice, and each time at its place in the decision. If its last mark is of
 /// a resumption, it is on the PE of that mark.
 pub fn marks_agree<A: Allocator>(
-    board: &Board<A>,
+    board: &LeanBoard<A>,
     e: Index,
     home: Pe,
     place: Option<Pe>,
     marks: &[KeptMark],
 ) -> bool
-    ensures agree { IsTrue result ↔ AreMarked board.now e home place marks.now }
+    requires kept { board.now.book ≡ None }
+    ensures agree { IsTrue result ↔ AreMarked board.now.board e home place marks.now }
 {
     (e.get() as usize) < board.len()
         && are_right(board, e, home, marks)
@@ -36,9 +37,10 @@ pub fn marks_agree<A: Allocator>(
 
 // Whether element `e` reached AtSync for the rounds as their snapshots say, and each resumption is where it may be and after
 // a later round than the one before.
-fn are_right<A: Allocator>(board: &Board<A>, e: Index, home: Pe, marks: &[KeptMark]) -> bool
-    requires member { e < elements board.now.database }
-    ensures { IsTrue result ↔ (AreSynced board.now e marks.now × All (IsResumptionMark board.now e home) marks.now × IsStrictlyIncreasing (rounds_resumed marks.now)) }
+fn are_right<A: Allocator>(board: &LeanBoard<A>, e: Index, home: Pe, marks: &[KeptMark]) -> bool
+    requires kept { board.now.book ≡ None }
+    requires member { e < elements board.now.board.database }
+    ensures { IsTrue result ↔ (AreSynced board.now.board e marks.now × All (IsResumptionMark board.now.board e home) marks.now × IsStrictlyIncreasing (rounds_resumed marks.now)) }
 {
     let mut reached = 0;
     let mut least = 0;
@@ -58,13 +60,14 @@ fn are_right<A: Allocator>(board: &Board<A>, e: Index, home: Pe, marks: &[KeptMa
             }
         }
     }
-    board.rounds().len() <= reached as usize
+    board.decided() <= u64::from(reached)
 }
 
 // Whether this note is right, and for the round after the `reached` rounds before it.
-fn is_next_sync<A: Allocator>(board: &Board<A>, e: Index, reached: u32, note: &Note) -> bool
+fn is_next_sync<A: Allocator>(board: &LeanBoard<A>, e: Index, reached: u32, note: &Note) -> bool
+    requires kept { board.now.book ≡ None }
     requires few { reached ≤ Limits.ROUND }
-    ensures value { IsTrue result ↔ (IsSyncOf board.now e note.now × (round_reached (Mark.Synced note.now) ≡ Some (reached + 1))) }
+    ensures value { IsTrue result ↔ (IsSyncOf board.now.board e note.now × (round_reached (Mark.Synced note.now) ≡ Some (reached + 1))) }
     ensures below { IsTrue result → reached < Limits.ROUND }
 {
     let Note::Sync(index, round, units, bytes, pe) = note else {
@@ -74,13 +77,13 @@ fn is_next_sync<A: Allocator>(board: &Board<A>, e: Index, reached: u32, note: &N
         return false;
     }
     let Some((snapshot, _)) = board.kept_for(*round) else {
-        return reached as usize == board.rounds().len();
+        return u64::from(reached) == board.decided();
     };
     is_measured_as(snapshot, e, *units, bytes.get(), *pe)
 }
 
-// Whether a snapshot has this of element `e`.
-fn is_measured_as<A: Allocator>(
+/// Whether a snapshot has this of element `e`.
+pub fn is_measured_as<A: Allocator>(
     snapshot: &Snapshot<A>,
     e: Index,
     units: Units,
@@ -101,23 +104,25 @@ fn is_measured_as<A: Allocator>(
 
 // Whether element `e` may be resumed after this round, which is not below `least`, on this PE.
 fn is_next_resumption<A: Allocator>(
-    board: &Board<A>,
+    board: &LeanBoard<A>,
     e: Index,
     home: Pe,
     least: u32,
     round: Round,
     pe: Pe,
 ) -> bool
-    requires member { e < elements board.now.database }
-    ensures { IsTrue result ↔ ((least ≤ round) × IsResumption board.now e home round pe) }
+    requires kept { board.now.book ≡ None }
+    requires member { e < elements board.now.board.database }
+    ensures { IsTrue result ↔ ((least ≤ round) × IsResumption board.now.board e home round pe) }
 {
     least <= round.get() && is_resumption(board, e, home, round, pe)
 }
 
 // Whether element `e` may be resumed after this round on this PE.
-fn is_resumption<A: Allocator>(board: &Board<A>, e: Index, home: Pe, round: Round, pe: Pe) -> bool
-    requires member { e < elements board.now.database }
-    ensures { IsTrue result ↔ IsResumption board.now e home round pe }
+fn is_resumption<A: Allocator>(board: &LeanBoard<A>, e: Index, home: Pe, round: Round, pe: Pe) -> bool
+    requires kept { board.now.book ≡ None }
+    requires member { e < elements board.now.board.database }
+    ensures { IsTrue result ↔ IsResumption board.now.board e home round pe }
 {
     if round.get() == 0 {
         return pe == home;

@@ -3,9 +3,9 @@
 ghost use Rattle.std.specs.Prelude.{◌≡◌, ◌↔◌, All, IsTrue, [], map};
 ghost use Rattle.round_marks.specs.Quiet.{IsAtRest, IsQuiet, IsQuietPe};
 
-use at_sync::Board;
 use chare_index::Round;
 use chares::{Chare, Element};
+use lean_board::LeanBoard;
 use pe_state::{HeldParcel, PeEnd};
 use std::alloc::Allocator;
 
@@ -13,11 +13,11 @@ use std::alloc::Allocator;
 /// that is decided, no note is owed, and no parcel is anywhere but on a shelf. The check takes no memory, and time linear in the
 /// number of elements and PEs.
 pub fn run_is_quiet<C: Chare<A>, A: Allocator>(
-    board: &Board<A>,
+    board: &LeanBoard<A>,
     ends: &[PeEnd<C, A>],
     left: &[Vec<HeldParcel<A>, A>],
 ) -> bool
-    ensures quiet { IsTrue result ↔ IsQuiet board.now ends.now (map (λ queue. queue.items) left.now) }
+    ensures quiet { IsTrue result ↔ IsQuiet board.now.board ends.now (map (λ queue. queue.items) left.now) }
 {
     if board.is_complete() {
         return false;
@@ -26,8 +26,8 @@ pub fn run_is_quiet<C: Chare<A>, A: Allocator>(
 }
 
 // Whether nothing is left to do at these PEs.
-fn pes_are_quiet<C: Chare<A>, A: Allocator>(board: &Board<A>, pes: &[PeEnd<C, A>]) -> bool
-    ensures { IsTrue result ↔ All (IsQuietPe board.now) pes.now }
+fn pes_are_quiet<C: Chare<A>, A: Allocator>(board: &LeanBoard<A>, pes: &[PeEnd<C, A>]) -> bool
+    ensures { IsTrue result ↔ All (IsQuietPe board.now.board) pes.now }
 {
     for pe in pes {
         if !pe_is_quiet(board, pe) {
@@ -57,8 +57,8 @@ fn is_vacant<A: Allocator>(queue: &[HeldParcel<A>]) -> bool
 }
 
 // Whether nothing is left to do at a PE.
-fn pe_is_quiet<C: Chare<A>, A: Allocator>(board: &Board<A>, pe: &PeEnd<C, A>) -> bool
-    ensures { IsTrue result ↔ IsQuietPe board.now pe.now }
+fn pe_is_quiet<C: Chare<A>, A: Allocator>(board: &LeanBoard<A>, pe: &PeEnd<C, A>) -> bool
+    ensures { IsTrue result ↔ IsQuietPe board.now.board pe.now }
 {
     if pe.hand().is_some() || !pe.outbox().is_empty() || !pe.notes().is_empty() {
         return false;
@@ -67,8 +67,8 @@ fn pe_is_quiet<C: Chare<A>, A: Allocator>(board: &Board<A>, pe: &PeEnd<C, A>) ->
 }
 
 // Whether all elements in the room of a PE are at rest.
-fn room_rests<C: Chare<A>, A: Allocator>(board: &Board<A>, pe: &PeEnd<C, A>) -> bool
-    ensures { IsTrue result ↔ All (λ x. IsAtRest board.now x.1) pe.now.room }
+fn room_rests<C: Chare<A>, A: Allocator>(board: &LeanBoard<A>, pe: &PeEnd<C, A>) -> bool
+    ensures { IsTrue result ↔ All (λ x. IsAtRest board.now.board x.1) pe.now.room }
 {
     for (_, element) in pe.room().iter() {
         if !is_at_rest(board, element) {
@@ -79,8 +79,8 @@ fn room_rests<C: Chare<A>, A: Allocator>(board: &Board<A>, pe: &PeEnd<C, A>) -> 
 }
 
 // Whether an element is at rest.
-fn is_at_rest<C: Chare<A>, A: Allocator>(board: &Board<A>, element: &Element<C, A>) -> bool
-    ensures { IsTrue result ↔ IsAtRest board.now element.now }
+fn is_at_rest<C: Chare<A>, A: Allocator>(board: &LeanBoard<A>, element: &Element<C, A>) -> bool
+    ensures { IsTrue result ↔ IsAtRest board.now.board element.now }
 {
     let progress = element.progress();
     if !progress.started {
@@ -90,5 +90,5 @@ fn is_at_rest<C: Chare<A>, A: Allocator>(board: &Board<A>, element: &Element<C, 
         return true;
     }
     let round = Round::new(progress.round.get() + 1).unwrap();
-    board.kept_for(round).is_none()
+    board.decided() < u64::from(round.get())
 }

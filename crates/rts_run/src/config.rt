@@ -33,8 +33,8 @@ pub struct Config {
     /// How each round is decided.
     pub strategy: Strategy,
     /// Whether elements keep what they have handled. Where they do, each letter takes memory until the run ends; where they do not,
-    /// an element settles its journal: [`Annals`](chares::Annals) counts what is settled, and keeps the rest. What is said of
-    /// journals holds of either.
+    /// an element settles its journal and its marks, and the board keeps its last round alone: [`Annals`](chares::Annals) counts what is
+    /// settled, and keeps the rest. What is said of journals, marks and rounds holds of either.
     pub history: History,
 }
 

@@ -8,8 +8,8 @@ ghost use Rattle.rts_run.specs.Outcomes.{first_fault};
 use barrier::RunStrategy;
 use chares::{Chare, Openings};
 use pe_queues::Post;
-use pe_state::{Parcel, PeEnd};
-use pe_worker::{Fault, RunBeginning, Worker};
+use pe_state::PeEnd;
+use pe_worker::{Fault, Mail, RunBeginning, Worker};
 use run_account::{Gathered, take_next};
 use std::alloc::Allocator;
 use std::collections::VecDeque;
@@ -17,7 +17,7 @@ use std::collections::VecDeque;
 /// The PEs of these workers, in order of PE, with their seats joined into one, and the fault of the first worker that met
 /// one. `room` has capacity for all PEs, so this takes no memory.
 pub(crate) fn gather<C: Chare<A>, H: Openings<C> + RunStrategy, J: RunBeginning<C>, A: Allocator>(
-    post: &Post<Parcel<C, H, A>, A>,
+    post: &Post<Mail<C, H, A>, A>,
     first: Worker<C, H, J, A>,
     mut others: VecDeque<Worker<C, H, J, A>, A>,
     room: Vec<PeEnd<C, A>, A>,

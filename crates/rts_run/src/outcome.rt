@@ -1,8 +1,8 @@
 //! What a run left.
 
-ghost use Rattle.std.specs.Prelude.{◌≡◌, ◌+◌, ◌≤◌, length, map};
+ghost use Rattle.std.specs.Prelude.{◌≡◌, ◌+◌, ◌++◌, ◌≤◌, List, length, map};
 ghost use Rattle.chare_index.specs.declared.limits.TheConstants.Limits.{PES};
-ghost use Rattle.at_sync.specs.Boards.{IsBoard};
+ghost use Rattle.at_sync.specs.Boards.{IsBoard, Kept};
 ghost use Rattle.rts_core.specs.Accounts.{IsCounted, posted_count, executed_count, held_count};
 ghost use Rattle.run_account.specs.RunAccounts.{left_world};
 ghost use Rattle.lb_database.specs.Measuring.{elements};
@@ -12,11 +12,11 @@ ghost use Rattle.std.specs.List.{range_with_len};
 ghost use Rattle.std.specs.Option.{option_copied};
 
 use crate::counting::{held_by, posted_by, queued_in};
-use at_sync::Board;
 use chare_index::Index;
 use chares::{Chare, Element};
 use lb_refinement::Refined;
 use lb_snapshot::Snapshot;
+use lean_board::LeanBoard;
 use pe_state::{Elements, HeldParcel, PeEnd};
 use pe_worker::Fault;
 use rts_core::Account;
@@ -30,8 +30,10 @@ use std::marker::Model;
 pub struct Outcome<C: Chare<A>, A: Allocator = Global> {
     ends: Vec<PeEnd<C, A>, A>,
     left: Vec<Vec<HeldParcel<A>, A>, A>,
-    board: Board<A>,
+    board: LeanBoard<A>,
     fault: Option<Fault>,
+    // Whether its marks and rounds cannot be compared any more, where its fault is that they do not agree.
+    forgot: bool,
 }
 
 impl<C: Chare<A>, A: Allocator> Model for Outcome<C, A> {
@@ -43,7 +45,7 @@ impl<C: Chare<A>, A: Allocator> Model for Outcome<C, A> {
 
     ghost Value = { OutcomeView C A };
 
-    ghost view = { λ o. record { ends = o.ends.items; left = map (λ q. q.items) o.left.items; board = o.board; fault = o.fault } };
+    ghost view = { λ o. record { ends = o.ends.items; left = map (λ q. q.items) o.left.items; board = o.board.board; book = o.board.book; fault = o.fault; forgot = o.forgot } };
 
     ghost invariant = { λ o.
         (length o.ends.items ≤ PES)
@@ -57,21 +59,25 @@ impl<C: Chare<A>, A: Allocator> Outcome<C, A> {
     pub fn new(
         ends: Vec<PeEnd<C, A>, A>,
         left: Vec<Vec<HeldParcel<A>, A>, A>,
-        board: Board<A>,
+        board: LeanBoard<A>,
         fault: Option<Fault>,
+        forgot: bool,
     ) -> Self
         requires few_pes { length ends.items ≤ PES }
         requires counted { IsCounted (left_world ends.items (map (λ q. q.items) left.items)) }
         ensures ends { result.ends ≡ ends.items }
         ensures left { result.left ≡ map (λ q. q.items) left.items }
-        ensures board { result.board ≡ board }
+        ensures board { result.board ≡ board.board }
+        ensures book { result.book ≡ board.book }
         ensures fault { result.fault ≡ fault }
+        ensures forgot { result.forgot ≡ forgot }
     {
         Outcome {
             ends,
             left,
             board,
             fault,
+            forgot,
         }
     }
 
@@ -98,18 +104,27 @@ impl<C: Chare<A>, A: Allocator> Outcome<C, A> {
     }
 
     /// The board, with who has finished, and the reports of the round that was under way.
-    pub fn board(&self) -> &Board<A>
-        ensures value { result.now ≡ self.now.board }
+    pub fn board(&self) -> &LeanBoard<A>
+        ensures value { result.now.board ≡ self.now.board }
     {
         &self.board
     }
 
-    /// The snapshot and the decision of each round that was decided, from round 1 on.
+    /// The snapshot and the decision of each round that was decided, from round 1 on; of a run that drops its history, of the last
+    /// alone.
     pub fn rounds(&self) -> &[(Snapshot<A>, Refined<A>)]
-        ensures value { result.now ≡ self.now.board.rounds }
+        ensures last { (past : List (Kept A)) × (self.now.board.rounds ≡ past ++ result.now) }
         ensures consistent { IsBoard self.now.board }
     {
         self.board.rounds()
+    }
+
+    /// Whether its marks and rounds cannot be compared any more. In an outcome that [`run`](crate::run) returns it is `true` only where
+    /// the run dropped its history, and its fault is [`Mismatch`](Fault::Mismatch).
+    pub fn forgot(&self) -> bool
+        ensures value { result ≡ self.now.forgot }
+    {
+        self.forgot
     }
 
     /// Why the run ended early, or what is wrong with it. In an outcome that [`run`](crate::run) returns it is `None` only
@@ -121,18 +136,19 @@ impl<C: Chare<A>, A: Allocator> Outcome<C, A> {
     }
 
     /// Its PEs, what is left in their queues, the board, and the fault, each by value. [`PeEnd::take`] gives an element of a
-    /// PE, and [`Board::into_rounds`] the snapshot and the decision of each round.
+    /// PE, and [`LeanBoard::into_rounds`] the snapshot and the decision of each round.
     pub fn into_parts(
         self,
     ) -> (
         Vec<PeEnd<C, A>, A>,
         Vec<Vec<HeldParcel<A>, A>, A>,
-        Board<A>,
+        LeanBoard<A>,
         Option<Fault>,
     )
         ensures ends { result.0.items ≡ self.ends }
         ensures left { map (λ q. q.items) result.1.items ≡ self.left }
-        ensures board { result.2 ≡ self.board }
+        ensures board { result.2.board ≡ self.board }
+        ensures book { result.2.book ≡ self.book }
         ensures fault { result.3 ≡ self.fault }
     {
         let Outcome {
@@ -140,6 +156,7 @@ impl<C: Chare<A>, A: Allocator> Outcome<C, A> {
             left,
             board,
             fault,
+            forgot: _,
         } = self;
         (ends, left, board, fault)
     }

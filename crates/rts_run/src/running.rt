@@ -1,14 +1,17 @@
 //! The run, from chares to its outcome.
 
-ghost use Rattle.std.specs.Prelude.{◌≡◌, ◌≢◌, ◌≤◌, IfOk, IfSome, IsTrue, MatchResult, None, Some, length, map};
+ghost use Rattle.std.specs.Prelude.{◌≡◌, ◌≢◌, ◌≤◌, ◌↔◌, IfOk, IfSome, IsTrue, MatchResult, None, Some, false, length, map};
 ghost use Rattle.std.specs.VecDeque.{deque_len};
-ghost use Rattle.at_sync.specs.Boards.{HaveFinished};
+ghost use Rattle.at_sync.specs.Boards.{HaveFinished, new_board};
+ghost use Rattle.lb_database.specs.Measuring.{elements};
 ghost use Rattle.pe_worker.specs.Causes.{HasCause};
 ghost use Rattle.pe_worker.specs.declared.fault.Fault.TheVariants.{Mismatch, Quiet, Stopped, Unpack};
 ghost use Rattle.round_marks.specs.Finished.{HaveAllFinished};
 ghost use Rattle.round_marks.specs.Quiet.{IsQuiet};
 ghost use Rattle.round_marks.specs.Runs.{AreAllMarked};
 ghost use Rattle.rts_core.specs.Accounts.{IsCounted};
+ghost use Rattle.rts_core.specs.Orders.{AreInOrder};
+ghost use Rattle.run_account.specs.Gathering.{TellAll, TellLeft};
 ghost use Rattle.run_account.specs.RunAccounts.{left_world};
 ghost use Rattle.rts_run.specs.Configs.{IsWithin, MayBegin, RefusesRun};
 ghost use Rattle.rts_run.specs.Outcomes.{IsOutcome};
@@ -18,13 +21,13 @@ use crate::error::RunError;
 use crate::gathering::gather;
 use crate::opened_run::OpenedRun;
 use crate::outcome::Outcome;
-use at_sync::Board;
 use barrier::RunStrategy;
 use chare_index::{Gate, Limits};
-use chares::{Chare, Openings};
+use chares::{Chare, History, Openings};
+use lean_board::LeanBoard;
 use pe_state::{HeldParcel, PeEnd};
-use pe_worker::{Fault, Field, NoWatch, RunBeginning, Watch, Worker};
-use round_marks::{run_agrees, run_finished, run_is_quiet};
+use pe_worker::{Fault, Field, NoWatch, RunBeginning, SeenRounds, Watch, Worker};
+use round_marks::{run_agrees, run_finished, run_fits, run_is_quiet};
 use run_account::{LeftBuffers, take_next};
 use std::alloc::{AllocError, Allocator};
 use std::collections::VecDeque;
@@ -44,8 +47,8 @@ use worker_threads::Crew;
 /// fields are: `account`, where each letter is; `histories`, what each element is; `in_order`, that each started before its first
 /// letter, and then waited and was resumed for each round in turn; `rounds`, what was decided, on a board of these chares and PEs
 /// (`elements`, `on_pes`) that decides as the config says (`by_strategy`); and `marks`, that the elements were measured and placed
-/// as the rounds say, unless its fault is [`Mismatch`](Fault::Mismatch). That comes only where they were not (`mismatch`), and in
-/// place of any other. Else the fault is that of the lowest PE whose worker met one, and has a cause (`cause`). Where it is
+/// as the rounds say, unless its fault is [`Mismatch`](Fault::Mismatch). That comes only where they were not (`mismatch`), or in a run
+/// that drops its history, where this was not seen in time ([`forgot`](Outcome::forgot)), and in place of any other. Else the fault is that of the lowest PE whose worker met one, and has a cause (`cause`). Where it is
 /// [`Quiet`](Fault::Quiet), nothing was left to do (`quiet`). Without one every element has finished (`all_finished`), and the board
 /// was told so (`finished`).
 ///
@@ -91,7 +94,10 @@ pub fn run_watched<
     if let Some(setting) = config.first_outside(chares.len()) {
         return Err(RunError::Config(setting));
     }
-    match run_as::<C, Brand, G, V, R, A>(rt, alloc, config, gate, watch, chares) {
+    let Ok(board) = new_board(alloc, config, chares.len()) else {
+        return Err(RunError::OutOfMemory);
+    };
+    match run_as::<C, Brand, G, V, R, A>(rt, alloc, config, gate, watch, chares, board) {
         Ok(outcome) => Ok(outcome),
         Err(_) => Err(RunError::OutOfMemory),
     }
@@ -160,6 +166,7 @@ fn carry_on_as<
     requires few { length H.opened ≤ Limits.ELEMENTS }
     requires run { config.now.pes ≡ H.pes }
     requires earlier { IsOutcome C.step C.fits C.pack C.refuses H.opened H.pes H.strategy outcome }
+    requires book { IfSome outcome.book (λ book. book ≡ H.book) }
     ensures outcome { IfOk result (IsOutcome C.step C.fits C.pack C.refuses H.opened H.pes H.strategy) }
 {
     let opened = OpenedRun::<C, H, A>::again(alloc, config, outcome)?;
@@ -181,15 +188,18 @@ fn run_as<
     gate: &G,
     watch: &V,
     chares: Vec<C, A>,
+    board: LeanBoard<A>,
 ) -> Result<Outcome<C, A>, AllocError>
     requires within { IsWithin config.now }
     requires few { length chares.items ≤ Limits.ELEMENTS }
     requires run { config.now.pes ≡ H.pes }
     requires opened { chares.items ≡ H.opened }
     requires by_strategy { config.now.strategy ≡ H.strategy }
+    requires board { board.board ≡ new_board (length H.opened) H.pes H.strategy }
+    requires book { IfSome board.book (λ book. book ≡ H.book) }
     ensures outcome { IfOk result (IsOutcome C.step C.fits C.pack C.refuses H.opened H.pes H.strategy) }
 {
-    let opened = OpenedRun::<C, H, A>::new(alloc, config, chares)?;
+    let opened = OpenedRun::<C, H, A>::new(alloc, config, chares, board)?;
     run_opened(rt, alloc, config, gate, watch, opened)
 }
 
@@ -251,8 +261,8 @@ fn run_named<
     };
     let (gathered, fault) = gather(field.post(), first, done, room);
     let (post, board) = field.into_parts();
-    let (ends, left) = gathered.settled(rt, post, left);
-    Ok(ended::<C, H, A>(ends, left, board, fault))
+    let (ends, left, seen) = gathered.settled(rt, post, left);
+    Ok(ended::<C, H, A>(ends, left, board, fault, &seen))
 }
 
 // Lets each worker work in a thread of its own.
@@ -283,42 +293,114 @@ fn work_all<
 
 // The outcome of what is left. That the marks of the elements agree with the rounds, and that the elements have finished, is seen
 // here, once all threads have ended: no lock can show it before.
-fn ended<C: Chare<A>, H: Openings<C>, A: Allocator>(
+fn ended<C: Chare<A>, H: Openings<C> + RunStrategy, A: Allocator>(
     ends: Vec<PeEnd<C, A>, A>,
     left: Vec<Vec<HeldParcel<A>, A>, A>,
-    board: Board<A>,
+    board: LeanBoard<A>,
     met: Option<Fault>,
+    seen: &Option<SeenRounds<A>>,
 ) -> Outcome<C, A>
     requires few_pes { length ends.items ≤ Limits.PES }
     requires counted { IsCounted (left_world ends.items (map (λ q. q.items) left.items)) }
     requires cause { IfSome met (HasCause C.step C.pack C.refuses H.opened) }
+    requires book { IfSome board.book (λ book. book ≡ H.book) }
+    requires elements { elements board.board.database ≡ length H.opened }
+    requires on_pes { board.board.pes ≡ H.pes }
+    requires in_order { AreInOrder (left_world ends.items (map (λ q. q.items) left.items)) }
+    requires told { TellAll H.book (length H.opened) H.pes ends.items seen.now }
+    requires told_left { TellLeft H.book (length H.opened) H.pes (map (λ q. q.items) left.items) seen.now }
     ensures ends { result.ends ≡ ends.items }
     ensures left { result.left ≡ map (λ q. q.items) left.items }
-    ensures board { result.board ≡ board }
+    ensures board { result.board ≡ board.board }
     ensures marks { result.fault ≢ Some Mismatch → AreAllMarked result.board result.ends result.left }
-    ensures mismatch { result.fault ≡ Some Mismatch → ¬ (AreAllMarked result.board result.ends result.left) }
+    ensures mismatch { result.forgot ≡ false → result.fault ≡ Some Mismatch → ¬ (AreAllMarked result.board result.ends result.left) }
     ensures unpacks { result.fault ≢ Some Unpack }
     ensures cause { result.fault ≢ Some Mismatch → IfSome result.fault (HasCause C.step C.pack C.refuses H.opened) }
     ensures finished { result.fault ≡ None → HaveFinished result.board }
     ensures all_finished { result.fault ≡ None → HaveAllFinished result.ends result.left }
     ensures quiet { result.fault ≡ Some Quiet → IsQuiet result.board result.ends result.left }
 {
-    if run_agrees(&board, &ends, &left) {
-        let finished = all_finished(&board, &ends, &left);
-        let quiet = is_quiet(&board, &ends, &left, met);
-        let fault = fault_at_end::<C, H, A>(finished, quiet, met);
-        return Outcome::new(ends, left, board, fault);
+    match compared::<C, H, A>(&board, &ends, &left, seen) {
+        Some(true) => {
+            let finished = all_finished(&board, &ends, &left);
+            let quiet = is_quiet(&board, &ends, &left, met);
+            let fault = fault_at_end::<C, H, A>(finished, quiet, met);
+            Outcome::new(ends, left, board, fault, false)
+        }
+        Some(false) => Outcome::new(ends, left, board, Some(Fault::Mismatch), false),
+        None => Outcome::new(ends, left, board, Some(Fault::Mismatch), true),
     }
-    Outcome::new(ends, left, board, Some(Fault::Mismatch))
+}
+
+// Whether the marks of all elements agree with the rounds, or `None` where they cannot be compared any more: where marks or rounds are
+// not kept, and what the PEs have seen does not tell them.
+fn compared<C: Chare<A>, H: Openings<C> + RunStrategy, A: Allocator>(
+    board: &LeanBoard<A>,
+    ends: &[PeEnd<C, A>],
+    left: &[Vec<HeldParcel<A>, A>],
+    seen: &Option<SeenRounds<A>>,
+) -> Option<bool>
+    requires book { IfSome board.now.book (λ book. book ≡ H.book) }
+    requires elements { elements board.now.board.database ≡ length H.opened }
+    requires on_pes { board.now.board.pes ≡ H.pes }
+    requires in_order { AreInOrder (left_world ends.now (map (λ q. q.items) left.now)) }
+    requires told { TellAll H.book (length H.opened) H.pes ends.now seen.now }
+    requires told_left { TellLeft H.book (length H.opened) H.pes (map (λ q. q.items) left.now) seen.now }
+    ensures agree { IfSome result (λ agrees. IsTrue agrees ↔ AreAllMarked board.now.board ends.now (map (λ q. q.items) left.now)) }
+{
+    if are_told::<C, H, A>(board, ends, left, seen) {
+        return Some(true);
+    }
+    let mut whole = true;
+    let agrees = run_agrees(board, ends, left, &mut whole);
+    if !whole {
+        return None;
+    }
+    Some(agrees)
+}
+
+// Whether what the PEs have seen tells the marks of all elements.
+fn are_told<C: Chare<A>, H: Openings<C> + RunStrategy, A: Allocator>(
+    board: &LeanBoard<A>,
+    ends: &[PeEnd<C, A>],
+    left: &[Vec<HeldParcel<A>, A>],
+    seen: &Option<SeenRounds<A>>,
+) -> bool
+    requires book { IfSome board.now.book (λ book. book ≡ H.book) }
+    requires elements { elements board.now.board.database ≡ length H.opened }
+    requires on_pes { board.now.board.pes ≡ H.pes }
+    requires in_order { AreInOrder (left_world ends.now (map (λ q. q.items) left.now)) }
+    requires told { TellAll H.book (length H.opened) H.pes ends.now seen.now }
+    requires told_left { TellLeft H.book (length H.opened) H.pes (map (λ q. q.items) left.now) seen.now }
+    ensures agree { IsTrue result → AreAllMarked board.now.board ends.now (map (λ q. q.items) left.now) }
+{
+    let Some(seen) = seen else {
+        return false;
+    };
+    board.has_seen(seen) && run_fits(board, ends, left)
+}
+
+// A new board for so many elements, which keeps all its rounds or the last alone, as the run keeps or drops its history.
+fn new_board<A: Allocator + Copy>(
+    alloc: A,
+    config: &Config,
+    elements: usize,
+) -> Result<LeanBoard<A>, AllocError>
+    requires within { IsWithin config.now }
+    requires few { elements ≤ Limits.ELEMENTS }
+    ensures made { IfOk result (λ board. board.board ≡ new_board elements config.now.pes config.now.strategy) }
+{
+    let last_alone = matches!(config.history, History::Dropped);
+    LeanBoard::new(alloc, elements as u32, config.pes, config.strategy, last_alone)
 }
 
 // Whether every element has finished, and the board was told so of each.
 fn all_finished<C: Chare<A>, A: Allocator>(
-    board: &Board<A>,
+    board: &LeanBoard<A>,
     ends: &[PeEnd<C, A>],
     left: &[Vec<HeldParcel<A>, A>],
 ) -> bool
-    ensures board { IsTrue result → HaveFinished board.now }
+    ensures board { IsTrue result → HaveFinished board.now.board }
     ensures elements { IsTrue result → HaveAllFinished ends.now (map (λ q. q.items) left.now) }
 {
     board.all_finished() && run_finished(ends, left)
@@ -326,13 +408,13 @@ fn all_finished<C: Chare<A>, A: Allocator>(
 
 // Whether nothing was left to do, where a worker found so.
 fn is_quiet<C: Chare<A>, A: Allocator>(
-    board: &Board<A>,
+    board: &LeanBoard<A>,
     ends: &[PeEnd<C, A>],
     left: &[Vec<HeldParcel<A>, A>],
     met: Option<Fault>,
 ) -> bool
-    ensures quiet { IsTrue result → IsQuiet board.now ends.now (map (λ q. q.items) left.now) }
-    ensures all { met ≡ Some Quiet → IsQuiet board.now ends.now (map (λ q. q.items) left.now) → IsTrue result }
+    ensures quiet { IsTrue result → IsQuiet board.now.board ends.now (map (λ q. q.items) left.now) }
+    ensures all { met ≡ Some Quiet → IsQuiet board.now.board ends.now (map (λ q. q.items) left.now) → IsTrue result }
 {
     met == Some(Fault::Quiet) && run_is_quiet(board, ends, left)
 }

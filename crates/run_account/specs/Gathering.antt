@@ -1,8 +1,11 @@
 -- What is known of the first PEs of a run once their workers have ended and their seats are joined into one: the sums of
 -- their local accounts.
-use Rattle.std.specs.Prelude.{◌≡◌, ℕ, ◌+◌, ◌-◌, ◌≤◌, List, length, map, sum_by, slice_get, All}
+use Rattle.std.specs.Prelude.{◌≡◌, ℕ, ◌+◌, ◌-◌, ◌≤◌, List, length, map, sum_by, slice_get, All, Option, IfSome}
 use Rattle.std.specs.List.{flat_map, range_with_len}
 use Rattle.std.specs.Option.{option_map_or}
+use Rattle.logbook.specs.Pages.{Book}
+use Rattle.grown_list.specs.Fronts.{FrontView}
+use Rattle.at_sync.specs.Boards.{Kept}
 use Rattle.chares.specs.Letters.{LetterView}
 use Rattle.chares.specs.Steps.{Step}
 use Rattle.pe_state.specs.Pes.{PeView, Parcel}
@@ -12,6 +15,7 @@ use Rattle.pe_state.specs.Histories.{HasHistories}
 use Rattle.rts_core.specs.Ledgers.{Ledger, IsSteady, all_letters_in, all_letters_at}
 use Rattle.rts_core.specs.Places.{Life, lives_in, lives_at, sends_of}
 use Rattle.pe_worker.specs.Seated.{Beginning, Matches}
+use Rattle.round_marks.specs.Told.{AreToldAt, IsToldParcel}
 
 -- a letter by its number, its element and its body
 abbrev pub weigh : (ℕ × ℕ → ℕ → List ℕ → ℕ) → LetterView → ℕ
@@ -66,3 +70,14 @@ pub record GatheredView (C : Type 0) : Type 0 where
   pub ends : List (PeView C)
   pub seat : SeatView Parcel
   pub room : ℕ
+
+-- rounds that were seen, if they were, tell the marks of all elements that these PEs have
+abbrev pub TellAll : {A C : Type 0} → Book → ℕ → ℕ → List (PeView C) → Option (FrontView (Kept A)) → Type 0
+TellAll book n pes ends seen = IfSome seen (λ f. (f.book ≡ book) × All (AreToldAt f.entries n pes) ends)
+
+-- and of those that are packed in a queue, and in all queues
+abbrev pub TellQueue : {A : Type 0} → Book → ℕ → ℕ → List Parcel → Option (FrontView (Kept A)) → Type 0
+TellQueue book n pes queue seen = IfSome seen (λ f. (f.book ≡ book) × All (IsToldParcel f.entries n pes) queue)
+
+abbrev pub TellLeft : {A : Type 0} → Book → ℕ → ℕ → List (List Parcel) → Option (FrontView (Kept A)) → Type 0
+TellLeft book n pes left seen = IfSome seen (λ f. (f.book ≡ book) × All (All (IsToldParcel f.entries n pes)) left)

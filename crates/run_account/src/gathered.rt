@@ -5,13 +5,15 @@ ghost use Rattle.std.specs.List.{range_with_len};
 ghost use Rattle.chare_index.specs.declared.limits.TheConstants.Limits.{SEATS};
 ghost use Rattle.pe_queues.specs.Seats.{pes};
 ghost use Rattle.rts_core.specs.Histories.{AreHistories};
+ghost use Rattle.run_account.specs.Gathering.{TellAll, TellLeft};
 ghost use Rattle.run_account.specs.RunAccounts.{IsRunAccount, left_world};
 
 use crate::left_buffers::LeftBuffers;
+use barrier::RunStrategy;
 use chares::{Chare, Openings};
 use pe_queues::{Post, Seat};
-use pe_state::{HeldParcel, Parcel, PeEnd};
-use pe_worker::{RunBeginning, SeatedPe};
+use pe_state::{HeldParcel, PeEnd};
+use pe_worker::{Mail, RunBeginning, SeatedPe, SeenRounds, joined};
 use std::alloc::{Allocator, Global};
 use std::marker::{Model, PhantomData};
 use std::sync::Wait;
@@ -20,24 +22,39 @@ use std::sync::Wait;
 /// record `GatheredView`. They keep the sums of the local accounts, which add up to the account of the run once all are
 /// gathered and the queues are settled.
 #[derive(Drop)]
-pub struct Gathered<C: Chare<A>, H: Openings<C>, J: RunBeginning<C>, A: Allocator = Global> {
+pub struct Gathered<
+    C: Chare<A>,
+    H: Openings<C> + RunStrategy,
+    J: RunBeginning<C>,
+    A: Allocator = Global,
+> {
     ends: Vec<PeEnd<C, A>, A>,
-    seat: Seat<Parcel<C, H, A>, A>,
+    seat: Seat<Mail<C, H, A>, A>,
+    // The rounds that all of them have seen, if each has seen any.
+    seen: Option<SeenRounds<A>>,
     of: PhantomData<J>,
 }
 
-impl<C: Chare<A>, H: Openings<C>, J: RunBeginning<C>, A: Allocator> Model for Gathered<C, H, J, A> {
-    ghost use Rattle.std.specs.Prelude.{vec_capacity};
-    ghost use Rattle.run_account.specs.Gathering.{AreGathered, GatheredView};
+impl<C: Chare<A>, H: Openings<C> + RunStrategy, J: RunBeginning<C>, A: Allocator> Model
+    for Gathered<C, H, J, A> {
+    ghost use Rattle.std.specs.Prelude.{length, vec_capacity};
+    ghost use Rattle.run_account.specs.Gathering.{AreGathered, GatheredView, TellAll};
 
     ghost Value = { GatheredView C };
 
     ghost view = { λ g. record { ends = g.ends.items; seat = g.seat; room = vec_capacity g.ends } };
 
-    ghost invariant = { λ g. AreGathered C.step C.fits C.pack H.opened J.beginning g.ends.items g.seat };
+    ghost invariant = { λ g.
+        AreGathered C.step C.fits C.pack H.opened J.beginning g.ends.items g.seat
+        × TellAll H.book (length H.opened) H.pes g.ends.items g.seen };
 }
 
-impl<C: Chare<A>, H: Openings<C>, J: RunBeginning<C>, A: Allocator> Gathered<C, H, J, A> {
+impl<C: Chare<A>, H: Openings<C> + RunStrategy, J: RunBeginning<C>, A: Allocator> Gathered<
+    C,
+    H,
+    J,
+    A,
+> {
     /// The first PE, in a buffer with capacity for all.
     pub fn first(first: SeatedPe<C, H, J, A>, room: Vec<PeEnd<C, A>, A>) -> Self
         requires first { first.pe.me ≡ 0 }
@@ -46,28 +63,30 @@ impl<C: Chare<A>, H: Openings<C>, J: RunBeginning<C>, A: Allocator> Gathered<C, 
         ensures ends { result.ends ≡ first.pe ∷ [] }
         ensures room { result.room ≡ vec_capacity room }
     {
-        let (pe, seat) = first.into_parts();
+        let (pe, seat, seen) = first.into_parts();
         let mut ends = room;
         ends.push_reserved(pe.into_end());
         Gathered {
             ends,
             seat,
+            seen,
             of: PhantomData,
         }
     }
 
     /// The same with one more PE, the next in order, in a buffer that has the capacity. This takes no memory.
-    pub fn with(self, post: &Post<Parcel<C, H, A>, A>, next: SeatedPe<C, H, J, A>) -> Self
+    pub fn with(self, post: &Post<Mail<C, H, A>, A>, next: SeatedPe<C, H, J, A>) -> Self
         requires own { post.now ≡ J.beginning.post }
         requires next { next.pe.me ≡ length self.ends }
         requires some_room { length self.ends < self.room }
         ensures ends { result.ends ≡ self.ends ++ next.pe ∷ [] }
         ensures room { result.room ≡ self.room }
     {
-        let (pe, seat) = next.into_parts();
+        let (pe, seat, theirs) = next.into_parts();
         let Gathered {
             mut ends,
             seat: all,
+            seen,
             of: _,
         } = self;
         ends.push_reserved(pe.into_end());
@@ -75,19 +94,24 @@ impl<C: Chare<A>, H: Openings<C>, J: RunBeginning<C>, A: Allocator> Gathered<C, 
         Gathered {
             ends,
             seat,
+            seen: joined(seen, theirs),
             of: PhantomData,
         }
     }
 
-    /// Ends the queues, once all PEs are gathered, and returns the PEs, in order, and what is left in the queue of each,
-    /// front first. The clause `account` is the account of the run, with what the PEs that it began with had done before. This takes
+    /// Ends the queues, once all PEs are gathered, and returns the PEs, in order, what is left in the queue of each, front first, and
+    /// the rounds that were seen by all, if they were: these tell the marks of each element that is anywhere. The clause `account` is the account of the run, with what the PEs that it began with had done before. This takes
     /// no memory.
     pub fn settled<R: Wait>(
         self,
         rt: &R,
-        post: Post<Parcel<C, H, A>, A>,
+        post: Post<Mail<C, H, A>, A>,
         room: LeftBuffers<A>,
-    ) -> (Vec<PeEnd<C, A>, A>, Vec<Vec<HeldParcel<A>, A>, A>)
+    ) -> (
+        Vec<PeEnd<C, A>, A>,
+        Vec<Vec<HeldParcel<A>, A>, A>,
+        Option<SeenRounds<A>>,
+    )
         requires own { post ≡ J.beginning.post }
         requires all_seats { sum_by (λ n. n) J.beginning.shares ≡ SEATS }
         requires shared { length self.ends ≡ length J.beginning.shares }
@@ -101,11 +125,19 @@ impl<C: Chare<A>, H: Openings<C>, J: RunBeginning<C>, A: Allocator> Gathered<C, 
         ensures counted { length result.1.items ≡ length self.ends }
         ensures histories { AreHistories C.step C.fits C.pack H.opened (left_world result.0.items (map (λ q. q.items) result.1.items)) }
         ensures account { IsRunAccount C.step H.opened (left_world result.0.items (map (λ q. q.items) result.1.items)) }
+        ensures told { TellAll H.book (length H.opened) H.pes result.0.items result.2 }
+        ensures told_left { TellLeft H.book (length H.opened) H.pes (map (λ q. q.items) result.1.items) result.2 }
     {
-        let Gathered { ends, seat, of: _ } = self;
+        let Gathered {
+            ends,
+            seat,
+            seen,
+            of: _,
+        } = self;
         let Ok(left) = post.settle(rt, seat) else {
             unreachable!()
         };
-        (ends, room.release(left))
+        let (left, seen) = room.release(left, seen);
+        (ends, left, seen)
     }
 }

@@ -1,11 +1,15 @@
 //! What is left in the queues of a run.
 
-ghost use Rattle.std.specs.Prelude.{◌≡◌, ◌≤◌, [], All, IfOk, length, map, vec_capacity};
+ghost use Rattle.std.specs.Prelude.{◌≡◌, ◌≤◌, [], All, IfOk, IfSome, MatchOption, length, map, vec_capacity};
+ghost use mathlib.Core.List.{IsPrefix};
 ghost use Rattle.pe_state.specs.Histories.{IsParcelHistory};
+ghost use Rattle.run_account.specs.Gathering.{TellLeft, TellQueue};
 
 use crate::next_owner::take_next;
+use barrier::RunStrategy;
 use chares::{Chare, Openings};
-use pe_state::{HeldParcel, Parcel, into_held};
+use pe_state::{HeldParcel, into_held};
+use pe_worker::{Mail, SeenRounds, received};
 use std::alloc::{AllocError, Allocator, Global};
 use std::collections::VecDeque;
 use std::marker::Model;
@@ -50,16 +54,21 @@ impl<A: Allocator> LeftBuffers<A> {
         })
     }
 
-    /// The parcels of these queues, for which there has to be capacity, without the marker of their run. The clause
-    /// `histories` says what their types said. This takes no memory.
-    pub fn release<C: Chare<A>, H: Openings<C>>(
+    /// The parcels of these queues, for which there has to be capacity, without the marker of their run, and the longest of these
+    /// rounds and of those that came with the parcels. The clauses `histories` and `told` say what their types said. This takes no
+    /// memory.
+    pub fn release<C: Chare<A>, H: Openings<C> + RunStrategy>(
         self,
-        queues: Vec<Vec<Parcel<C, H, A>, A>, A>,
-    ) -> Vec<Vec<HeldParcel<A>, A>, A>
+        queues: Vec<Vec<Mail<C, H, A>, A>, A>,
+        mut seen: Option<SeenRounds<A>>,
+    ) -> (Vec<Vec<HeldParcel<A>, A>, A>, Option<SeenRounds<A>>)
+        requires own { IfSome seen (λ f. f.book ≡ H.book) }
         requires one_each { length queues.items ≡ self.queues }
         requires few { All (λ queue. length queue.items ≤ self.capacity) queues.items }
-        ensures parcels { map (λ queue. queue.items) result.items ≡ map (λ queue. queue.items) queues.items }
-        ensures histories { All (λ queue. All (IsParcelHistory C.step C.fits C.pack H.opened) queue.items) result.items }
+        ensures parcels { map (λ queue. queue.items) result.0.items ≡ map (λ queue. queue.items) queues.items }
+        ensures histories { All (λ queue. All (IsParcelHistory C.step C.fits C.pack H.opened) queue.items) result.0.items }
+        ensures told { TellLeft H.book (length H.opened) H.pes (map (λ queue. queue.items) result.0.items) result.1 }
+        ensures longer { IfSome result.1 (λ f. MatchOption seen ⊥ (λ m. IsPrefix m.entries f.entries)) }
     {
         let LeftBuffers {
             mut buffers,
@@ -71,9 +80,11 @@ impl<A: Allocator> LeftBuffers<A> {
             let Some(room) = take_next(&mut buffers) else {
                 unreachable!()
             };
-            left.push_reserved(release_queue(queue, room));
+            let (parcels, longer) = release_queue(queue, room, seen);
+            left.push_reserved(parcels);
+            seen = longer;
         }
-        left
+        (left, seen)
     }
 }
 
@@ -95,18 +106,24 @@ fn empty_buffers<A: Allocator + Copy>(
 }
 
 // The parcels of one queue, in the buffer that was made for them.
-fn release_queue<C: Chare<A>, H: Openings<C>, A: Allocator>(
-    queue: Vec<Parcel<C, H, A>, A>,
+fn release_queue<C: Chare<A>, H: Openings<C> + RunStrategy, A: Allocator>(
+    queue: Vec<Mail<C, H, A>, A>,
     mut room: Vec<HeldParcel<A>, A>,
-) -> Vec<HeldParcel<A>, A>
+    mut seen: Option<SeenRounds<A>>,
+) -> (Vec<HeldParcel<A>, A>, Option<SeenRounds<A>>)
+    requires own { IfSome seen (λ f. f.book ≡ H.book) }
     requires empty { room.items ≡ [] }
     requires wide { length queue.items ≤ vec_capacity room }
-    ensures parcels { result.items ≡ queue.items }
-    ensures histories { All (IsParcelHistory C.step C.fits C.pack H.opened) result.items }
+    ensures parcels { result.0.items ≡ queue.items }
+    ensures histories { All (IsParcelHistory C.step C.fits C.pack H.opened) result.0.items }
+    ensures told { TellQueue H.book (length H.opened) H.pes result.0.items result.1 }
+    ensures longer { IfSome result.1 (λ f. MatchOption seen ⊥ (λ m. IsPrefix m.entries f.entries)) }
 {
     let mut queue = VecDeque::from_vec(queue);
-    while let Some(parcel) = take_next(&mut queue) {
+    while let Some(mail) = take_next(&mut queue) {
+        let (parcel, longer) = received(mail, seen);
+        seen = longer;
         room.push_reserved(into_held(parcel));
     }
-    room
+    (room, seen)
 }
