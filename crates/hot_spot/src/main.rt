@@ -136,6 +136,11 @@ fn run_and_print<V: Watch + Sync, R: Threads + Wait + Sync + Clock + Print + Epr
         } else {
             History::Kept
         },
+        rounds: if options.no_journal && options.is_quiet {
+            History::Dropped
+        } else {
+            History::Kept
+        },
         ..Config::usual(options.pes)
     };
     let start = Instant::now(rt);

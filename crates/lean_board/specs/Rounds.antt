@@ -5,9 +5,10 @@ use Rattle.logbook.specs.Pages.{Book}
 use Rattle.at_sync.specs.Boards.{Kept}
 use Rattle.grown_list.specs.Fronts.{FrontView}
 
--- all rounds; and which list that grows has them, where the last alone is kept
+-- all rounds; those that are kept, which are the last ones; and which list that grows has them, where others may see them
 pub record RoundsView (A : Type 0) : Type 0 where
   pub all : List (Kept A)
+  pub kept : List (Kept A)
   pub book : Option Book
 
 -- those that are kept, or those of the list that grows

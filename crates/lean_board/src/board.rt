@@ -9,7 +9,7 @@ ghost use Rattle.at_sync.specs.Boards.{Decides, HaveFinished, IsBoard, IsKeptIn,
 ghost use Rattle.at_sync.specs.Refusals.{RefusesDecision, RefusesFinish, database_error_of};
 ghost use Rattle.lean_board.specs.Boards.{LeanView};
 
-use crate::rounds::Rounds;
+use crate::rounds::{Keeping, Rounds};
 use at_sync::{Board, BoardError, BoardParts, Strategy, decided, decided_with};
 use chare_index::{Gate, Index, Limits, Pe, Round};
 use grown_list::Front;
@@ -48,6 +48,7 @@ impl<A: Allocator> Model for LeanBoard<A> {
 
     ghost view = { λ b. record {
       board = record { pes = b.pes; strategy = b.strategy; database = b.database; rounds = b.rounds.all; finished = b.finished.items };
+      kept = b.rounds.kept;
       book = b.rounds.book;
     } };
 
@@ -57,13 +58,13 @@ impl<A: Allocator> Model for LeanBoard<A> {
 }
 
 impl<A: Allocator> LeanBoard<A> {
-    /// A board for `n` elements on `pes` PEs, as [`Board::new`] makes it. It keeps all its rounds, or the last alone.
+    /// A board for `n` elements on `pes` PEs, as [`Board::new`] makes it. It keeps its rounds as `keeping` says.
     pub fn new(
         alloc: A,
         n: u32,
         pes: u32,
         strategy: Strategy,
-        last_alone: bool,
+        keeping: Keeping,
     ) -> Result<Self, AllocError>
     where
         A: Copy,
@@ -82,7 +83,7 @@ impl<A: Allocator> LeanBoard<A> {
             pes,
             strategy,
             database,
-            rounds: Rounds::new(alloc, last_alone),
+            rounds: Rounds::new(alloc, keeping),
             finished: all_running(alloc, n)?,
             running: n,
         })
@@ -92,8 +93,7 @@ impl<A: Allocator> LeanBoard<A> {
     pub fn of(board: Board<A>) -> Self
     where
         A: Copy,
-        ensures value { result.board ≡ board }
-        ensures whole { result.book ≡ None }
+        ensures value { result ≡ record { board = board; kept = board.rounds; book = None } }
     {
         let BoardParts {
             pes,
@@ -299,8 +299,8 @@ impl<A: Allocator> LeanBoard<A> {
     /// What is kept of rounds: of all that were decided, or of the last alone. The clause `consistent` says what holds of every board,
     /// for a caller that knows nothing else of this one.
     pub fn rounds(&self) -> &[(Snapshot<A>, Refined<A>)]
+        ensures value { result.now ≡ self.now.kept }
         ensures last { (past : List (Kept A)) × (self.now.board.rounds ≡ past ++ result.now) }
-        ensures whole { self.now.book ≡ None → result.now ≡ self.now.board.rounds }
         ensures consistent { IsBoard self.now.board }
     {
         self.known();
@@ -309,8 +309,8 @@ impl<A: Allocator> LeanBoard<A> {
 
     /// What is kept of rounds, by value.
     pub fn into_rounds(self) -> Vec<(Snapshot<A>, Refined<A>), A>
+        ensures value { result.items ≡ self.kept }
         ensures last { (past : List (Kept A)) × (self.board.rounds ≡ past ++ result.items) }
-        ensures whole { self.book ≡ None → result.items ≡ self.board.rounds }
     {
         let LeanBoard {
             alloc: _,
@@ -376,7 +376,7 @@ fn keep<A: Allocator>(
     requires few { length rounds.old.all < 2 ^ 62 }
     ensures added { OnOk result (rounds.new.all ≡ rounds.old.all ++ kept ∷ []) }
     ensures begun { OnOk result (database.new ≡ opening (database.old.round + 1) (elements database.old)) }
-    ensures same_rounds { OnErr result (rounds.new.all ≡ rounds.old.all) }
+    ensures same_rounds { OnErr result ((rounds.new.all ≡ rounds.old.all) × (rounds.new.kept ≡ rounds.old.kept)) }
     ensures same_book { rounds.new.book ≡ rounds.old.book }
     ensures same_database { OnErr result (database.new ≡ database.old) }
 {

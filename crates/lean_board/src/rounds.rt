@@ -13,13 +13,26 @@ use lb_snapshot::Snapshot;
 use std::alloc::{AllocError, Allocator};
 use std::marker::Model;
 
+/// How a board keeps its rounds.
+#[derive(Clone, Copy, Debug, PartialEq, Eq)]
+pub enum Keeping {
+    /// It keeps all of them.
+    All,
+    /// It keeps all of them, and others may see that a round is one of them without the board.
+    AllSeen,
+    /// The same, but it keeps the last alone.
+    Last,
+}
+
 /// The rounds that a board has decided: the snapshot and the decision of each. All of them are kept, or the last alone. Contracts see
 /// them as the record `RoundsView`.
 #[derive(Drop)]
 pub(crate) struct Rounds<A: Allocator> {
     kept: Vec<(Snapshot<A>, Refined<A>), A>,
-    // All rounds, where the last alone is kept.
+    // All rounds, where others may see them.
     grown: Option<Grown<(Snapshot<A>, Refined<A>)>>,
+    // Whether the last alone is kept. Then others may see them.
+    last_alone: bool,
 }
 
 impl<A: Allocator> Model for Rounds<A> {
@@ -28,38 +41,50 @@ impl<A: Allocator> Model for Rounds<A> {
 
     ghost Value = { RoundsView A };
 
-    ghost view = { λ r. record { all = all_rounds r.kept.items r.grown; book = book_of r.grown } };
+    ghost view = { λ r. record { all = all_rounds r.kept.items r.grown; kept = r.kept.items; book = book_of r.grown } };
 
     ghost invariant = { λ r. IfSome r.grown (λ g. EndsWith g.entries r.kept.items) };
 }
 
 impl<A: Allocator> Rounds<A> {
-    /// No rounds, of which those to come are kept, all or the last alone.
-    pub(crate) fn new(alloc: A, last_alone: bool) -> Self
+    /// No rounds, of which those to come are kept, as this says.
+    pub(crate) fn new(alloc: A, keeping: Keeping) -> Self
         ensures none { result.all ≡ [] }
+        ensures none_kept { result.kept ≡ [] }
     {
-        if last_alone {
-            return Rounds {
+        match keeping {
+            Keeping::All => Rounds::of(Vec::new(alloc)),
+            Keeping::AllSeen => Rounds {
                 kept: Vec::new(alloc),
                 grown: Some(Grown::new()),
-            };
+                last_alone: false,
+            },
+            Keeping::Last => Rounds {
+                kept: Vec::new(alloc),
+                grown: Some(Grown::new()),
+                last_alone: true,
+            },
         }
-        Rounds::of(Vec::new(alloc))
     }
 
     /// These rounds, all of them kept, as are those to come.
     pub(crate) fn of(kept: Vec<(Snapshot<A>, Refined<A>), A>) -> Self
         ensures all { result.all ≡ kept.items }
+        ensures kept { result.kept ≡ kept.items }
         ensures whole { result.book ≡ None }
     {
-        Rounds { kept, grown: None }
+        Rounds {
+            kept,
+            grown: None,
+            last_alone: false,
+        }
     }
 
     /// Adds a round. The only error is that memory was refused, and then nothing changes.
     pub(crate) fn push(&mut self, round: (Snapshot<A>, Refined<A>)) -> Result<(), AllocError>
         requires few { length self.old.all < 2 ^ 62 }
         ensures pushed { OnOk result (self.new.all ≡ self.old.all ++ round ∷ []) }
-        ensures same { OnErr result (self.new.all ≡ self.old.all) }
+        ensures same { OnErr result ((self.new.all ≡ self.old.all) × (self.new.kept ≡ self.old.kept)) }
         ensures book { self.new.book ≡ self.old.book }
     {
         self.kept.reserve(1)?;
@@ -70,7 +95,9 @@ impl<A: Allocator> Rounds<A> {
         if !grown.push(&round) {
             return Err(AllocError);
         }
-        self.kept.clear();
+        if self.last_alone {
+            self.kept.clear();
+        }
         self.kept.push_reserved(round);
         Ok(())
     }
@@ -90,30 +117,26 @@ impl<A: Allocator> Rounds<A> {
         ensures found { IfSome result (λ kept. kept_of self.now.all round ≡ Some kept.now) }
         ensures whole { self.now.book ≡ None → option_copied result ≡ kept_of self.now.all round }
     {
-        if round == 0 {
+        let settled = self.len() - self.kept.len() as u64;
+        let round = u64::from(round);
+        if round <= settled {
             return None;
         }
-        let Some(grown) = &self.grown else {
-            return self.kept.get(round as usize - 1);
-        };
-        if grown.front().len() != u64::from(round) {
-            return None;
-        }
-        self.kept.last()
+        self.kept.get((round - settled - 1) as usize)
     }
 
     /// Those that are kept, which are the last ones.
     pub(crate) fn kept(&self) -> &[(Snapshot<A>, Refined<A>)]
+        ensures value { result.now ≡ self.now.kept }
         ensures last { (past : List (Kept A)) × (self.now.all ≡ past ++ result.now) }
-        ensures whole { self.now.book ≡ None → result.now ≡ self.now.all }
     {
         self.kept.as_slice()
     }
 
     /// Those that are kept, by value.
     pub(crate) fn into_kept(self) -> Vec<(Snapshot<A>, Refined<A>), A>
+        ensures value { result.items ≡ self.kept }
         ensures last { (past : List (Kept A)) × (self.all ≡ past ++ result.items) }
-        ensures whole { self.book ≡ None → result.items ≡ self.all }
     {
         self.kept
     }

@@ -3,7 +3,7 @@ use Rattle.std.specs.Prelude.{◌≡◌, ◌≢◌, ℕ, List, [], ◌∷◌, le
 use Rattle.std.specs.List.{range_with_len}
 use Rattle.std.specs.Option.{option_or}
 use Rattle.logbook.specs.Pages.{Book}
-use Rattle.at_sync.specs.Boards.{AreDecided, BoardState, IsBoard, HaveFinished}
+use Rattle.at_sync.specs.Boards.{AreDecided, BoardState, Kept, IsBoard, HaveFinished}
 use Rattle.at_sync.specs.declared.strategy.Strategy.{Strategy}
 use Rattle.chares.specs.Elements.{Refuses}
 use Rattle.chares.specs.Steps.{Step}
@@ -20,12 +20,14 @@ use Rattle.rts_core.specs.Histories.{AreHistories}
 use Rattle.rts_core.specs.Orders.{AreInOrder}
 use Rattle.run_account.specs.RunAccounts.{IsRunAccount, left_world}
 
--- its PEs, in order; what is left in the queue of each, front first; the board, with what was decided in each round; which list that
--- grows has these rounds, where the last alone is kept; the fault that ended it, if one did; and whether marks and rounds could not be compared any more
+-- its PEs, in order; what is left in the queue of each, front first; the board, with what was decided in each round; what is kept of
+-- that, which are the last rounds; which list that grows has these rounds, if one does; the fault that ended it, if one did; and
+-- whether marks and rounds could not be compared any more
 pub record OutcomeView (C A : Type 0) : Type 0 where
   pub ends : List (PeView C)
   pub left : List (List Parcel)
   pub board : BoardState A
+  pub kept : List (Kept A)
   pub book : Option Book
   pub fault : Option Fault
   pub forgot : Bool
@@ -38,8 +40,9 @@ first_fault (fault ∷ faults) = option_or fault (first_fault faults)
 -- The outcome of a run of these chares on this number of PEs. There is an end and a queue of each PE. The account holds, and
 -- every element is what its journal says, in which its rounds come in order. The board is one of these chares on these PEs: each
 -- round was decided for a snapshot of all of them, by the strategy. The marks of the elements agree with the rounds unless the
--- fault is a mismatch, and do not agree where it is one, and nothing was forgotten. Any other fault has a cause, and no element failed to unpack. Without a
--- fault every element has finished, and the board says so of each; and where the fault is that nothing was left to do, nothing was.
+-- fault is a mismatch, and do not agree where it is one and nothing was forgotten. Any other fault has a cause, and no element failed
+-- to unpack. Without a fault every element has finished, and the board says so of each; and where the fault is that nothing was left to
+-- do, nothing was.
 pub record IsOutcome {C A : Type 0} (step : Step C) (fits : C → Type 0) (pack : C → List ℕ) (refuses : Refuses C) (chares : List C) (pes : ℕ) (strategy : Strategy) (o : OutcomeView C A) : Type 0 where
   pub ends : map (λ pe. pe.me) o.ends ≡ range_with_len 0 pes
   pub queues : length o.left ≡ pes

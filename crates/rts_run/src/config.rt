@@ -33,9 +33,12 @@ pub struct Config {
     /// How each round is decided.
     pub strategy: Strategy,
     /// Whether elements keep what they have handled. Where they do, each letter takes memory until the run ends; where they do not,
-    /// an element settles its journal and its marks, and the board keeps its last round alone: [`Annals`](chares::Annals) counts what is
+    /// an element settles its journal and its marks: [`Annals`](chares::Annals) counts what is
     /// settled, and keeps the rest. What is said of journals, marks and rounds holds of either.
     pub history: History,
+    /// Whether the board keeps its rounds, where elements do not keep what they have handled: all of them, or the last alone. Texts and
+    /// dumps of a run show the rounds that are kept.
+    pub rounds: History,
 }
 
 impl Config {
@@ -44,7 +47,7 @@ impl Config {
     /// five minutes, letters with bodies of up to 1,024 bytes, and elements that keep what they have handled. A program whose handlers
     /// take as long sets [`turns`](Config::turns) higher.
     pub fn usual(pes: u32) -> Self
-        ensures value { result ≡ record { pes = pes; capacity = 1024; turns = 1000000000; probe_workers = 4; longest = BODY_BYTES; strategy = Least; history = Kept } }
+        ensures value { result ≡ record { pes = pes; capacity = 1024; turns = 1000000000; probe_workers = 4; longest = BODY_BYTES; strategy = Least; history = Kept; rounds = Kept } }
         ensures within { 1 ≤ pes → pes ≤ Limits.PES → IsWithin result }
     {
         Config {
@@ -55,6 +58,7 @@ impl Config {
             longest: BodyLimit::usual(),
             strategy: Strategy::Least,
             history: History::Kept,
+            rounds: History::Kept,
         }
     }
 

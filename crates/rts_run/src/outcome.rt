@@ -45,7 +45,7 @@ impl<C: Chare<A>, A: Allocator> Model for Outcome<C, A> {
 
     ghost Value = { OutcomeView C A };
 
-    ghost view = { λ o. record { ends = o.ends.items; left = map (λ q. q.items) o.left.items; board = o.board.board; book = o.board.book; fault = o.fault; forgot = o.forgot } };
+    ghost view = { λ o. record { ends = o.ends.items; left = map (λ q. q.items) o.left.items; board = o.board.board; kept = o.board.kept; book = o.board.book; fault = o.fault; forgot = o.forgot } };
 
     ghost invariant = { λ o.
         (length o.ends.items ≤ PES)
@@ -68,6 +68,7 @@ impl<C: Chare<A>, A: Allocator> Outcome<C, A> {
         ensures ends { result.ends ≡ ends.items }
         ensures left { result.left ≡ map (λ q. q.items) left.items }
         ensures board { result.board ≡ board.board }
+        ensures kept { result.kept ≡ board.kept }
         ensures book { result.book ≡ board.book }
         ensures fault { result.fault ≡ fault }
         ensures forgot { result.forgot ≡ forgot }
@@ -113,6 +114,7 @@ impl<C: Chare<A>, A: Allocator> Outcome<C, A> {
     /// The snapshot and the decision of each round that was decided, from round 1 on; of a run that drops its history, of the last
     /// alone.
     pub fn rounds(&self) -> &[(Snapshot<A>, Refined<A>)]
+        ensures value { result.now ≡ self.now.kept }
         ensures last { (past : List (Kept A)) × (self.now.board.rounds ≡ past ++ result.now) }
         ensures consistent { IsBoard self.now.board }
     {

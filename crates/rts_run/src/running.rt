@@ -24,7 +24,7 @@ use crate::outcome::Outcome;
 use barrier::RunStrategy;
 use chare_index::{Gate, Limits};
 use chares::{Chare, History, Openings};
-use lean_board::LeanBoard;
+use lean_board::{Keeping, LeanBoard};
 use pe_state::{HeldParcel, PeEnd};
 use pe_worker::{Fault, Field, NoWatch, RunBeginning, SeenRounds, Watch, Worker};
 use round_marks::{run_agrees, run_finished, run_fits, run_is_quiet};
@@ -390,8 +390,12 @@ fn new_board<A: Allocator + Copy>(
     requires few { elements ≤ Limits.ELEMENTS }
     ensures made { IfOk result (λ board. board.board ≡ new_board elements config.now.pes config.now.strategy) }
 {
-    let last_alone = matches!(config.history, History::Dropped);
-    LeanBoard::new(alloc, elements as u32, config.pes, config.strategy, last_alone)
+    let keeping = match (config.history, config.rounds) {
+        (History::Kept, _) => Keeping::All,
+        (History::Dropped, History::Kept) => Keeping::AllSeen,
+        (History::Dropped, History::Dropped) => Keeping::Last,
+    };
+    LeanBoard::new(alloc, elements as u32, config.pes, config.strategy, keeping)
 }
 
 // Whether every element has finished, and the board was told so of each.

@@ -78,4 +78,4 @@ ending_line (Some fault) sums = fault_line fault
 abbrev pub outcome_text : {A : Type 0} → ℕ → OutcomeView TallyView A → List ℕ
 outcome_text n o =
     let w = left_world o.ends o.left in
-    round_lines o.board.rounds ++ ending_line o.fault (element_sums o n) ++ account_line (posted_count w) (executed_count w) (held_count w)
+    round_lines o.kept ++ ending_line o.fault (element_sums o n) ++ account_line (posted_count w) (executed_count w) (held_count w)

@@ -129,7 +129,7 @@ impl<C: Chare<A>, A: Allocator> Explored<C, A> {
 
     /// The snapshot and the decision of each round that was decided, from round 1 on.
     pub fn rounds(&self) -> &[(Snapshot<A>, Refined<A>)]
-        ensures value { result.now ≡ self.now.outcome.board.rounds }
+        ensures value { result.now ≡ self.now.outcome.kept }
         ensures consistent { IsBoard self.now.outcome.board }
     {
         self.outcome.rounds()

@@ -8,6 +8,7 @@ ghost use Rattle.schedules.specs.declared.leaving.Ending.TheVariants.{Done};
 use crate::explored::Explored;
 use chares::{Chare, Openings};
 use courses::{Course, Refusal};
+use lean_board::LeanBoard;
 use pe_state::{HeldParcel, PeEnd, PeState, StepError, into_held};
 use pe_worker::Fault;
 use rts_core::{Event, Queue, World};
@@ -92,7 +93,7 @@ pub(crate) fn leave<C: Chare<A>, H: Openings<C>, A: Allocator + Copy>(
     let left = left_in(alloc, queues)?;
     let fault = ending.fault();
     let refused = ending.refused();
-    let outcome = Outcome::new(ends, left, board, fault);
+    let outcome = Outcome::new(ends, left, LeanBoard::of(board), fault, false);
     Ok(Explored::new(outcome, words, steps, refused))
 }
 

@@ -46,6 +46,7 @@ pub(crate) fn run_on<R: Threads + Wait + Sync, A: Allocator + Copy + Send + Sync
         longest: BodyLimit::usual(),
         strategy: Strategy::Least,
         history: History::Kept,
+        rounds: History::Kept,
     };
     run_chain(rt, alloc, &config, chain)
 }

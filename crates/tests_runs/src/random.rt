@@ -69,6 +69,7 @@ impl Draw {
             longest: BodyLimit::usual(),
             strategy: Strategy::Least,
             history,
+            rounds: history,
         }
     }
 

@@ -29,7 +29,7 @@ impl<A: Allocator + Copy> Driven<A> {
     /// The snapshot and the decision of each round that was decided, from round 1 on. There are none where there was no
     /// run.
     pub fn rounds(&self) -> &[(Snapshot<A>, Refined<A>)]
-        ensures value { result.now ≡ option_map_or (λ o. o.board.rounds) self.now.outcome [] }
+        ensures value { result.now ≡ option_map_or (λ o. o.kept) self.now.outcome [] }
     {
         match &self.outcome {
             Some(outcome) => outcome.rounds(),

@@ -201,6 +201,7 @@ fn outcome_of<T: Threads + Wait + Sync, V: Onlooker + Sync, A: Allocator + Copy 
         longest: BodyLimit::usual(),
         strategy,
         history,
+        rounds: History::Kept,
     };
     let chares = tallies_of(alloc, &workload)?;
     drop(workload);

@@ -47,7 +47,7 @@ pub fn write_asked<F: DumpFiles, W: Write, A: Allocator + Copy, B: Allocator + C
 ) -> (u8, Option<NotWritten>)
     ensures plain { IfNone prefix.entry (IsFinished driven.now.ended (W.contents writer.old) (W.contents writer.new) result.0 × (result.1 ≡ None)
         × (F.names files.new ≡ F.names files.old)) }
-    ensures dumps { IfSome prefix.entry (λ prefix. FinishesWithDumps format prefix.now (option_map_or (λ o. o.board.rounds) driven.now.outcome []) driven.now.ended
+    ensures dumps { IfSome prefix.entry (λ prefix. FinishesWithDumps format prefix.now (option_map_or (λ o. o.kept) driven.now.outcome []) driven.now.ended
         (F.names files.old) (F.names files.new) (W.contents writer.old) (W.contents writer.new) result.0 result.1) }
 {
     let Some(prefix) = prefix else {
