@@ -1,4 +1,4 @@
-ghost use Rattle.std.specs.Prelude.{◌≡◌, length, IsTrue, IsFalse};
+ghost use Rattle.std.specs.Prelude.{◌≡◌, ◌↔◌, length, IsTrue, IsFalse};
 ghost use mathlib.Core.List.{IsPrefix};
 ghost use Rattle.grown_list.specs.Fronts.{FrontView};
 
@@ -31,6 +31,13 @@ impl<E> Front<E> {
         ensures value { result ≡ length self.now.entries }
     {
         self.count
+    }
+
+    /// Whether it has no entry.
+    pub fn is_empty(&self) -> bool
+        ensures value { IsTrue result ↔ (length self.now.entries ≡ 0) }
+    {
+        self.count == 0
     }
 
     /// A copy.

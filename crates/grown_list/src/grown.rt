@@ -1,4 +1,4 @@
-ghost use Rattle.std.specs.Prelude.{◌≡◌, ◌+◌, ◌<◌, ◌^◌, ◌∷◌, ◌++◌, [], length, IsTrue, MatchBool};
+ghost use Rattle.std.specs.Prelude.{◌≡◌, ◌+◌, ◌<◌, ◌^◌, ◌∷◌, ◌++◌, ◌↔◌, [], length, IsTrue, MatchBool};
 ghost use mathlib.Core.List.{IsPrefix};
 ghost use Rattle.grown_list.specs.Fronts.{FrontView};
 ghost use Rattle.grown_list.specs.Rules.{head_of};
@@ -12,19 +12,21 @@ use std::marker::Model;
 #[derive(Drop)]
 pub struct Grown<E> {
     word: Word<E, u64, Law>,
-    front: Front<E>,
+    // How many entries there are.
+    count: u64,
+    seen: Seen<E, u64, Law>,
 }
 
 impl<E> Model for Grown<E> {
-    ghost use Rattle.std.specs.Prelude.{◌≡◌};
+    ghost use Rattle.std.specs.Prelude.{◌≡◌, length};
     ghost use Rattle.grown_list.specs.Fronts.{FrontView};
     ghost use Rattle.grown_list.specs.Rules.{head_of};
 
     ghost Value = { FrontView E };
 
-    ghost view = { λ g. g.front };
+    ghost view = { λ g. record { book = g.seen.book; entries = g.seen.log } };
 
-    ghost invariant = { λ g. g.word ≡ head_of g.front.book };
+    ghost invariant = { λ g. (g.word ≡ head_of g.seen.book) × (length g.seen.log ≡ g.count) };
 }
 
 impl<E> Grown<E> {
@@ -35,15 +37,33 @@ impl<E> Grown<E> {
         let (seen, mut first, _second) = Seen::open(Start::alone(), 0, 0);
         Grown {
             word: Word::tracked(0, &mut first),
-            front: Front { count: 0, seen },
+            count: 0,
+            seen,
         }
     }
 
-    /// All of it, as it is now.
-    pub fn front(&self) -> &Front<E>
-        ensures value { result.now ≡ self.now }
+    /// How many entries it has.
+    pub fn len(&self) -> u64
+        ensures value { result ≡ length self.now.entries }
     {
-        &self.front
+        self.count
+    }
+
+    /// Whether it has no entry.
+    pub fn is_empty(&self) -> bool
+        ensures value { IsTrue result ↔ (length self.now.entries ≡ 0) }
+    {
+        self.count == 0
+    }
+
+    /// All of it, as it is now.
+    pub fn front(&self) -> Front<E>
+        ensures value { result ≡ self.now }
+    {
+        Front {
+            count: self.count,
+            seen: self.seen.again(),
+        }
     }
 
     /// Adds an entry, and says whether it did. No clause says that it does: if another held this list, it might not.
@@ -51,8 +71,8 @@ impl<E> Grown<E> {
         requires few { length self.old.entries < 2 ^ 62 }
         ensures pushed { MatchBool result (self.new ≡ record { book = self.old.book; entries = self.old.entries ++ entry.now ∷ [] }) (self.new ≡ self.old) }
     {
-        let count = self.front.count;
-        let mut seen = self.front.seen.again();
+        let count = self.count;
+        let mut seen = self.seen.again();
         let mut offer: Offer<E, u64, Law, Nothing> = seen.plain::<Nothing, E, Add>(entry);
         let mut pen = seen.no_pen();
         let found = self
@@ -67,10 +87,8 @@ impl<E> Grown<E> {
         if found != count {
             return false;
         }
-        self.front = Front {
-            count: count + 1,
-            seen,
-        };
+        self.count = count + 1;
+        self.seen = seen;
         true
     }
 
@@ -79,6 +97,6 @@ impl<E> Grown<E> {
         requires same { front.now.book ≡ self.now.book }
         ensures begins { IsTrue result → IsPrefix front.now.entries self.now.entries }
     {
-        front.begins(&self.front)
+        front.begins(&self.front())
     }
 }

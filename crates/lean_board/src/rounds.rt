@@ -107,7 +107,7 @@ impl<A: Allocator> Rounds<A> {
         ensures value { result ≡ length self.now.all }
     {
         match &self.grown {
-            Some(grown) => grown.front().len(),
+            Some(grown) => grown.len(),
             None => self.kept.len() as u64,
         }
     }
@@ -153,7 +153,7 @@ impl<A: Allocator> Rounds<A> {
         ensures value { IfSome result (λ front. (front.entries ≡ self.now.all) × (self.now.book ≡ Some front.book)) }
     {
         let grown = self.grown.as_ref()?;
-        Some(grown.front().again())
+        Some(grown.front())
     }
 
     /// Whether this front begins the rounds.

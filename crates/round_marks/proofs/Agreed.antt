@@ -34,7 +34,7 @@ stops_more r (suc k) =
     (stops_more (r + 1) k ∙ ap (λ (v : ℕ). stops_from (r + 1) k ++ AtSync v ∷ Resumes v ∷ []) same)
 
 -- all stops from the start on
-stops_all : (r : ℕ) → stops_until r ≡ Resumes 0 ∷ stops_from 0 r
+pub stops_all : (r : ℕ) → stops_until r ≡ Resumes 0 ∷ stops_from 0 r
 stops_all zero = refl
 stops_all (suc r) =
     let same : 0 + r + 1 ≡ suc r = omega arith in

@@ -6,3 +6,6 @@ pub mod Rising
 pub mod Right
 pub mod Steps
 pub mod Told
+pub mod Whole
+pub mod Opening
+pub mod Again
