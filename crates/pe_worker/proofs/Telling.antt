@@ -1,6 +1,6 @@
 -- What a seated PE has seen tells the marks of its elements after each of its steps.
 use Rattle.std.proofs.Common.{◌≡◌, ℕ, ◌<◌, ◌++◌, List, [], ◌∷◌, length, Bool, true, false, Option, Some, None, refl, sym, ap, subst, ◌∙◌, arith}
-use Rattle.std.specs.Prelude.{All, IfSome, MatchOption, Result, not, if◌then◌else◌}
+use Rattle.std.specs.Prelude.{All, IfSome, MatchOption, Result, Ok, Err, OnOk, OnErr, not, if◌then◌else◌}
 use Rattle.std.specs.Option.{option_map_or}
 use Rattle.std.specs.Ordering.{nat_cmp}
 use Rattle.std.specs.BTreeMap.{is_at}
@@ -50,6 +50,17 @@ module _ {A C : Type 0} (step : Step C) (pack : C → List ℕ) (unpack : List �
 
   pub tells_acted : (pe : PeView C) (seen : Seen) → Tells book n pes pe seen → Tells book n pes (pe_after pe (acting step pack unpack pe)) seen
   tells_acted pe seen h = tells_by pe (pe_after pe (acting step pack unpack pe)) seen (λ rounds k. act_keeps step pack (T rounds) (letter_tells step pack rounds n pes) unpack pe k) h
+
+  -- whether it was refused or not
+  pub tells_after : {V E : Type 0} (pe pe' : PeView C) (seen : Seen) (r : Result V E) → OnOk r (pe' ≡ pe_after pe (acting step pack unpack pe)) → OnErr r (pe' ≡ pe) → Tells book n pes pe seen → Tells book n pes pe' seen
+  tells_after pe pe' seen (Ok v) ok err h = subst (λ (x : PeView C). Tells book n pes x seen) (sym ok) (tells_acted pe seen h)
+  tells_after pe pe' seen (Err e) ok err h = subst (λ (x : PeView C). Tells book n pes x seen) (sym err) h
+
+  -- a parcel that was received, and executed at once where it is a letter that can be
+  pub tells_executed : (pe : PeView C) (parcel : Parcel) (pe' : PeView C) (acts : Bool) (seen : Seen)
+      → pe' ≡ (if acts then pe_after (received pe parcel) (acting step pack unpack (received pe parcel)) else received pe parcel) → Tells book n pes (received pe parcel) seen → Tells book n pes pe' seen
+  tells_executed pe parcel pe' true seen is h = subst (λ (x : PeView C). Tells book n pes x seen) (sym is) (tells_acted (received pe parcel) seen h)
+  tells_executed pe parcel pe' false seen is h = subst (λ (x : PeView C). Tells book n pes x seen) (sym is) h
 
   -- what is given up, and handed back
   pub tells_given : (pe : PeView C) (parcel : Parcel) (seen : Seen) → front_parcel pe.outbox ≡ Some parcel → Tells book n pes pe seen → IfSome seen (λ f. IsToldParcel f.entries n pes parcel)

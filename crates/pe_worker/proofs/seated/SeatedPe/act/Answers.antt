@@ -1,9 +1,14 @@
+use Rattle.std.proofs.Common.{length}
+use Rattle.pe_worker.proofs.Telling.{tells_after}
 use Rattle.pe_worker.proofs.Keeping.{keeps_after}
 use Rattle.pe_worker.proofs.Causes.{act_cause}
 use Rattle.pe_worker.proofs.seated.SeatedPe.act.Goals as goal
 
 pub invariant_of-self : goal.invariant_of-self
-invariant_of-self g c = keeps_after g.C.Chare.step g.C.Pup.fits g.C.Pup.pack g.C.Pup.unpack g.H.Openings.opened g.H.Openings.pes g.J.RunBeginning.beginning c.self.inside.pe c.self.inside.seat c.self.invariant c.known.ensures.keyed c.known.ensures.histories c.act.new.self c.act.result c.act.ensures.acts.ok c.act.ensures.acts.err
+invariant_of-self g c = (
+    keeps_after g.C.Chare.step g.C.Pup.fits g.C.Pup.pack g.C.Pup.unpack g.H.Openings.opened g.H.Openings.pes g.J.RunBeginning.beginning c.self.inside.pe c.self.inside.seat c.self.invariant.0 c.known.ensures.keyed c.known.ensures.histories c.act.new.self c.act.result c.act.ensures.acts.ok c.act.ensures.acts.err,
+    tells_after g.C.Chare.step g.C.Pup.pack g.C.Pup.unpack g.H.RunStrategy.book (length g.H.Openings.opened) g.H.Openings.pes c.self.inside.pe c.act.new.self c.self.inside.seen c.act.result c.act.ensures.acts.ok c.act.ensures.acts.err c.self.invariant.1,
+)
 
 pub returns-clause-cause : goal.returns-clause-cause
 returns-clause-cause g c = act_cause g.C.Chare.step g.C.Pup.fits g.C.Pup.pack g.C.Chare.refuses g.H.Openings.opened c.self.inside.pe c.act.result c.known.ensures.histories c.act.ensures.refused

@@ -1,4 +1,5 @@
-use Rattle.std.proofs.Common.{rules}
+use Rattle.std.proofs.Common.{length, rules}
+use Rattle.pe_worker.proofs.Telling.{own_of, tells_executed, tells_received}
 use Rattle.pe_worker.proofs.Keeping.{keeps_received, keeps_executed}
 use Rattle.pe_state.specs.Refusals.{RefusesStep}
 use Rattle.pe_state.proofs.Keeping.{same_error}
@@ -6,11 +7,21 @@ use Rattle.pe_worker.specs.Causes.{MayRefuse}
 use Rattle.pe_worker.proofs.Causes.{arrival_cause}
 use Rattle.pe_worker.proofs.seated.SeatedPe.try_deliver_and_act.Goals as goal
 
+pub received-parcel-requires : goal.received-parcel-requires
+received-parcel-requires g c = own_of g.C.Chare.step g.C.Pup.pack g.C.Pup.unpack g.H.RunStrategy.book (length g.H.Openings.opened) g.H.Openings.pes c.self.inside.pe c.self.inside.seen c.self.invariant.1
+
 pub invariant_of-self-in_err-acted : goal.invariant_of-self-in_err-acted
-invariant_of-self-in_err-acted g c = rw (c.in_err-acted.ensures.err, c.in-Some.ensures.some) (keeps_received g.C.Chare.step g.C.Pup.fits g.C.Pup.pack g.C.Pup.unpack g.H.Openings.opened g.H.Openings.pes g.J.RunBeginning.beginning c.self.inside.pe c.self.inside.seat c.self.invariant c.known.ensures.keyed c.known.ensures.histories c.me-me.result c.in-Some.parcel (search rules) (search rules))
+invariant_of-self-in_err-acted g c = (
+    rw (c.in_err-acted.ensures.err, c.received-parcel.ensures.value, c.in-Some.ensures.some) (keeps_received g.C.Chare.step g.C.Pup.fits g.C.Pup.pack g.C.Pup.unpack g.H.Openings.opened g.H.Openings.pes g.J.RunBeginning.beginning c.self.inside.pe c.self.inside.seat c.self.invariant.0 c.known.ensures.keyed c.known.ensures.histories c.me-me.result c.in-Some.mail (search rules) (search rules)),
+    rw (c.in_err-acted.ensures.err, c.received-parcel.ensures.value) (tells_received g.C.Chare.step g.C.Pup.pack g.C.Pup.unpack g.H.RunStrategy.book (length g.H.Openings.opened) g.H.Openings.pes c.self.inside.pe c.in-Some.mail c.self.inside.seen c.received-parcel.result.1 c.self.invariant.1 c.received-parcel.ensures.own c.received-parcel.ensures.told c.received-parcel.ensures.longer),
+)
 
 pub invariant_of-self-2 : goal.invariant_of-self-2
-invariant_of-self-2 g c = rw c.in-Some.ensures.some (keeps_executed g.C.Chare.step g.C.Pup.fits g.C.Pup.pack g.C.Pup.unpack g.H.Openings.opened g.H.Openings.pes g.J.RunBeginning.beginning c.self.inside.pe c.self.inside.seat c.self.invariant c.known.ensures.keyed c.known.ensures.histories c.me-me.result c.in-Some.parcel (search rules) (search rules) _ c.in_ok-acted.acted c.in_ok-acted.ensures.acted c.in_ok-acted.ensures.ok)
+invariant_of-self-2 g c = (
+    rw (c.received-parcel.ensures.value, c.in-Some.ensures.some) (keeps_executed g.C.Chare.step g.C.Pup.fits g.C.Pup.pack g.C.Pup.unpack g.H.Openings.opened g.H.Openings.pes g.J.RunBeginning.beginning c.self.inside.pe c.self.inside.seat c.self.invariant.0 c.known.ensures.keyed c.known.ensures.histories c.me-me.result c.in-Some.mail (search rules) (search rules) _ c.in_ok-acted.acted c.in_ok-acted.ensures.acted c.in_ok-acted.ensures.ok),
+    tells_executed g.C.Chare.step g.C.Pup.pack g.C.Pup.unpack g.H.RunStrategy.book (length g.H.Openings.opened) g.H.Openings.pes c.self.inside.pe c.in-Some.mail _ c.in_ok-acted.acted c.received-parcel.result.1 c.in_ok-acted.ensures.ok
+        (tells_received g.C.Chare.step g.C.Pup.pack g.C.Pup.unpack g.H.RunStrategy.book (length g.H.Openings.opened) g.H.Openings.pes c.self.inside.pe c.in-Some.mail c.self.inside.seen c.received-parcel.result.1 c.self.invariant.1 c.received-parcel.ensures.own c.received-parcel.ensures.told c.received-parcel.ensures.longer),
+)
 
 pub returns-in_err-acted-clause-cause : goal.returns-in_err-acted-clause-cause
-returns-in_err-acted-clause-cause g c = same_error (RefusesStep (MayRefuse g.C.Chare.step g.C.Pup.pack g.C.Chare.refuses g.H.Openings.opened)) _ _ c.from_residual.ensures.1 (arrival_cause g.C.Chare.step g.C.Pup.fits g.C.Pup.pack g.C.Chare.refuses g.H.Openings.opened c.self.inside.pe c.in-Some.parcel _ c.known.ensures.histories c.in_err-acted.ensures.refused)
+returns-in_err-acted-clause-cause g c = same_error (RefusesStep (MayRefuse g.C.Chare.step g.C.Pup.pack g.C.Chare.refuses g.H.Openings.opened)) _ _ c.from_residual.ensures.1 (arrival_cause g.C.Chare.step g.C.Pup.fits g.C.Pup.pack g.C.Chare.refuses g.H.Openings.opened c.self.inside.pe c.in-Some.mail _ c.known.ensures.histories c.in_err-acted.ensures.refused)

@@ -1,0 +1,12 @@
+use Rattle.std.proofs.Common.{refl}
+use Rattle.at_sync.proofs.Finished.{count_all}
+use Rattle.at_sync.proofs.Rounds.{board_new}
+use Rattle.lean_board.proofs.board.LeanBoard.new.Goals as goal
+
+pub invariant_of-result : goal.invariant_of-result
+invariant_of-result g c =
+    rw (c.in-Ok.ensures.made, c.new-2.ensures.none, c.in_ok-all_running.ensures.items) (board_new g.row.A.Denot c.args.n c.args.pes c.args.strategy c.requires.some_pe c.requires.few_pes, count_all c.args.n)
+
+pub returns-clause-made : goal.returns-clause-made
+returns-clause-made g c =
+    rw (c.in-Ok.ensures.made, c.new-2.ensures.none, c.in_ok-all_running.ensures.items) refl
