@@ -8,6 +8,7 @@ ghost use Rattle.lb_database.specs.Refusals.{HasNextRound, IsReport, RefusesRepo
 ghost use Rattle.at_sync.specs.Boards.{Decides, HaveFinished, IsBoard, IsKeptIn, Kept, after_finish, after_report, decision_of, kept_of, new_board, place_in};
 ghost use Rattle.at_sync.specs.Refusals.{RefusesDecision, RefusesFinish, database_error_of};
 ghost use Rattle.lean_board.specs.Boards.{LeanView};
+ghost use Rattle.lean_board.specs.declared.rounds.Keeping.TheVariants as Keeping;
 
 use crate::rounds::{Keeping, Rounds};
 use at_sync::{Board, BoardError, BoardParts, Strategy, decided, decided_with};
@@ -72,6 +73,8 @@ impl<A: Allocator> LeanBoard<A> {
         requires some_pe { 1 ≤ pes }
         requires few_pes { pes ≤ Limits.PES }
         ensures made { IfOk result (λ board. board.board ≡ new_board n pes strategy) }
+        ensures none_kept { IfOk result (λ board. board.kept ≡ []) }
+        ensures whole { IfOk result (λ board. keeping ≡ Keeping.All → board.book ≡ None) }
         ensures refused { OnErr result (0 < n) }
     {
         let Ok(database) = LoadDb::new(alloc, n) else {

@@ -6,6 +6,7 @@ ghost use Rattle.std.specs.Option.{option_copied};
 ghost use Rattle.at_sync.specs.Boards.{Kept, kept_of};
 ghost use Rattle.grown_list.specs.Fronts.{FrontView};
 ghost use Rattle.lean_board.specs.Rounds.{RoundsView};
+ghost use Rattle.lean_board.specs.declared.rounds.Keeping.TheVariants as Keeping;
 
 use grown_list::{Front, Grown};
 use lb_refinement::Refined;
@@ -51,6 +52,7 @@ impl<A: Allocator> Rounds<A> {
     pub(crate) fn new(alloc: A, keeping: Keeping) -> Self
         ensures none { result.all ≡ [] }
         ensures none_kept { result.kept ≡ [] }
+        ensures whole { keeping ≡ Keeping.All → result.book ≡ None }
     {
         match keeping {
             Keeping::All => Rounds::of(Vec::new(alloc)),

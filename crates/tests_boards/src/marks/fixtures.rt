@@ -3,9 +3,10 @@
 ghost use Rattle.std.specs.Prelude.{◌≡◌};
 
 use crate::fixtures::{pe, round};
-use at_sync::{Board, Strategy};
+use at_sync::Strategy;
 use chare_index::Index;
 use lb_snapshot::Units;
+use lean_board::{Keeping, LeanBoard};
 use std::alloc::Allocator;
 use std::process::Abort;
 
@@ -16,14 +17,14 @@ pub(crate) fn index(rt: &impl Abort, place: u32) -> Index
 }
 
 /// A board of two elements on two PEs, in round 1.
-pub(crate) fn new_board<A: Allocator + Copy>(rt: &impl Abort, alloc: A) -> Board<A> {
-    Board::new(alloc, 2, 2, Strategy::Least).expect(rt, "out of memory")
+pub(crate) fn new_board<A: Allocator + Copy>(rt: &impl Abort, alloc: A) -> LeanBoard<A> {
+    LeanBoard::new(alloc, 2, 2, Strategy::Least, Keeping::All).expect(rt, "out of memory")
 }
 
 /// Reports for element `e` in a round, with this load, this size and this PE.
 pub(crate) fn report<A: Allocator>(
     rt: &impl Abort,
-    board: &mut Board<A>,
+    board: &mut LeanBoard<A>,
     e: u32,
     number: u32,
     load: Units,

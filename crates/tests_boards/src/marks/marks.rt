@@ -2,9 +2,9 @@
 
 use super::fixtures::{index, new_board, report};
 use crate::fixtures::{pe, round};
-use at_sync::Board;
 use chares::{KeptMark, Note, StateBytes};
 use lb_snapshot::Units;
+use lean_board::LeanBoard;
 use round_marks::{element_agrees, marks_agree};
 use std::process::Abort;
 
@@ -308,7 +308,7 @@ fn marks(rt: &(impl Abort + AllocGlobal), kept: &[Kept]) -> Vec<KeptMark> {
 }
 
 // A board whose first rounds were decided so.
-fn board(rt: &(impl Abort + AllocGlobal), rounds: Rounds) -> Board {
+fn board(rt: &(impl Abort + AllocGlobal), rounds: Rounds) -> LeanBoard {
     let mut board = new_board(rt, rt.alloc());
     for (number, load, first, second) in rounds {
         report(rt, &mut board, 0, *number, *load, 5, *first);
@@ -326,6 +326,7 @@ fn agrees(rt: &(impl Abort + AllocGlobal), row: &Row) -> bool {
         None => None,
     };
     let (board, marks) = (board(rt, *rounds), marks(rt, *kept));
+    assert!(rt; board.is_whole());
     element_agrees(&board, index(rt, *e), place, marks.as_slice())
 }
 
@@ -348,6 +349,7 @@ fn an_element_starts_at_the_home_that_is_given(rt: HostRuntime) {
     let board = new_board(&rt, rt.alloc());
     let (e0, at) = (index(&rt, 0), pe(&rt, 1));
     let marks = [KeptMark::resumed(round(&rt, 0), at)];
+    assert!(rt; board.is_whole());
     assert!(rt; marks_agree(&board, e0, at, Some(at), &marks));
     drop(board);
 }

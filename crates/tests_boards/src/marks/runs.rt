@@ -6,10 +6,10 @@ ghost use Rattle.std.specs.Prelude.{◌≡◌, ◌∷◌, [], length, slice_get,
 
 use super::fixtures::{index, new_board, report};
 use crate::fixtures::{pe, round};
-use at_sync::Board;
 use chare_index::NoGate;
 use chares::{Note, Openings};
 use lb_snapshot::Units;
+use lean_board::LeanBoard;
 use pe_state::{Acted, HeldParcel, Parcel, PeEnd, PeState, into_held};
 use round_marks::{parcels_agree, pe_agrees, run_agrees};
 use std::alloc::{Allocator, Global};
@@ -56,7 +56,7 @@ fn started<H: Openings<Courier<A>>, A: Allocator + Copy>(
 // Reports the note of a PE to the board, with this much more load.
 fn report_note<H: Openings<Courier<A>>, A: Allocator + Copy>(
     rt: &impl Abort,
-    board: &mut Board<A>,
+    board: &mut LeanBoard<A>,
     at: &PeState<Courier<A>, H, A>,
     more: Units,
 ) {
@@ -76,7 +76,7 @@ fn told<H: Openings<Courier<A>>, A: Allocator + Copy>(
     low: &PeState<Courier<A>, H, A>,
     high: &PeState<Courier<A>, H, A>,
     more: (Units, Units),
-) -> Board<A> {
+) -> LeanBoard<A> {
     let mut board = new_board(rt, alloc);
     report_note(rt, &mut board, low, more.0);
     report_note(rt, &mut board, high, more.1);
@@ -151,7 +151,7 @@ fn brought<H: Openings<Courier<A>>, A: Allocator + Copy>(
 // What a run leaves: its board, its PEs, and its queues.
 #[derive(Drop)]
 struct Left<A: Allocator + Copy> {
-    board: Board<A>,
+    board: LeanBoard<A>,
     ends: Vec<PeEnd<Courier<A>, A>, A>,
     queues: Vec<Vec<HeldParcel<A>, A>, A>,
 }
@@ -201,14 +201,30 @@ fn after_a_run<A: Allocator + Copy>(
 // Whether the marks agree, PE by PE and queue by queue.
 fn parts_agree<A: Allocator + Copy>(left: &Left<A>) -> bool {
     let (board, queues) = (&left.board, &left.queues);
-    left.ends.iter().all(|pe| pe_agrees(board, pe))
-        && queues.iter().all(|queue| parcels_agree(board, queue))
+    let mut whole = board.is_whole();
+    if !whole {
+        return false;
+    }
+    for pe in left.ends.as_slice() {
+        if !pe_agrees(board, pe, &mut whole) {
+            return false;
+        }
+    }
+    for queue in queues.as_slice() {
+        if !parcels_agree(board, queue, &mut whole) {
+            return false;
+        }
+    }
+    whole
 }
 
 // Whether the marks agree, which has to hold of the parts as of all. No request is made to find out.
 fn agrees(rt: &impl Abort, made: &Refusing<Global>, left: &Left<&Refusing<Global>>) -> bool {
     let requests = made.requests();
-    let agrees = run_agrees(&left.board, left.ends.as_slice(), left.queues.as_slice());
+    let mut whole = true;
+    let (board, ends, queues) = (&left.board, left.ends.as_slice(), left.queues.as_slice());
+    let agrees = run_agrees(board, ends, queues, &mut whole);
+    assert!(rt; whole);
     assert!(rt; parts_agree(left) == agrees);
     assert!(rt; made.requests() == requests);
     agrees

@@ -3,8 +3,9 @@
 ghost use Rattle.std.specs.Prelude.{◌≡◌, ◌<◌};
 ghost use Rattle.at_sync.specs.declared.strategy.Strategy.TheVariants.{Least};
 
-use at_sync::{Board, Strategy};
+use at_sync::Strategy;
 use barrier::{Barrier, BoardSize};
+use lean_board::{Keeping, LeanBoard};
 use chare_index::Index;
 use std::alloc::{AllocError, Allocator};
 use std::sync::Wait;
@@ -23,7 +24,7 @@ pub(crate) fn two<J: BoardSize, A: Allocator + Copy>(alloc: A) -> Result<Barrier
     requires pes { J.pes ≡ 2 }
     requires by_strategy { J.strategy ≡ Least }
 {
-    Ok(Barrier::new(Board::new(alloc, 2, 2, Strategy::Least)?))
+    Ok(Barrier::new(LeanBoard::new(alloc, 2, 2, Strategy::Least, Keeping::All)?))
 }
 
 /// A barrier of three elements on two PEs.
@@ -34,7 +35,7 @@ pub(crate) fn three<J: BoardSize, A: Allocator + Copy>(
     requires pes { J.pes ≡ 2 }
     requires by_strategy { J.strategy ≡ Least }
 {
-    Ok(Barrier::new(Board::new(alloc, 3, 2, Strategy::Least)?))
+    Ok(Barrier::new(LeanBoard::new(alloc, 3, 2, Strategy::Least, Keeping::All)?))
 }
 
 /// Whether an element reports 3 units and 5 bytes in round 1, on the PE of the same number.

@@ -5,8 +5,9 @@ ghost use Rattle.std.specs.Prelude.{◌≡◌};
 ghost use Rattle.at_sync.specs.declared.strategy.Strategy.TheVariants.{Least};
 
 use super::fixtures::{index, three};
-use at_sync::{Board, BoardError};
+use at_sync::BoardError;
 use barrier::{Barrier, BoardSize};
+use lean_board::LeanBoard;
 use chare_index::{Pe, Round};
 use lb_refinement::Refined;
 use lb_snapshot::{Snapshot, Units};
@@ -176,7 +177,7 @@ fn is_kept<A: Allocator>(kept: &(Snapshot<A>, Refined<A>), case: &Case) -> bool 
 }
 
 // Whether the board kept both rounds, and just these elements have finished.
-fn is_left<A: Allocator>(board: &Board<A>, finishers: &[u32]) -> bool {
+fn is_left<A: Allocator>(board: &LeanBoard<A>, finishers: &[u32]) -> bool {
     let mut right = board.rounds().len() == 2;
     for (kept, case) in board.rounds().iter().zip(&CASES) {
         right &= is_kept(kept, case);
