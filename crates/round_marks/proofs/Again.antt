@@ -22,7 +22,7 @@ use Rattle.rts_core.specs.Orders.{HasOrder, IsParcelInOrder}
 use Rattle.rts_core.specs.Worlds.{home}
 use Rattle.round_marks.specs.Marked.{IsMeasuredAs, IsResumption, IsResumptionMark, IsSyncMark, IsSyncOf}
 use Rattle.round_marks.specs.Runs.{IsMarked, IsMarkedOn, IsMarkedParcel, IsMarkedPe}
-use Rattle.round_marks.specs.Told.{AreTold, AreToldAt, IsTold, IsToldParcel, IsToldSync, OfElement, but_last, placed_by, seen_marks}
+use Rattle.round_marks.specs.Told.{AreTold, AreToldAt, IsTold, IsToldParcel, IsToldSync, OfElement, but_last, placed_by, placed_in, seen_marks}
 use Rattle.round_marks.proofs.Agreed.{seen_of, stops_all, stops_from, waiting_after}
 
 module _ {A : Type 0} (b : BoardState A) (e at_home : ℕ) where
@@ -33,8 +33,8 @@ module _ {A : Type 0} (b : BoardState A) (e at_home : ℕ) where
   decided_by : (r pe : ℕ) → placed_by b.rounds r e ≡ Some pe → (kept : Kept A) × (kept_of b.rounds r ≡ Some kept)
   decided_by r pe h = by (kept_of b.rounds r) refl h
     where
-      by : (o : Option (Kept A)) → kept_of b.rounds r ≡ o → placed_by b.rounds r e ≡ Some pe → (kept : Kept A) × (kept_of b.rounds r ≡ Some kept)
-      by None at k = absurd (cc (at, k))
+      by : (o : Option (Kept A)) → kept_of b.rounds r ≡ o → placed_in e o ≡ Some pe → (kept : Kept A) × (kept_of b.rounds r ≡ Some kept)
+      by None at k = absurd (cc k)
       by (Some kept) at k = (kept, at)
 
   sync_told : (i round units bytes pe : ℕ) (kept : Kept A) → kept_of b.rounds round ≡ Some kept → IsSyncOf b e (Sync i round units bytes pe) → IsToldSync b.rounds e i round units bytes pe
@@ -68,9 +68,8 @@ module _ {A : Type 0} (b : BoardState A) (e at_home : ℕ) where
       let one : round ≡ r + 1 = cc stops in
       let two : round' ≡ r + 1 = cc stops in
       let far : r + 1 + k ≡ r + suc k = omega arith in
-      let rest : map stop_of marks ≡ stops_from (r + 1) k ++ waiting_after s (r + 1 + k) =
-          (cc stops : map stop_of marks ≡ stops_from (r + 1) k ++ waiting_after s (r + suc k)) ∙ ap (λ (v : ℕ). stops_from (r + 1) k ++ waiting_after s v) (sym far)
-      in
+      let after : map stop_of marks ≡ stops_from (r + 1) k ++ waiting_after s (r + suc k) = cc stops in
+      let rest : map stop_of marks ≡ stops_from (r + 1) k ++ waiting_after s (r + 1 + k) = after ∙ ap (λ (v : ℕ). stops_from (r + 1) k ++ waiting_after s v) (sym far) in
       let first : IsSyncOf b e (Sync i round units bytes pe) = All-head (IsSyncMark b e) (Synced (Sync i round units bytes pe)) (Resumed round' pe' ∷ marks) syncs in
       let later = All-tail (IsResumptionMark b e at_home) (Synced (Sync i round units bytes pe)) (Resumed round' pe' ∷ marks) resumes in
       let second : IsResumption b e at_home round' pe' = All-head (IsResumptionMark b e at_home) (Resumed round' pe') marks later in

@@ -50,6 +50,12 @@ abbrev pub one_more : Bool → ℕ
 one_more true = 1
 one_more false = 0
 
+one_is : one_more true ≡ 1
+one_is = refl
+
+none_is : one_more false ≡ 0
+none_is = refl
+
 abbrev pub seen_of : Bool → List Mark → List Mark
 seen_of true marks = but_last marks
 seen_of false marks = marks
@@ -72,13 +78,13 @@ module _ {A : Type 0} (b : BoardState A) (e home : ℕ) where
 
   goes : (k r : ℕ) (s : Bool) (marks : List Mark) → map stop_of marks ≡ stops_from r k ++ waiting_after s (r + k) → All Tells (seen_of s marks)
       → (s ≡ true → IfSome (last_mark marks) (IsSyncMark b e)) → length b.rounds ≤ r + k + one_more s → GoesRight b e home r (r + 1) marks
-  goes zero r false [] stops told last enough = omega (arith, enough)
+  goes zero r false [] stops told last enough = omega (arith, enough, none_is)
   goes zero r false (mark ∷ marks) stops told last enough = absurd (cc stops)
   goes zero r true [] stops told last enough = absurd (cc stops)
   goes zero r true (Synced (Sync i round units bytes pe) ∷ []) stops told last enough =
       let same : r + zero + 1 ≡ r + 1 = omega arith in
       let at : AtSync round ≡ AtSync (r + zero + 1) = cc stops in
-      ((last refl, synced_next r i round units bytes pe (at ∙ ap AtSync same)), omega (arith, enough))
+      ((last refl, synced_next r i round units bytes pe (at ∙ ap AtSync same)), omega (arith, enough, one_is))
   goes zero r true (Synced (Finish i) ∷ []) stops told last enough = absurd (last refl)
   goes zero r true (Resumed round pe ∷ []) stops told last enough = absurd (cc stops)
   goes zero r true (mark ∷ next ∷ marks) stops told last enough = absurd (cc stops)
@@ -95,13 +101,12 @@ module _ {A : Type 0} (b : BoardState A) (e home : ℕ) where
       let one : round ≡ r + 1 = cc stops in
       let two : round' ≡ r + 1 = cc stops in
       let far : r + 1 + k ≡ r + suc k = omega arith in
-      let rest : map stop_of marks ≡ stops_from (r + 1) k ++ waiting_after s (r + 1 + k) =
-          (cc stops : map stop_of marks ≡ stops_from (r + 1) k ++ waiting_after s (r + suc k)) ∙ ap (λ (v : ℕ). stops_from (r + 1) k ++ waiting_after s v) (sym far)
-      in
+      let after : map stop_of marks ≡ stops_from (r + 1) k ++ waiting_after s (r + suc k) = cc stops in
+      let rest : map stop_of marks ≡ stops_from (r + 1) k ++ waiting_after s (r + 1 + k) = after ∙ ap (λ (v : ℕ). stops_from (r + 1) k ++ waiting_after s v) (sym far) in
       let parts = parts_told s k (r + 1) (Synced (Sync i round units bytes pe)) (Resumed round' pe') marks rest told in
-      let later : GoesRight b e home (r + 1) (r + 1 + 1) marks = goes k (r + 1) s marks rest parts.1.1 (later_last s k (r + 1) (Synced (Sync i round units bytes pe)) (Resumed round' pe') marks rest last) (omega (arith, enough)) in (
+      let later : GoesRight b e home (r + 1) (r + 1 + 1) marks = goes k (r + 1) s marks rest parts.2 (later_last s k (r + 1) (Synced (Sync i round units bytes pe)) (Resumed round' pe') marks rest last) (omega (arith, enough)) in (
         (sync_right i round units bytes pe parts.0, ap Some one),
-        ((omega (arith, two), resumption_right round' pe' parts.1.0), subst (λ (v : ℕ). GoesRight b e home (r + 1) (v + 1) marks) (sym two) later),
+        ((omega (arith, two), resumption_right round' pe' parts.1), subst (λ (v : ℕ). GoesRight b e home (r + 1) (v + 1) marks) (sym two) later),
       )
     where
       -- the marks of a round, and those after it
@@ -109,12 +114,12 @@ module _ {A : Type 0} (b : BoardState A) (e home : ℕ) where
           → Tells one × Tells two × All Tells (seen_of s marks)
       parts_told false k r one two marks stops h =
           let rest = All-tail Tells one (two ∷ marks) h in
-          (All-head Tells one (two ∷ marks) h, (All-head Tells two marks rest, All-tail Tells two marks rest))
+          (All-head Tells one (two ∷ marks) h, All-head Tells two marks rest, All-tail Tells two marks rest)
       parts_told true zero r one two [] stops h = absurd (cc stops)
       parts_told true (suc k) r one two [] stops h = absurd (cc stops)
       parts_told true k r one two (mark ∷ marks) stops h =
           let rest = All-tail Tells one (two ∷ but_last (mark ∷ marks)) h in
-          (All-head Tells one (two ∷ but_last (mark ∷ marks)) h, (All-head Tells two (but_last (mark ∷ marks)) rest, All-tail Tells two (but_last (mark ∷ marks)) rest))
+          (All-head Tells one (two ∷ but_last (mark ∷ marks)) h, All-head Tells two (but_last (mark ∷ marks)) rest, All-tail Tells two (but_last (mark ∷ marks)) rest)
 
       later_last : (s : Bool) (k r : ℕ) (one two : Mark) (marks : List Mark) → map stop_of marks ≡ stops_from r k ++ waiting_after s (r + k)
           → (s ≡ true → IfSome (last_mark (one ∷ two ∷ marks)) (IsSyncMark b e)) → s ≡ true → IfSome (last_mark marks) (IsSyncMark b e)
@@ -169,7 +174,7 @@ module _ {A : Type 0} (b : BoardState A) (e home : ℕ) where
       by false is =
           let none : map stop_of marks ≡ [] = h.stops ∙ ap (λ (v : Bool). if v then (stops_until p.round ++ (if p.synced then AtSync (p.round + 1) ∷ [] else [])) else []) is in
           let fresh = h.fresh is in
-          bare marks none (omega (arith, enough, fresh.0, ap one_more fresh.1))
+          bare marks none (omega (arith, enough, fresh.0, ap one_more fresh.1, none_is))
 
       bare : (ms : List Mark) → map stop_of ms ≡ [] → length b.rounds ≤ 0 → GoesRight b e home 0 0 ms
       bare [] at few = few
@@ -203,9 +208,9 @@ module _ {A : Type 0} (b : BoardState A) where
   pub fitting : (e : ℕ) (place : Option ℕ) (journal : List Done) (p : Progress) (marks : List Mark) → IsInOrder journal p marks → AreTold b.rounds (elements b.database) b.pes e p marks → FitsAll b e place p marks → IsMarked b e place marks
   fitting e place journal p marks order told fits =
       let kept = fits.0 in
-      let past = fits.1.0.0 in
-      let is : marks ≡ past ++ kept = fits.1.0.1 in
-      let f : Fits b e place p kept = fits.1.1 in
+      let past = fits.1.0 in
+      let is : marks ≡ past ++ kept = fits.1.1 in
+      let f : Fits b e place p kept = fits.2 in
       by p.started refl kept past is f
     where
       none_some : (o : Option Mark) (P : Mark → Type 0) → o ≡ None → IfSome o P

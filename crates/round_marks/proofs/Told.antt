@@ -24,7 +24,7 @@ use Rattle.chares.specs.Steps.{Step}
 use Rattle.chares.proofs.Orders.{begins_to_wait}
 use Rattle.pe_state.specs.Pes.{PeView, Parcel, Item}
 use Rattle.rts_core.specs.Worlds.{home}
-use Rattle.round_marks.specs.Told.{placed_by, IsToldSync, IsToldNote, IsToldResumption, IsTold, but_last, seen_marks, AreTold, OfElement, OfParcel, OfEach, AreToldAt, IsToldParcel, IsToldNext, last_mark}
+use Rattle.round_marks.specs.Told.{placed_by, placed_in, IsToldSync, IsToldNote, IsToldResumption, IsTold, but_last, seen_marks, AreTold, OfElement, OfParcel, OfEach, AreToldAt, IsToldParcel, IsToldNext, last_mark}
 
 -- what holds of each item also holds by another fact
 pub all_by : {X : Type 0} (P Q : X → Type 0) → ((x : X) → P x → Q x) → (xs : List X) → All P xs → All Q xs
@@ -38,9 +38,9 @@ kept_longer xs ys (suc r) kept p h = prefix_get xs ys r kept p h
 placed_longer : {A : Type 0} (xs ys : List (Kept A)) (r e q : ℕ) → IsPrefix xs ys → placed_by xs r e ≡ Some q → placed_by ys r e ≡ Some q
 placed_longer {A} xs ys r e q p h = by (kept_of xs r) refl h
   where
-    by : (o : Option (Kept A)) → kept_of xs r ≡ o → placed_by xs r e ≡ Some q → placed_by ys r e ≡ Some q
-    by None at k = absurd (cc (at, k))
-    by (Some kept) at k = let later = kept_longer xs ys r kept p at in cc (at, later, k)
+    by : (o : Option (Kept A)) → kept_of xs r ≡ o → placed_in e o ≡ Some q → placed_by ys r e ≡ Some q
+    by None at k = absurd (cc k)
+    by (Some kept) at k = ap (placed_in e) (kept_longer xs ys r kept p at) ∙ k
 
 module _ {A : Type 0} (xs ys : List (Kept A)) (p : IsPrefix xs ys) where
   pub told_longer : (e home : ℕ) (mark : Mark) → IsTold xs e home mark → IsTold ys e home mark

@@ -17,9 +17,13 @@ use Rattle.pe_state.specs.Rooms.{found}
 use Rattle.rts_core.specs.Worlds.{home}
 use Rattle.round_marks.specs.Marked.{IsMeasuredAs}
 
+-- the place of element e in what is kept of a round, if it is decided
+abbrev pub placed_in : {A : Type 0} → ℕ → Option (Kept A) → Option ℕ
+placed_in e kept = option_map (λ d. planned_pe (refined_cuts d) (refined_names d) e) (option_map (λ kept. kept.1) kept)
+
 -- the place of element e in the decision of round r, if that is decided
 abbrev pub placed_by : {A : Type 0} → List (Kept A) → ℕ → ℕ → Option ℕ
-placed_by rounds r e = option_map (λ d. planned_pe (refined_cuts d) (refined_names d) e) (option_map (λ kept. kept.1) (kept_of rounds r))
+placed_by rounds r e = placed_in e (kept_of rounds r)
 
 -- a note that element e waits names e, and says what the snapshot of its round has of e
 pub record IsToldSync {A : Type 0} (rounds : List (Kept A)) (e i round units bytes pe : ℕ) : Type 0 where
