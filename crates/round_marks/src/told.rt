@@ -1,7 +1,6 @@
 //! The marks of all elements of a run whose marks were told as it went: what is left to be seen at its end.
 
 ghost use Rattle.std.specs.Prelude.{◌≡◌, All, IfSome, IsTrue, Some, map};
-
 ghost use Rattle.round_marks.specs.Fits.{Fits, FitsOn, FitsParcel, FitsPe};
 ghost use Rattle.round_marks.specs.Marked.{IsSyncOf};
 

@@ -17,7 +17,7 @@ use crate::reopening::{places_of, reopen_all};
 use crate::workers::open_workers;
 use barrier::RunStrategy;
 use chare_index::Limits;
-use chares::{Chare, Openings};
+use chares::{Chare, History, Openings};
 use lean_board::LeanBoard;
 use pe_queues::{Locations, Post, Seat};
 use pe_state::PeState;
@@ -142,17 +142,26 @@ impl<C: Chare<A>, H: Openings<C> + RunStrategy, A: Allocator + Copy> OpenedRun<C
         } = self;
         let (states, seats) = (VecDeque::from_vec(states), VecDeque::from_vec(seats));
         let workers = open_workers::<C, H, J, A>(alloc, config, &board, states, seats, &seen)?;
+        let history = history_of(&board);
         let field = Field::new(
             alloc,
             post,
             words,
             board,
             config.turns,
-            config.history,
+            history,
             config.probe_workers,
         )?;
         Ok((field, workers))
     }
+}
+
+// Whether elements keep what they handle: as long as the board keeps what tells them.
+fn history_of<A: Allocator>(board: &LeanBoard<A>) -> History {
+    if board.is_whole() {
+        return History::Kept;
+    }
+    History::Dropped
 }
 
 // The rounds that PEs have seen which are opened again: none after a fault by which their marks do not agree with the rounds.

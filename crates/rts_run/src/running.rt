@@ -104,8 +104,8 @@ pub fn run_watched<
 }
 
 /// Carries on a run that ended early, from what it left, on as many PEs and by the same strategy: its elements where they are, its
-/// letters where they were held, its rounds counted on. What each PE's queue still held comes back to that PE first. Elements that
-/// have started keep or drop what they handle as before; the watch is told of what happens from now on. `opening` is a snapshot of the
+/// letters where they were held, its rounds counted on. What each PE's queue still held comes back to that PE first. Elements keep or
+/// drop what they handle as in the first run, and so does the board its rounds; the watch is told of what happens from now on. `opening` is a snapshot of the
 /// chares that the first run opened with, which has no bytes: only the contract reads it.
 ///
 /// The outcome is one of both runs together, as if they were one: the clause `outcome` says of it what [`run`] promises. So what was
