@@ -25,10 +25,10 @@ use Rattle.round_marks.proofs.Told.{all_by, each_longer, letter_tells, parcel_lo
 use Rattle.pe_worker.specs.Seated.{Tells}
 
 module _ {A C : Type 0} (step : Step C) (pack : C → List ℕ) (unpack : List ℕ → Result (C × ℕ) PupError) (book : Book) (n pes : ℕ) where
-  abbrev T : List (Kept A) → ℕ → Progress → List Mark → Type 0
+  abbrev pub T : List (Kept A) → ℕ → Progress → List Mark → Type 0
   T rounds = AreTold rounds n pes
 
-  abbrev Seen : Type 0
+  abbrev pub Seen : Type 0
   Seen = Option (FrontView (Kept A))
 
   -- what the same rounds tell

@@ -26,7 +26,7 @@ use Rattle.round_marks.specs.Told.{AreTold, AreToldAt, IsTold, IsToldParcel, IsT
 use Rattle.round_marks.proofs.Agreed.{seen_of, stops_all, stops_from, waiting_after}
 
 module _ {A : Type 0} (b : BoardState A) (e at_home : ℕ) where
-  abbrev Tells : Mark → Type 0
+  abbrev pub Tells : Mark → Type 0
   Tells = IsTold b.rounds e at_home
 
   -- a round whose decision places an element is decided
@@ -106,12 +106,13 @@ module _ {A : Type 0} (b : BoardState A) (e at_home : ℕ) where
   waits_is true r = let same : r + 1 ≡ 0 + r + 1 = omega arith in ap (λ (v : ℕ). AtSync v ∷ []) same
   waits_is false r = refl
 
+  -- the stops of an element with this progress, if it has started
+  abbrev stops_if : Progress → Bool → List Stop
+  stops_if p v = if v then (stops_until p.round ++ (if p.synced then AtSync (p.round + 1) ∷ [] else [])) else []
+
   pub told_again : (journal : List Done) (p : Progress) (marks : List Mark) → IsInOrder journal p marks → All (IsSyncMark b e) marks → All (IsResumptionMark b e at_home) marks → All Tells (seen_marks p marks)
   told_again journal p marks order syncs resumes = subst (All Tells) (seen_is p marks) (by p.started refl)
     where
-      abbrev Of : Bool → List Stop
-      Of v = if v then (stops_until p.round ++ (if p.synced then AtSync (p.round + 1) ∷ [] else [])) else []
-
       bare : (s : Bool) (ms : List Mark) → map stop_of ms ≡ [] → All Tells (seen_of s ms)
       bare true [] at = All-nil Tells
       bare false [] at = All-nil Tells
@@ -120,16 +121,19 @@ module _ {A : Type 0} (b : BoardState A) (e at_home : ℕ) where
       by : (t : Bool) → p.started ≡ t → All Tells (seen_of p.synced marks)
       by true is =
           from_start p p.synced marks
-          (order.stops ∙ ap Of is ∙ ap (λ (v : List Stop). v ++ (if p.synced then AtSync (p.round + 1) ∷ [] else [])) (stops_all p.round)
+          (order.stops ∙ ap (stops_if p) is ∙ ap (λ (v : List Stop). v ++ (if p.synced then AtSync (p.round + 1) ∷ [] else [])) (stops_all p.round)
           ∙ ap (λ (v : List Stop). Resumes 0 ∷ (stops_from 0 p.round ++ v)) (waits_is p.synced p.round))
           syncs resumes
-      by false is = bare p.synced marks (order.stops ∙ ap Of is)
+      by false is = bare p.synced marks (order.stops ∙ ap (stops_if p) is)
 
 module _ {A : Type 0} (b : BoardState A) where
   marked_told : (e : ℕ) (place : Option ℕ) (journal : List Done) (p : Progress) (marks : List Mark) → IsInOrder journal p marks → IsMarked b e place marks → AreTold b.rounds (elements b.database) b.pes e p marks
   marked_told e place journal p marks order h = told_again b e (home e (elements b.database) b.pes) journal p marks order h.synced.told h.resumed
 
-  parcel_told : (parcel : Parcel) → IsParcelInOrder parcel → IsMarkedParcel b parcel → IsToldParcel b.rounds (elements b.database) b.pes parcel
+  abbrev pub Told : Parcel → Type 0
+  Told parcel = IsToldParcel b.rounds (elements b.database) b.pes parcel
+
+  parcel_told : (parcel : Parcel) → IsParcelInOrder parcel → IsMarkedParcel b parcel → Told parcel
   parcel_told (Letter l) order h = tt
   parcel_told (Element p) order h = marked_told p.index None p.journal p.progress p.marks order h
 
@@ -157,9 +161,6 @@ module _ {A : Type 0} (b : BoardState A) where
             (All-map (λ (x : Item). Told x.parcel) (parcel_at pe.me) left (both IsParcelInOrder (IsMarkedParcel b) Told parcel_told left order_left h_left));
       }
     where
-      abbrev Told : Parcel → Type 0
-      Told parcel = IsToldParcel b.rounds (elements b.database) b.pes parcel
-
       at_hand : (o : Option Item) → IfSome o (λ x. IsParcelInOrder x.parcel) → IfSome o (λ x. IsMarkedParcel b x.parcel) → IfSome (option_map (readdressed pes pe.me) o) (λ x. Told x.parcel)
       at_hand None order h = tt
       at_hand (Some x) order h = parcel_told x.parcel order h

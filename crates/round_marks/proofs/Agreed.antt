@@ -61,7 +61,7 @@ seen_of true marks = but_last marks
 seen_of false marks = marks
 
 module _ {A : Type 0} (b : BoardState A) (e home : ℕ) where
-  abbrev Tells : Mark → Type 0
+  abbrev pub Tells : Mark → Type 0
   Tells = IsTold b.rounds e home
 
   -- what a round says of a note is right

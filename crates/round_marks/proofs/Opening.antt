@@ -18,7 +18,7 @@ all_get P (y ∷ xs) zero x at h = subst P (cc at) (All-head P y xs h)
 all_get P (y ∷ xs) (suc k) x at h = all_get P xs k x at (All-tail P y xs h)
 
 module _ {A C : Type 0} (rounds : List (Kept A)) (n pes : ℕ) where
-  abbrev Told : PeView C → Type 0
+  abbrev pub Told : PeView C → Type 0
   Told = AreToldAt rounds n pes
 
   new_told : (me m : ℕ) → Told (new_pe me m)

@@ -23,10 +23,10 @@ use Rattle.round_marks.specs.Told.{OfElement, OfParcel, OfEach}
 
 module _ {C : Type 0} (step : Step C) (pack : C → List ℕ) (T : ℕ → Progress → List Mark → Type 0)
     (letter_keeps : (el : ElementView C) (n pe : ℕ) (l : LetterView) → OfElement T el → OfElement T (ran step pack el n pe (OfLetter l))) where
-  abbrev Each : PeView C → Type 0
+  abbrev pub Each : PeView C → Type 0
   Each pe = OfEach T pe
 
-  abbrev OfItem : Item → Type 0
+  abbrev pub OfItem : Item → Type 0
   OfItem x = OfParcel T x.parcel
 
   -- an element runs in its room

@@ -26,7 +26,7 @@ all_values P [] h = All-nil (λ x. P x.1)
 all_values P (x ∷ room) h = All-cons (λ x. P x.1) x room (All-head P x.1 (values_of room) h) (all_values P room (All-tail P x.1 (values_of room) h))
 
 module _ {A : Type 0} (b : BoardState A) where
-  abbrev ToldParcel : Parcel → Type 0
+  abbrev pub ToldParcel : Parcel → Type 0
   ToldParcel parcel = IsToldParcel b.rounds (elements b.database) b.pes parcel
 
   parcel_marked : (parcel : Parcel) → IsParcelInOrder parcel → ToldParcel parcel → FitsParcel b parcel → IsMarkedParcel b parcel

@@ -13,7 +13,7 @@ use Rattle.round_marks.proofs.Told.{all_by, each_longer, parcel_longer}
 use Rattle.run_account.specs.Gathering.{TellAll, TellLeft, TellQueue}
 
 module _ {A : Type 0} (book : Book) (n pes : ℕ) where
-  abbrev Seen : Type 0
+  abbrev pub Seen : Type 0
   Seen = Option (FrontView (Kept A))
 
   -- seen' goes on after seen, if it is anything
