@@ -136,7 +136,7 @@ fn run_and_print<V: Watch + Sync, R: Threads + Wait + Sync + Clock + Print + Epr
         } else {
             History::Kept
         },
-        rounds: if options.no_journal && options.is_quiet {
+        rounds: if options.no_journal && options.is_quiet && options.trace.is_none() {
             History::Dropped
         } else {
             History::Kept
