@@ -132,6 +132,22 @@ struct Element<C: Chare> {
 }
 
 impl<C: Chare> Element<C> {
+    /// What follows from the effect of a handler, or from a part that came: the value that goes on from the element, if there is one.
+    fn reacts(&mut self, shared: &Shared<C::Message>, here: Here, effect: Effect, reports: &mut Vec<Report>) -> Option<f64> {
+        self.load += effect.units;
+        if effect.at_sync {
+            self.waits = true;
+            reports.push(Report { element: here.me, load: take(&mut self.load), size: self.chare.size() as u32 });
+        }
+        if effect.finished {
+            shared.finished.fetch_add(1, SeqCst);
+        }
+        if effect.contribution.is_some() {
+            self.node.own = effect.contribution;
+        }
+        self.node.whole::<C>(here)
+    }
+
     fn packed(self) -> Parcel<C::Message> {
         let mut bytes = Vec::with_capacity(self.chare.size());
         self.chare.pack(&mut bytes);
@@ -309,20 +325,10 @@ impl<C: Chare> Pe<C> {
 
     /// Executes a letter, keeps it for an element that comes, or sends it after one that has left.
     fn deliver(&mut self, shared: &Shared<C::Message>, letter: Letter<C::Message>) {
-        let to = letter.to as usize;
-        if self.elements.contains_key(&to) {
-            self.execute(shared, letter);
-            return;
-        }
-        match shared.places[to].load(SeqCst) as usize {
-            pe if pe == self.me => self.shelf.entry(to).or_default().push(letter),
-            pe => self.send(shared, pe, Item::Letter(letter)),
-        }
-    }
-
-    fn execute(&mut self, shared: &Shared<C::Message>, letter: Letter<C::Message>) {
         let here = Here { me: letter.to as usize, n: shared.n };
-        let element = self.elements.get_mut(&here.me).unwrap();
+        let Some(element) = self.elements.get_mut(&here.me) else {
+            return self.send_after(shared, letter);
+        };
         element.executed += 1;
         let effect = match &letter.body {
             Body::User(message) => element.chare.on_message(here, message, &mut self.posts),
@@ -335,30 +341,27 @@ impl<C: Chare> Pe<C> {
         if let Some(journal) = &mut element.journal {
             journal.push(letter);
         }
-        self.reacted(shared, here, effect);
+        let whole = element.reacts(shared, here, effect, &mut self.reports);
+        self.post_all(shared, here, whole);
     }
 
-    /// What follows from the effect of a handler, or from a part that came.
-    fn reacted(&mut self, shared: &Shared<C::Message>, here: Here, effect: Effect) {
-        let element = self.elements.get_mut(&here.me).unwrap();
-        element.load += effect.units;
-        if effect.at_sync {
-            element.waits = true;
-            let (load, size) = (take(&mut element.load), element.chare.size() as u32);
-            self.reports.push(Report { element: here.me, load, size });
+    fn send_after(&mut self, shared: &Shared<C::Message>, letter: Letter<C::Message>) {
+        let to = letter.to as usize;
+        match shared.places[to].load(SeqCst) as usize {
+            pe if pe == self.me => self.shelf.entry(to).or_default().push(letter),
+            pe => self.send(shared, pe, Item::Letter(letter)),
         }
-        if effect.finished {
-            shared.finished.fetch_add(1, SeqCst);
+    }
+
+    /// Posts what a handler has posted, and the value that goes on from the element, if there is one.
+    fn post_all(&mut self, shared: &Shared<C::Message>, here: Here, whole: Option<f64>) {
+        if !self.posts.is_empty() {
+            let mut posts = take(&mut self.posts);
+            for (to, message) in posts.drain(..) {
+                self.post(shared, to, Body::User(message));
+            }
+            self.posts = posts;
         }
-        if effect.contribution.is_some() {
-            element.node.own = effect.contribution;
-        }
-        let whole = element.node.whole::<C>(here);
-        let mut posts = take(&mut self.posts);
-        for (to, message) in posts.drain(..) {
-            self.post(shared, to, Body::User(message));
-        }
-        self.posts = posts;
         match whole {
             Some(value) if here.me == 0 => (0..here.n).for_each(|to| self.post(shared, to, Body::Whole(value))),
             Some(value) => {
@@ -393,7 +396,8 @@ impl<C: Chare> Pe<C> {
         let element = self.elements.get_mut(&index).unwrap();
         element.waits = false;
         let effect = element.chare.on_resume(here, &mut self.posts);
-        self.reacted(shared, here, effect);
+        let whole = element.reacts(shared, here, effect, &mut self.reports);
+        self.post_all(shared, here, whole);
     }
 
     /// Hands in the reports of a turn, all under one lock.
