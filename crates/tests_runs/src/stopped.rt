@@ -61,8 +61,8 @@ fn started_on<A: Allocator + Copy>(end: &PeEnd<Errand, A>) -> usize {
     started
 }
 
-/// Elements, each of which sends the first one two letters as it starts, and that wait for more.
-pub(crate) fn that_wait(rt: &(impl Abort + AllocGlobal), elements: usize) -> Vec<Errand> {
+// Elements, each of which sends the first one two letters as it starts, and that wait for more.
+fn that_wait(rt: &(impl Abort + AllocGlobal), elements: usize) -> Vec<Errand> {
     let mut errands = Vec::new(rt.alloc());
     for _ in 0..elements {
         let waits = Errand {
