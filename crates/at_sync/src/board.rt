@@ -9,7 +9,7 @@ ghost use Rattle.at_sync.specs.Refusals.{RefusesDecision, RefusesFinish, databas
 
 use crate::error::BoardError;
 use crate::strategy::Strategy;
-use chare_index::{Gate, Index, Limits, Pe, Round};
+use chare_index::{Gate, Index, Limits, Pe, Pes, Round};
 use lb_database::LoadDb;
 use lb_refinement::Refined;
 use lb_snapshot::{Snapshot, Units};
@@ -27,7 +27,7 @@ use std::thread::Threads;
 #[derive_where(Debug)]
 pub struct Board<A: Allocator = Global> {
     // How many PEs the elements run on.
-    pes: u32,
+    pes: Pes,
     // How rounds are decided.
     strategy: Strategy,
     // The reports of the present round, all of them of places below `pes`.
@@ -68,6 +68,7 @@ impl<A: Allocator> Board<A> {
         let Ok(database) = LoadDb::new(alloc, n) else {
             return Err(AllocError);
         };
+        let pes = Pes::of(pes);
         let n = n as usize;
         Ok(Board {
             pes,
@@ -248,7 +249,7 @@ impl<A: Allocator> Board<A> {
     pub fn pes(&self) -> u32
         ensures value { result ≡ self.now.pes }
     {
-        self.pes
+        self.pes.get()
     }
 
     /// How many elements there are.
@@ -314,11 +315,9 @@ fn all_running<A: Allocator>(alloc: A, n: usize) -> Result<Vec<bool, A>, AllocEr
 fn decided<A: Allocator + Copy>(
     alloc: A,
     database: &LoadDb<A>,
-    pes: u32,
+    pes: Pes,
     strategy: Strategy,
 ) -> Result<(Snapshot<A>, Refined<A>), BoardError>
-    requires some_pe { 0 < pes }
-    requires few_pes { pes ≤ Limits.PES }
     requires placed { StandBelow pes database.now }
     ensures answer { MatchResult result (λ _. HasNextRound database.now) (RefusesDecision database.now) }
     ensures reported { IfOk result (λ kept. IsSnapshotOf database.now database.now.round pes kept.0) }
@@ -335,13 +334,11 @@ fn decided_with<R: Threads + Sync, G: Gate + Sync, A: Allocator + Copy>(
     rt: &R,
     alloc: A,
     database: &LoadDb<A>,
-    pes: u32,
+    pes: Pes,
     strategy: Strategy,
     workers: u32,
     gate: &G,
 ) -> Result<(Snapshot<A>, Refined<A>), BoardError>
-    requires some_pe { 0 < pes }
-    requires few_pes { pes ≤ Limits.PES }
     requires some_worker { 1 ≤ workers }
     requires few_workers { workers ≤ Limits.PROBE_WORKERS }
     requires placed { StandBelow pes database.now }
@@ -355,9 +352,7 @@ fn decided_with<R: Threads + Sync, G: Gate + Sync, A: Allocator + Copy>(
 }
 
 // The snapshot of the round, which has to be complete and not the last.
-fn measured<A: Allocator + Copy>(database: &LoadDb<A>, pes: u32) -> Result<Snapshot<A>, BoardError>
-    requires some_pe { 0 < pes }
-    requires few_pes { pes ≤ Limits.PES }
+fn measured<A: Allocator + Copy>(database: &LoadDb<A>, pes: Pes) -> Result<Snapshot<A>, BoardError>
     requires placed { StandBelow pes database.now }
     ensures answer { MatchResult result (λ _. HasNextRound database.now) (RefusesDecision database.now) }
     ensures reported { IfOk result (IsSnapshotOf database.now database.now.round pes) }
@@ -369,7 +364,7 @@ fn measured<A: Allocator + Copy>(database: &LoadDb<A>, pes: u32) -> Result<Snaps
     if round == Limits::ROUND {
         return Err(BoardError::Worn);
     }
-    Ok(database.snapshot(round, pes)?)
+    Ok(database.snapshot(round, pes.get())?)
 }
 
 // Adds what is to be kept of the round that was measured, and then begins the next one.

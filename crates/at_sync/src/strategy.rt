@@ -7,7 +7,7 @@ ghost use Rattle.at_sync.specs.declared.strategy.Strategy.TheVariants.{Least, Re
 ghost use Rattle.at_sync.specs.Strategies.{IsBest, IsDecidedBy, PlacesAll};
 
 use chain_refinement::Tolerance;
-use chare_index::{Gate, Limits};
+use chare_index::{Gate, Limits, Pes};
 use lb_refinement::{Refined, refine, refine_with};
 use lb_snapshot::Snapshot;
 use lb_strategy::{Decision, PlanError, plan, plan_with};
@@ -41,10 +41,8 @@ impl Strategy {
         self,
         alloc: A,
         snapshot: &Snapshot<B>,
-        pes: u32,
+        pes: Pes,
     ) -> Result<Refined<A>, AllocError>
-        requires some_pe { 1 ≤ pes }
-        requires few_pes { pes ≤ Limits.PES }
         ensures by_strategy { IfOk result (IsDecidedBy self snapshot.now.loads snapshot.now.sizes pes) }
         ensures placed { IfOk result (PlacesAll snapshot.now.loads snapshot.now.sizes pes) }
     {
@@ -63,12 +61,10 @@ impl Strategy {
         rt: &R,
         alloc: A,
         snapshot: &Snapshot<B>,
-        pes: u32,
+        pes: Pes,
         workers: u32,
         gate: &G,
     ) -> Result<Refined<A>, AllocError>
-        requires some_pe { 1 ≤ pes }
-        requires few_pes { pes ≤ Limits.PES }
         requires some_worker { 1 ≤ workers }
         requires few_workers { workers ≤ Limits.PROBE_WORKERS }
         ensures by_strategy { IfOk result (IsDecidedBy self snapshot.now.loads snapshot.now.sizes pes) }
@@ -91,14 +87,12 @@ impl Strategy {
 fn best<A: Allocator + Copy, B: Allocator>(
     alloc: A,
     snapshot: &Snapshot<B>,
-    pes: u32,
+    pes: Pes,
 ) -> Result<Decision<A>, AllocError>
-    requires some_pe { 1 ≤ pes }
-    requires few_pes { pes ≤ Limits.PES }
     ensures best { IfOk result (IsBest snapshot.now.loads snapshot.now.sizes pes) }
     ensures placed { IfOk result (λ d. PlacesAll snapshot.now.loads snapshot.now.sizes pes (Planned d)) }
 {
-    match plan(alloc, snapshot, pes) {
+    match plan(alloc, snapshot, pes.get()) {
         Ok(decision) => Ok(decision),
         Err(PlanError::OutOfMemory) => Err(AllocError),
     }
@@ -110,18 +104,16 @@ fn best_with<R: Threads + Sync, G: Gate + Sync, A: Allocator + Copy, B: Allocato
     rt: &R,
     alloc: A,
     snapshot: &Snapshot<B>,
-    pes: u32,
+    pes: Pes,
     workers: u32,
     gate: &G,
 ) -> Result<Decision<A>, AllocError>
-    requires some_pe { 1 ≤ pes }
-    requires few_pes { pes ≤ Limits.PES }
     requires some_worker { 1 ≤ workers }
     requires few_workers { workers ≤ Limits.PROBE_WORKERS }
     ensures best { IfOk result (IsBest snapshot.now.loads snapshot.now.sizes pes) }
     ensures placed { IfOk result (λ d. PlacesAll snapshot.now.loads snapshot.now.sizes pes (Planned d)) }
 {
-    match plan_with(rt, alloc, snapshot, pes, workers, gate) {
+    match plan_with(rt, alloc, snapshot, pes.get(), workers, gate) {
         Ok(decision) => Ok(decision),
         Err(PlanError::OutOfMemory) => Err(AllocError),
     }

@@ -4,7 +4,7 @@ ghost use Rattle.std.specs.Prelude.{◌≡◌, ◌<◌, ◌≤◌, All, IfOk, le
 ghost use Rattle.pe_state.specs.Histories.{HasHistories, IsParcelHistory};
 ghost use Rattle.run_account.specs.Reopenings.{all_reopened};
 
-use chare_index::{Index, Limits, Pe};
+use chare_index::{Index, Limits, Pe, Pes};
 use chares::{Carried, Chare, Openings};
 use pe_state::{HeldParcel, Item, PeEnd, PeState};
 use rts_core::opening_words;
@@ -42,12 +42,10 @@ pub(crate) fn reopen_all<C: Chare<A>, H: Openings<C>, A: Allocator + Copy>(
 pub(crate) fn places_of<C: Chare<A>, H: Openings<C>, A: Allocator + Copy>(
     alloc: A,
     n: u32,
-    pes: u32,
+    pes: Pes,
     states: &[PeState<C, H, A>],
 ) -> Result<Vec<Pe, A>, AllocError>
     requires few { n ≤ Limits.ELEMENTS }
-    requires some_pe { 1 ≤ pes }
-    requires few_pes { pes ≤ Limits.PES }
     requires run { pes ≡ H.pes }
     ensures counted { IfOk result (λ places. length places.items ≡ n) }
     ensures named { IfOk result (λ places. All (λ q. q < H.pes) places.items) }

@@ -14,13 +14,13 @@
 //!
 //! ```
 //! use chain_refinement::present_order;
-//! use chare_index::Pe;
+//! use chare_index::{Pe, Pes};
 //! use lb_snapshot::Sizes;
 //!
 //! // Three elements, of which the first two are on PE 2 and the last is on PE 0.
 //! let (zero, two) = (Pe::new(0).unwrap(), Pe::new(2).unwrap());
 //! let sizes = Sizes::new(vec![in alloc; (10, two), (10, two), (10, zero)]?).ok_or("too many")?;
-//! let order = present_order(alloc, &sizes, 3)?.ok_or("in no order")?;
+//! let order = present_order(alloc, &sizes, Pes::new(3).unwrap())?.ok_or("in no order")?;
 //! assert!(rt; order.names.as_slice() == [2, 0, 1].as_slice());
 //! assert!(rt; order.present.as_slice() == [0, 2, 3, 3].as_slice());
 //! ```

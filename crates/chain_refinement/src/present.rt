@@ -1,9 +1,9 @@
-ghost use Rattle.std.specs.Prelude.{◌≤◌, IfOk, MatchOption};
+ghost use Rattle.std.specs.Prelude.{IfOk, MatchOption};
 ghost use Rattle.chain_refinement.specs.Orders.{IsPresentOrder};
 ghost use Rattle.chain_refinement.specs.NoOrders.{HasNoOrder};
 
 use crate::runs::{runs_of, with_idle};
-use chare_index::Limits;
+use chare_index::Pes;
 use lb_certificates::{Cuts, Naming};
 use lb_snapshot::Sizes;
 use std::alloc::{AllocError, Allocator, Global};
@@ -18,7 +18,7 @@ pub struct PresentOrder<A: Allocator = Global> {
     pub present: Cuts<A>,
 }
 
-/// The order of `pes` PEs, 1 to 256, along these elements, or `None` where they have none: where the elements of a PE are not
+/// The order of `pes` PEs along these elements, or `None` where they have none: where the elements of a PE are not
 /// consecutive, or one is on a PE that is not below `pes`. So the places and `pes` determine the answer.
 ///
 /// # Errors
@@ -27,13 +27,12 @@ pub struct PresentOrder<A: Allocator = Global> {
 pub fn present_order<A: Allocator + Copy, B: Allocator>(
     alloc: A,
     sizes: &Sizes<B>,
-    pes: u32,
+    pes: Pes,
 ) -> Result<Option<PresentOrder<A>>, AllocError>
-    requires some_pe { 1 ≤ pes }
-    requires few_pes { pes ≤ Limits.PES }
     ensures order { IfOk result (λ found. MatchOption found (HasNoOrder sizes.now pes)
         (λ o. IsPresentOrder sizes.now pes o.names o.present)) }
 {
+    let pes = pes.get();
     let Some(runs) = runs_of(alloc, sizes.as_slice(), pes)? else {
         return Ok(None);
     };

@@ -3,6 +3,7 @@
 //!
 //! - [`Index`] names an element of the chare array.
 //! - [`Pe`] names a PE.
+//! - [`Pes`] is a number of PEs.
 //! - [`Round`] names a round of load balancing.
 //! - [`opening_pe`] is the PE on which an element begins.
 //! - [`Limits`] has every limit of the runtime, in this one place.
@@ -14,6 +15,7 @@ mod index;
 mod limits;
 mod opening;
 mod pe;
+mod pes;
 mod round;
 
 pub use gate::{Gate, NoGate};
@@ -21,4 +23,5 @@ pub use index::Index;
 pub use limits::Limits;
 pub use opening::opening_pe;
 pub use pe::Pe;
+pub use pes::Pes;
 pub use round::Round;

@@ -7,7 +7,7 @@ ghost use Rattle.courses.specs.Courses.{IsEnabled, Leads, CourseView, RefusesTak
 use crate::step::Step;
 use crate::trying::try_step;
 use at_sync::Strategy;
-use chare_index::Limits;
+use chare_index::{Limits, Pes};
 use chares::{Chare, Openings};
 use pe_state::StepError;
 use rts_core::{Event, World};
@@ -48,12 +48,10 @@ impl<C: Chare<A>, H: Openings<C>, A: Allocator + Copy> Course<C, H, A> {
     /// A course that opens as a [`World`] does.
     pub fn new(
         alloc: A,
-        pes: u32,
+        pes: Pes,
         chares: Vec<C, A>,
         strategy: Strategy,
     ) -> Result<Self, AllocError>
-        requires some_pe { 1 ≤ pes }
-        requires few_pes { pes ≤ Limits.PES }
         requires few { length chares.items ≤ Limits.ELEMENTS }
         requires run { pes ≡ H.pes }
         requires opened { chares.items ≡ H.opened }
@@ -62,7 +60,7 @@ impl<C: Chare<A>, H: Openings<C>, A: Allocator + Copy> Course<C, H, A> {
         ensures steps { IfOk result (λ course. course.steps ≡ []) }
     {
         Ok(Course {
-            world: World::new(alloc, pes, chares, strategy)?,
+            world: World::new(alloc, pes.get(), chares, strategy)?,
             steps: Vec::new(alloc),
             strategy,
         })

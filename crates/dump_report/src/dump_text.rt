@@ -1,12 +1,12 @@
 //! What is reported of a dump. The whole text is made before any of it is written.
 
-ghost use Rattle.std.specs.Prelude.{◌≡◌, ◌≤◌, ◌++◌, All, List, ℕ, Some, OnOk, IfOk, IfErr};
+ghost use Rattle.std.specs.Prelude.{◌≡◌, ◌++◌, All, List, ℕ, Some, OnOk, IfOk, IfErr};
 ghost use Rattle.dump_report.specs.Reports.{ArePlans, IsBeside, IsDecided, IsNumber, IsPast, IsPlan, IsSaid, IsWithin, numbers_of};
 ghost use Rattle.lb_replay.specs.declared.ended.Ended.TheVariants.{Plan};
 ghost use Rattle.lb_strategy.specs.declared.error.PlanError.TheVariants.{OutOfMemory};
 
 use chain_refinement::Tolerance;
-use chare_index::Limits;
+use chare_index::Pes;
 use dump_format::Dump;
 use lb_refinement::refine;
 use lb_replay::Ended;
@@ -116,7 +116,7 @@ fn push_plans<A: Allocator + Copy, B: Allocator>(
     ensures fault { IfErr result (λ fault. fault ≡ OutOfMemory) }
 {
     for &pes in procs {
-        push_decided(text, snapshot, name, pes, &tolerance, style)?;
+        push_decided(text, snapshot, name, Pes::of(pes), &tolerance, style)?;
     }
     Ok(())
 }
@@ -126,12 +126,10 @@ fn push_decided<A: Allocator + Copy, B: Allocator>(
     text: &mut Vec<u8, A>,
     snapshot: &Snapshot<B>,
     name: &str,
-    pes: u32,
+    pes: Pes,
     tolerance: &Option<Tolerance>,
     style: Style,
 ) -> Result<(), PlanError>
-    requires some_pe { 1 ≤ pes }
-    requires few_pes { pes ≤ Limits.PES }
     ensures decided { OnOk result ((said : List ℕ) × IsDecided A style name.now snapshot.now tolerance.now pes said × (text.new.items ≡ text.old.items ++ said)) }
     ensures fault { IfErr result (λ fault. fault ≡ OutOfMemory) }
 {
@@ -146,12 +144,10 @@ fn push_both<A: Allocator + Copy, B: Allocator>(
     text: &mut Vec<u8, A>,
     snapshot: &Snapshot<B>,
     name: &str,
-    pes: u32,
+    pes: Pes,
     tolerance: Tolerance,
     style: Style,
 ) -> Result<(), PlanError>
-    requires some_pe { 1 ≤ pes }
-    requires few_pes { pes ≤ Limits.PES }
     ensures both { OnOk result ((said : List ℕ) × IsDecided A style name.now snapshot.now (Some tolerance) pes said × (text.new.items ≡ text.old.items ++ said)) }
     ensures fault { IfErr result (λ fault. fault ≡ OutOfMemory) }
 {
@@ -164,11 +160,9 @@ fn push_beside<A: Allocator + Copy, B: Allocator>(
     text: &mut Vec<u8, A>,
     snapshot: &Snapshot<B>,
     name: &str,
-    pes: u32,
+    pes: Pes,
     style: Style,
 ) -> Result<(), PlanError>
-    requires some_pe { 1 ≤ pes }
-    requires few_pes { pes ≤ Limits.PES }
     ensures beside { OnOk result ((said : List ℕ) × IsBeside A style name.now snapshot.now pes said × (text.new.items ≡ text.old.items ++ said)) }
     ensures fault { IfErr result (λ fault. fault ≡ OutOfMemory) }
 {
@@ -183,17 +177,15 @@ fn push_within<A: Allocator + Copy, B: Allocator>(
     text: &mut Vec<u8, A>,
     snapshot: &Snapshot<B>,
     name: &str,
-    pes: u32,
+    pes: Pes,
     tolerance: Tolerance,
     style: Style,
 ) -> Result<(), PlanError>
-    requires some_pe { 1 ≤ pes }
-    requires few_pes { pes ≤ Limits.PES }
     ensures within { OnOk result ((said : List ℕ) × IsWithin A style name.now snapshot.now pes tolerance said × (text.new.items ≡ text.old.items ++ said)) }
     ensures fault { IfErr result (λ fault. fault ≡ OutOfMemory) }
 {
     let decision = refine(*text.allocator(), snapshot, pes, tolerance)?;
-    push_refined(text, style, name, snapshot, pes, &decision)?;
+    push_refined(text, style, name, snapshot, pes.get(), &decision)?;
     Ok(())
 }
 
@@ -202,15 +194,14 @@ fn push_plan<A: Allocator + Copy, B: Allocator>(
     text: &mut Vec<u8, A>,
     snapshot: &Snapshot<B>,
     name: &str,
-    pes: u32,
+    pes: Pes,
     style: Style,
 ) -> Result<(), PlanError>
-    requires some_pe { 1 ≤ pes }
-    requires few_pes { pes ≤ Limits.PES }
     ensures plan { OnOk result ((said : List ℕ) × IsPlan A style name.now snapshot.now pes said × (text.new.items ≡ text.old.items ++ said)) }
     ensures fault { IfErr result (λ fault. fault ≡ OutOfMemory) }
 {
-    let decision = plan(*text.allocator(), snapshot, pes)?;
-    push_planned(text, style, name, snapshot, pes, &decision)?;
+    let number = pes.get();
+    let decision = plan(*text.allocator(), snapshot, number)?;
+    push_planned(text, style, name, snapshot, number, &decision)?;
     Ok(())
 }

@@ -10,7 +10,7 @@ use crate::reordering::{Fewest, Reordering};
 use crate::search::reorder;
 use any_order::{Reordered, moved_by};
 use chain_refinement::{Tolerance, present_order};
-use chare_index::Limits;
+use chare_index::Pes;
 use lb_certificates::Division;
 use lb_refinement::laws::one_refined;
 use lb_refinement::{Refined, refine};
@@ -18,7 +18,7 @@ use lb_snapshot::Snapshot;
 use lb_strategy::moves_of;
 use std::alloc::{AllocError, Allocator};
 
-/// Decides where each element of this snapshot runs next, on `pes` PEs, 1 to 256, so that the greatest load of a PE is within a
+/// Decides where each element of this snapshot runs next, on `pes` PEs, so that the greatest load of a PE is within a
 /// tolerance above the least possible one.
 ///
 /// Where the elements of each PE are consecutive and these PEs are all below `pes`, it searches all cuts within the tolerance,
@@ -32,11 +32,9 @@ use std::alloc::{AllocError, Allocator};
 pub fn refine_in_any_order<A: Allocator + Copy, B: Allocator>(
     alloc: A,
     snapshot: &Snapshot<B>,
-    pes: u32,
+    pes: Pes,
     tolerance: Tolerance,
 ) -> Result<Reordering<A>, AllocError>
-    requires some_pe { 1 ≤ pes }
-    requires few_pes { pes ≤ Limits.PES }
     ensures reordering { IfOk result (IsReordering snapshot.now.loads snapshot.now.sizes pes tolerance) }
     ensures within { IfOk result (λ r. peak snapshot.now.loads (reordering_cuts r) ≤ limit_of (reordering_least r) tolerance) }
     ensures no_more { IfOk result (λ r. (other : Refined A) → IsRefined snapshot.now.loads snapshot.now.sizes pes tolerance other
@@ -56,12 +54,10 @@ pub fn refine_in_any_order<A: Allocator + Copy, B: Allocator>(
 fn fewest_of_all<A: Allocator + Copy, B: Allocator>(
     alloc: A,
     snapshot: &Snapshot<B>,
-    pes: u32,
+    pes: Pes,
     tolerance: Tolerance,
     refined: &Refined<A>,
 ) -> Result<Option<Fewest<A>>, AllocError>
-    requires some_pe { 1 ≤ pes }
-    requires few_pes { pes ≤ Limits.PES }
     requires refined { IsRefined snapshot.now.loads snapshot.now.sizes pes tolerance refined.now }
     ensures fewest { IfOk result (λ found. IfSome found (IsFewest snapshot.now.loads snapshot.now.sizes pes tolerance)) }
     ensures places { IfOk result (λ found. IfSome found (λ f. (i : ℕ) → i < length snapshot.now.sizes → HasPlaceBelow pes f.reordered.cuts f.reordered.names i)) }
@@ -69,6 +65,7 @@ fn fewest_of_all<A: Allocator + Copy, B: Allocator>(
     let Some(order) = present_order(alloc, snapshot.sizes(), pes)? else {
         return Ok(None);
     };
+    let pes = pes.get();
     let least = least_of(refined)?;
     let Some(reordered) = reorder(alloc, snapshot, pes, least, tolerance, &order)? else {
         return Ok(None);

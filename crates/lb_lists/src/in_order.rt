@@ -23,6 +23,7 @@ use crate::run::Run;
 use crate::snapshot::snapshot_of;
 use crate::steps::flat_steps;
 use chain_refinement::Tolerance;
+use chare_index::Pes;
 use lb_refinement::{RefinedInOrder, refine_keeping_order};
 use std::alloc::Allocator;
 
@@ -59,7 +60,7 @@ pub fn refine_run_in_order<A: Allocator + Copy>(
         Ok(snapshot) => snapshot,
         Err(refused) => return Err(refused),
     };
-    let refined = refine_keeping_order(alloc, &snapshot, pes, tolerance);
+    let refined = refine_keeping_order(alloc, &snapshot, Pes::of(pes), tolerance);
     drop(snapshot);
     match refined {
         Ok(refined) => Ok(refined),

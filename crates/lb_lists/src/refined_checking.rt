@@ -23,7 +23,7 @@ use chain_refinement::{
     Heights, PresentOrder, Refinement, RefinementFlaw, Steps, Tolerance, check_refinement,
     present_order,
 };
-use chare_index::Limits;
+use chare_index::{Limits, Pes};
 use lb_certificates::{Cuts, Division, Flaw, Naming, Prices, check_naming};
 use lb_refinement::{greatest_load, moved_by};
 use lb_snapshot::{Sizes, Snapshot};
@@ -163,12 +163,10 @@ fn is_same<A: Allocator>(found: &PresentOrder<A>, order: &[u32], present: &[u32]
 fn is_order<A: Allocator + Copy, B: Allocator>(
     alloc: A,
     sizes: &Sizes<B>,
-    pes: u32,
+    pes: Pes,
     order: &[u32],
     present: &[u32],
 ) -> Result<bool, AllocError>
-    requires some_pe { 1 ≤ pes }
-    requires few_pes { pes ≤ Limits.PES }
     ensures { IfOk result (λ is. MatchBool is (IsPresentOrder sizes.now pes order.now present.now) (¬ (IsPresentOrder sizes.now pes order.now present.now))) }
 {
     let Some(found) = present_order(alloc, sizes, pes)? else {
@@ -303,7 +301,8 @@ pub fn check_refined<A: Allocator + Copy>(
     let Ok(parts) = refined_parts(alloc, tolerance, claim) else {
         return Err(RefineError::Run(RunError::OutOfMemory));
     };
-    let Ok(in_order) = is_order(alloc, snapshot.sizes(), pes, claim.order, claim.present) else {
+    let count = Pes::of(pes);
+    let Ok(in_order) = is_order(alloc, snapshot.sizes(), count, claim.order, claim.present) else {
         return Err(RefineError::Run(RunError::OutOfMemory));
     };
     let flaw = first_refined_flaw(&snapshot, pes, claim, &parts, in_order);

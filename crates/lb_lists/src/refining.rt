@@ -25,6 +25,7 @@ use crate::run::Run;
 use crate::snapshot::snapshot_of;
 use crate::steps::flat_steps;
 use chain_refinement::Tolerance;
+use chare_index::Pes;
 use lb_refinement::{Refined, refine};
 use std::alloc::Allocator;
 
@@ -95,7 +96,7 @@ pub fn refine_run<A: Allocator + Copy>(
         Ok(snapshot) => snapshot,
         Err(refused) => return Err(refused),
     };
-    let refined = refine(alloc, &snapshot, pes, tolerance);
+    let refined = refine(alloc, &snapshot, Pes::of(pes), tolerance);
     drop(snapshot);
     match refined {
         Ok(refined) => Ok(refined),

@@ -28,6 +28,7 @@ use crate::run::Run;
 use crate::snapshot::snapshot_of;
 use crate::steps::flat_steps;
 use chain_refinement::Tolerance;
+use chare_index::Pes;
 use lb_any_order::{Reordering, refine_in_any_order};
 use lb_refinement::{Refined, greatest_load};
 use std::alloc::{Allocator, Global};
@@ -89,7 +90,8 @@ pub fn reorder_run<A: Allocator + Copy>(
         Ok(snapshot) => snapshot,
         Err(refused) => return Err(refused),
     };
-    let Ok(decided) = refine_in_any_order(alloc, &snapshot, pes, tolerance) else {
+    let count = Pes::of(pes);
+    let Ok(decided) = refine_in_any_order(alloc, &snapshot, count, tolerance) else {
         return Err(RefineError::Run(RunError::OutOfMemory));
     };
     let bottleneck = greatest_load(snapshot.loads(), pes, decided.cuts());

@@ -16,7 +16,7 @@ use crate::moved::moved_by;
 use crate::refining::planned;
 use chain_partition::divide;
 use chain_refinement::{PresentOrder, Refinement, Tolerance, present_order};
-use chare_index::Limits;
+use chare_index::Pes;
 use lb_certificates::Division;
 use lb_snapshot::{Sizes, Snapshot};
 use lb_strategy::moves_of;
@@ -39,11 +39,9 @@ use std::alloc::{AllocError, Allocator};
 pub fn refine_keeping_order<A: Allocator + Copy, B: Allocator>(
     alloc: A,
     snapshot: &Snapshot<B>,
-    pes: u32,
+    pes: Pes,
     tolerance: Tolerance,
 ) -> Result<RefinedInOrder<A>, AllocError>
-    requires some_pe { 1 ≤ pes }
-    requires few_pes { pes ≤ Limits.PES }
     ensures refined { IfOk result (IsRefinedInOrder snapshot.now.loads snapshot.now.sizes pes tolerance) }
     ensures keeps_order { IfOk result (λ r. (names present : List ℕ) → IsPresentOrder snapshot.now.sizes pes names present → ordered_names r ≡ names) }
     ensures nearest { IfOk result (λ r. (names present : List ℕ) → IsPresentOrder snapshot.now.sizes pes names present
@@ -61,7 +59,8 @@ pub fn refine_keeping_order<A: Allocator + Copy, B: Allocator>(
     let Some(order) = present_order(alloc, snapshot.sizes(), pes)? else {
         return Ok(RefinedInOrder::Planned(planned(alloc, snapshot, pes)?));
     };
-    let least = divide(alloc, snapshot.loads(), pes)?;
+    let blocks = pes.get();
+    let least = divide(alloc, snapshot.loads(), blocks)?;
     let kept = keep_in_order(alloc, snapshot, pes, least, tolerance, order)?;
     Ok(RefinedInOrder::Near(kept))
 }
@@ -70,21 +69,20 @@ pub fn refine_keeping_order<A: Allocator + Copy, B: Allocator>(
 fn keep_in_order<A: Allocator + Copy, B: Allocator>(
     alloc: A,
     snapshot: &Snapshot<B>,
-    pes: u32,
+    pes: Pes,
     least: Division<A>,
     tolerance: Tolerance,
     order: PresentOrder<A>,
 ) -> Result<KeptInOrder<A>, AllocError>
-    requires some_pe { 1 ≤ pes }
-    requires few_pes { pes ≤ Limits.PES }
     requires chosen { IsChosen snapshot.now.loads pes least }
     requires certified { IsCertified snapshot.now.loads pes least }
     requires order { IsPresentOrder snapshot.now.sizes pes order.names order.present }
     ensures kept { IfOk result (IsKeptInOrder snapshot.now.loads snapshot.now.sizes pes tolerance) }
 {
+    let blocks = pes.get();
     let PresentOrder { names, present } = order;
     let refinement = refine_in_order(alloc, snapshot, least, tolerance, names, present)?;
-    let bottleneck = greatest_load(snapshot.loads(), pes, refinement.cuts.as_slice());
+    let bottleneck = greatest_load(snapshot.loads(), blocks, refinement.cuts.as_slice());
     with_moves(alloc, snapshot.sizes(), refinement, bottleneck)
 }
 

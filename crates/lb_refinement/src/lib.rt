@@ -11,7 +11,7 @@
 //!
 //! ```
 //! use chain_refinement::Tolerance;
-//! use chare_index::Pe;
+//! use chare_index::{Pe, Pes};
 //! use lb_refinement::refine;
 //! use lb_snapshot::{Loads, Sizes, Snapshot};
 //!
@@ -22,9 +22,10 @@
 //! let sizes = Sizes::new(sizes).ok_or("too many")?;
 //! let snapshot = Snapshot::new(5, 2, loads, sizes).ok_or("no snapshot")?;
 //!
-//! let least = refine(alloc, &snapshot, 2, Tolerance::new(0).unwrap())?;
+//! let two = Pes::new(2).unwrap();
+//! let least = refine(alloc, &snapshot, two, Tolerance::new(0).unwrap())?;
 //! assert!(rt; least.bottleneck() == 6 && least.moved() == 9);
-//! let near = refine(alloc, &snapshot, 2, Tolerance::new(200).unwrap())?;
+//! let near = refine(alloc, &snapshot, two, Tolerance::new(200).unwrap())?;
 //! assert!(rt; near.bottleneck() == 7 && near.moved() == 0);
 //! ```
 #![tactic(auto)]

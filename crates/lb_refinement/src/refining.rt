@@ -15,7 +15,7 @@ ghost use Rattle.lb_refinement.specs.Refined.{refined_bottleneck, refined_cuts, 
 use crate::heaviest::greatest_load;
 use crate::refined::{Kept, Refined};
 use chain_refinement::{PresentOrder, Refinement, Tolerance, present_order};
-use chare_index::{Gate, Limits};
+use chare_index::{Gate, Limits, Pes};
 use lb_certificates::Division;
 use lb_snapshot::{Sizes, Snapshot};
 use lb_strategy::{Decision, PlanError, moves_of, name_cuts, plan, plan_with};
@@ -23,7 +23,7 @@ use refinement_search::refine_in_order;
 use std::alloc::{AllocError, Allocator};
 use std::thread::Threads;
 
-/// Decides where each element of this snapshot runs next, on `pes` PEs, 1 to 256, so that the greatest load of a PE is within a
+/// Decides where each element of this snapshot runs next, on `pes` PEs, so that the greatest load of a PE is within a
 /// tolerance above the least possible one.
 ///
 /// Where the elements of each PE are consecutive and these PEs are all below `pes`, the PEs keep their present order, and those
@@ -39,11 +39,9 @@ use std::thread::Threads;
 pub fn refine<A: Allocator + Copy, B: Allocator>(
     alloc: A,
     snapshot: &Snapshot<B>,
-    pes: u32,
+    pes: Pes,
     tolerance: Tolerance,
 ) -> Result<Refined<A>, AllocError>
-    requires some_pe { 1 ≤ pes }
-    requires few_pes { pes ≤ Limits.PES }
     ensures refined { IfOk result (IsRefined snapshot.now.loads snapshot.now.sizes pes tolerance) }
     ensures blocks { IfOk result (λ r. IsDivision 0 (length snapshot.now.loads) pes (refined_cuts r)) }
     ensures naming { IfOk result (λ r. IsNaming pes (refined_names r)) }
@@ -70,13 +68,11 @@ pub fn refine_with<R: Threads + Sync, G: Gate + Sync, A: Allocator + Copy, B: Al
     rt: &R,
     alloc: A,
     snapshot: &Snapshot<B>,
-    pes: u32,
+    pes: Pes,
     tolerance: Tolerance,
     workers: u32,
     gate: &G,
 ) -> Result<Refined<A>, AllocError>
-    requires some_pe { 1 ≤ pes }
-    requires few_pes { pes ≤ Limits.PES }
     requires some_worker { 1 ≤ workers }
     requires few_workers { workers ≤ Limits.PROBE_WORKERS }
     ensures refined { IfOk result (IsRefined snapshot.now.loads snapshot.now.sizes pes tolerance) }
@@ -102,14 +98,12 @@ pub fn refine_with<R: Threads + Sync, G: Gate + Sync, A: Allocator + Copy, B: Al
 pub(crate) fn planned<A: Allocator + Copy, B: Allocator>(
     alloc: A,
     snapshot: &Snapshot<B>,
-    pes: u32,
+    pes: Pes,
 ) -> Result<Decision<A>, AllocError>
-    requires some_pe { 1 ≤ pes }
-    requires few_pes { pes ≤ Limits.PES }
     ensures planned { IfOk result (IsPlanned snapshot.now.loads snapshot.now.sizes pes) }
     ensures bounded { IfOk result (HasBoundedPrices snapshot.now.sizes) }
 {
-    match plan(alloc, snapshot, pes) {
+    match plan(alloc, snapshot, pes.get()) {
         Ok(decision) => Ok(decision),
         Err(PlanError::OutOfMemory) => Err(AllocError),
     }
@@ -120,18 +114,16 @@ fn planned_with<R: Threads + Sync, G: Gate + Sync, A: Allocator + Copy, B: Alloc
     rt: &R,
     alloc: A,
     snapshot: &Snapshot<B>,
-    pes: u32,
+    pes: Pes,
     workers: u32,
     gate: &G,
 ) -> Result<Decision<A>, AllocError>
-    requires some_pe { 1 ≤ pes }
-    requires few_pes { pes ≤ Limits.PES }
     requires some_worker { 1 ≤ workers }
     requires few_workers { workers ≤ Limits.PROBE_WORKERS }
     ensures planned { IfOk result (IsPlanned snapshot.now.loads snapshot.now.sizes pes) }
     ensures bounded { IfOk result (HasBoundedPrices snapshot.now.sizes) }
 {
-    match plan_with(rt, alloc, snapshot, pes, workers, gate) {
+    match plan_with(rt, alloc, snapshot, pes.get(), workers, gate) {
         Ok(decision) => Ok(decision),
         Err(PlanError::OutOfMemory) => Err(AllocError),
     }
@@ -141,12 +133,10 @@ fn planned_with<R: Threads + Sync, G: Gate + Sync, A: Allocator + Copy, B: Alloc
 fn nearer<A: Allocator + Copy, B: Allocator>(
     alloc: A,
     snapshot: &Snapshot<B>,
-    pes: u32,
+    pes: Pes,
     tolerance: Tolerance,
     planned: Decision<A>,
 ) -> Result<Refined<A>, AllocError>
-    requires some_pe { 1 ≤ pes }
-    requires few_pes { pes ≤ Limits.PES }
     requires planned { IsPlanned snapshot.now.loads snapshot.now.sizes pes planned }
     requires bounded { HasBoundedPrices snapshot.now.sizes planned }
     ensures refined { IfOk result (IsRefined snapshot.now.loads snapshot.now.sizes pes tolerance) }
@@ -189,22 +179,21 @@ fn cheaper<A: Allocator>(planned: Decision<A>, kept: Kept<A>) -> Refined<A>
 fn keep<A: Allocator + Copy, B: Allocator>(
     alloc: A,
     snapshot: &Snapshot<B>,
-    pes: u32,
+    pes: Pes,
     least: Division<A>,
     tolerance: Tolerance,
     order: PresentOrder<A>,
 ) -> Result<Kept<A>, AllocError>
-    requires some_pe { 1 ≤ pes }
-    requires few_pes { pes ≤ Limits.PES }
     requires chosen { IsChosen snapshot.now.loads pes least }
     requires certified { IsCertified snapshot.now.loads pes least }
     requires order { IsPresentOrder snapshot.now.sizes pes order.names order.present }
     ensures kept { IfOk result (IsKept snapshot.now.loads snapshot.now.sizes pes tolerance) }
 {
+    let blocks = pes.get();
     let sizes = snapshot.sizes();
     let PresentOrder { names, present } = order;
     let refinement = refine_in_order(alloc, snapshot, least, tolerance, names, present)?;
-    let bottleneck = greatest_load(snapshot.loads(), pes, refinement.cuts.as_slice());
+    let bottleneck = greatest_load(snapshot.loads(), blocks, refinement.cuts.as_slice());
     with_names(alloc, sizes, refinement, bottleneck)
 }
 

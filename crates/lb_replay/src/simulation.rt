@@ -12,7 +12,7 @@ use crate::fault::{Fault, NO_MEMORY, fault_line};
 use crate::text::{decision_text, ordered_text, refined_text, reordering_text};
 use crate::way::Way;
 use chain_refinement::Tolerance;
-use chare_index::Limits;
+use chare_index::{Limits, Pes};
 use dump_format::DumpError;
 use lb_any_order::refine_in_any_order;
 use lb_dump::read_from;
@@ -97,7 +97,7 @@ fn replay<A: Allocator + Copy, R: Read>(
         Ok(dump) => {
             let snapshot = dump.snapshot();
             let pes = procs.unwrap_or(snapshot.procs());
-            let text = decided_text(alloc, snapshot, pes, way);
+            let text = decided_text(alloc, snapshot, Pes::of(pes), way);
             drop(dump);
             text
         }
@@ -109,11 +109,9 @@ fn replay<A: Allocator + Copy, R: Read>(
 fn decided_text<A: Allocator + Copy, B: Allocator>(
     alloc: A,
     snapshot: &Snapshot<B>,
-    pes: u32,
+    pes: Pes,
     way: Way,
 ) -> Result<String<A>, Fault>
-    requires some_pe { 1 ≤ pes }
-    requires few_pes { pes ≤ Limits.PES }
     ensures text { IfOk result (λ text. IsDecided A snapshot.now pes way (string_bytes text)) }
     ensures fault { IfErr result (λ fault. fault ≡ Plan OutOfMemory) }
 {
@@ -129,16 +127,14 @@ fn decided_text<A: Allocator + Copy, B: Allocator>(
 fn text_within<A: Allocator + Copy, B: Allocator>(
     alloc: A,
     snapshot: &Snapshot<B>,
-    pes: u32,
+    pes: Pes,
     tolerance: Tolerance,
 ) -> Result<String<A>, Fault>
-    requires some_pe { 1 ≤ pes }
-    requires few_pes { pes ≤ Limits.PES }
     ensures text { IfOk result (λ text. IsWithin A snapshot.now pes tolerance (string_bytes text)) }
     ensures fault { IfErr result (λ fault. fault ≡ Plan OutOfMemory) }
 {
     match refine(alloc, snapshot, pes, tolerance) {
-        Ok(decision) => refined_text(alloc, snapshot, pes, tolerance, &decision),
+        Ok(decision) => refined_text(alloc, snapshot, pes.get(), tolerance, &decision),
         Err(_) => Err(Fault::Plan(PlanError::OutOfMemory)),
     }
 }
@@ -147,16 +143,14 @@ fn text_within<A: Allocator + Copy, B: Allocator>(
 fn text_in_order<A: Allocator + Copy, B: Allocator>(
     alloc: A,
     snapshot: &Snapshot<B>,
-    pes: u32,
+    pes: Pes,
     tolerance: Tolerance,
 ) -> Result<String<A>, Fault>
-    requires some_pe { 1 ≤ pes }
-    requires few_pes { pes ≤ Limits.PES }
     ensures text { IfOk result (λ text. IsInOrder A snapshot.now pes tolerance (string_bytes text)) }
     ensures fault { IfErr result (λ fault. fault ≡ Plan OutOfMemory) }
 {
     match refine_keeping_order(alloc, snapshot, pes, tolerance) {
-        Ok(decision) => ordered_text(alloc, snapshot, pes, tolerance, &decision),
+        Ok(decision) => ordered_text(alloc, snapshot, pes.get(), tolerance, &decision),
         Err(_) => Err(Fault::Plan(PlanError::OutOfMemory)),
     }
 }
@@ -165,16 +159,14 @@ fn text_in_order<A: Allocator + Copy, B: Allocator>(
 fn text_in_any_order<A: Allocator + Copy, B: Allocator>(
     alloc: A,
     snapshot: &Snapshot<B>,
-    pes: u32,
+    pes: Pes,
     tolerance: Tolerance,
 ) -> Result<String<A>, Fault>
-    requires some_pe { 1 ≤ pes }
-    requires few_pes { pes ≤ Limits.PES }
     ensures text { IfOk result (λ text. IsInAnyOrder A snapshot.now pes tolerance (string_bytes text)) }
     ensures fault { IfErr result (λ fault. fault ≡ Plan OutOfMemory) }
 {
     match refine_in_any_order(alloc, snapshot, pes, tolerance) {
-        Ok(decision) => reordering_text(alloc, snapshot, pes, tolerance, &decision),
+        Ok(decision) => reordering_text(alloc, snapshot, pes.get(), tolerance, &decision),
         Err(_) => Err(Fault::Plan(PlanError::OutOfMemory)),
     }
 }
@@ -183,15 +175,14 @@ fn text_in_any_order<A: Allocator + Copy, B: Allocator>(
 fn planned_text<A: Allocator + Copy, B: Allocator>(
     alloc: A,
     snapshot: &Snapshot<B>,
-    pes: u32,
+    pes: Pes,
 ) -> Result<String<A>, Fault>
-    requires some_pe { 1 ≤ pes }
-    requires few_pes { pes ≤ Limits.PES }
     ensures text { IfOk result (λ text. IsPlanned A snapshot.now pes (string_bytes text)) }
     ensures fault { IfErr result (λ fault. fault ≡ Plan OutOfMemory) }
 {
-    match plan(alloc, snapshot, pes) {
-        Ok(decision) => decision_text(alloc, snapshot, pes, &decision),
+    let number = pes.get();
+    match plan(alloc, snapshot, number) {
+        Ok(decision) => decision_text(alloc, snapshot, number, &decision),
         Err(fault) => Err(Fault::Plan(fault)),
     }
 }

@@ -10,21 +10,19 @@ ghost use Rattle.pe_state.specs.Histories.{HasHistories};
 ghost use Rattle.rts_core.specs.Worlds.{home, placed_on, all_placed, opening_pes, opening_words};
 
 use crate::queue::Queue;
-use chare_index::{Index, Limits, Pe, opening_pe};
+use chare_index::{Index, Limits, Pe, Pes, opening_pe};
 use chares::{Chare, Openings};
 use pe_state::PeState;
 use std::alloc::{AllocError, Allocator};
 use std::collections::VecDeque;
 
-/// The PEs of a run as it opens: element `i` of `n`, not started, is on PE `i * pes / n`, rounded down. There are 1 to 256
-/// PEs and at most 65,536 chares, which are those that the run opens with. Where memory is refused the chares are dropped.
+/// The PEs of a run as it opens: element `i` of `n`, not started, is on PE `i * pes / n`, rounded down. There are at
+/// most 65,536 chares, which are those that the run opens with. Where memory is refused the chares are dropped.
 pub fn opening_pes<C: Chare<A>, H: Openings<C>, A: Allocator + Copy>(
     alloc: A,
-    pes: u32,
+    pes: Pes,
     chares: Vec<C, A>,
 ) -> Result<Vec<PeState<C, H, A>, A>, AllocError>
-    requires some_pe { 1 ≤ pes }
-    requires few_pes { pes ≤ Limits.PES }
     requires few { length chares.items ≤ Limits.ELEMENTS }
     requires run { pes ≡ H.pes }
     requires opened { chares.items ≡ H.opened }
@@ -42,19 +40,21 @@ pub fn opening_pes<C: Chare<A>, H: Openings<C>, A: Allocator + Copy>(
 #[tactic(auto, using(crate::proofs::Openings::list_more))]
 fn bare_pes<C: Chare<A>, H: Openings<C>, A: Allocator + Copy>(
     alloc: A,
-    pes: u32,
+    pes: Pes,
     n: u32,
 ) -> Result<Vec<PeState<C, H, A>, A>, AllocError>
-    requires few_pes { pes ≤ Limits.PES }
     requires run { pes ≡ H.pes }
     requires array { n ≡ length H.opened }
     requires few { n ≤ Limits.ELEMENTS }
-    ensures { IfOk result (λ made. made.items ≡ map (λ q. new_pe q n) (range_with_len 0 pes)) }
+    ensures value { IfOk result (λ made. made.items ≡ map (λ q. new_pe q n) (range_with_len 0 pes)) }
+    ensures some_pe { IfOk result (λ made. 1 ≤ length made.items) }
+    ensures few_pes { IfOk result (λ made. length made.items ≤ Limits.PES) }
 {
+    let count = pes.get();
     let mut made = Vec::new(alloc);
-    for q in 0..pes {
+    for q in 0..count {
         let me = pe_at(q);
-        made.push(PeState::new(alloc, me, pes, n))?;
+        made.push(PeState::new(alloc, me, count, n))?;
     }
     Ok(made)
 }
@@ -70,31 +70,29 @@ fn pe_at(q: u32) -> Pe
 /// An empty queue for each PE. The only error is that memory was refused.
 pub fn opening_queues<C: Chare<A>, H: Openings<C>, A: Allocator + Copy>(
     alloc: A,
-    pes: u32,
+    pes: Pes,
 ) -> Result<Vec<Queue<C, H, A>, A>, AllocError>
     ensures value { IfOk result (λ made. made.items ≡ replicate pes []) }
 {
     let mut made = Vec::new(alloc);
-    for _q in 0..pes {
+    for _q in 0..pes.get() {
         made.push(Queue::new(alloc))?;
     }
     Ok(made)
 }
 
-/// The location word of each of `n` elements as a run opens on 1 to 256 PEs: the PE on which the element opens. There are
-/// at most 65,536 elements. The only error is that memory was refused.
+/// The location word of each of `n` elements as a run opens: the PE on which the element opens. There are at most 65,536
+/// elements. The only error is that memory was refused.
 #[tactic(auto, using(crate::proofs::Openings::home_below, crate::proofs::Openings::list_more))]
-pub fn opening_words<A: Allocator>(alloc: A, n: u32, pes: u32) -> Result<Vec<Pe, A>, AllocError>
+pub fn opening_words<A: Allocator>(alloc: A, n: u32, pes: Pes) -> Result<Vec<Pe, A>, AllocError>
     requires few { n ≤ Limits.ELEMENTS }
-    requires some_pe { 1 ≤ pes }
-    requires few_pes { pes ≤ Limits.PES }
     ensures value { IfOk result (λ words. words.items ≡ opening_words n pes) }
     ensures named { IfOk result (λ words. All (λ q. q < pes) words.items) }
 {
     let mut words = Vec::new(alloc);
     for e in 0..n {
         let index = Index::new(e).unwrap();
-        words.push(opening_pe(index, n, pes))?;
+        words.push(opening_pe(index, n, pes.get()))?;
     }
     Ok(words)
 }

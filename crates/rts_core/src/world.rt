@@ -21,7 +21,7 @@ use crate::reports::Reports;
 use crate::stepping::step_in;
 use crate::sync::decide;
 use at_sync::{Board, Strategy};
-use chare_index::{Index, Limits, Pe};
+use chare_index::{Index, Limits, Pe, Pes};
 use chares::{Chare, Openings};
 use pe_state::{PeState, StepError};
 use std::alloc::{AllocError, Allocator, Global};
@@ -92,9 +92,10 @@ impl<C: Chare<A>, H: Openings<C>, A: Allocator + Copy> World<C, H, A> {
         ensures history { IfOk result (λ world. AreHistories C.step C.fits C.pack H.opened world) }
     {
         let n = chares.len() as u32;
-        let states = opening_pes(alloc, pes, chares)?;
-        let queues = opening_queues(alloc, pes)?;
-        let words = opening_words(alloc, n, pes)?;
+        let count = Pes::of(pes);
+        let states = opening_pes(alloc, count, chares)?;
+        let queues = opening_queues(alloc, count)?;
+        let words = opening_words(alloc, n, count)?;
         let board = Board::new(alloc, n, pes, strategy)?;
         Ok(World {
             pes: states,

@@ -12,7 +12,7 @@ use crate::config::Config;
 use crate::workers::open_workers;
 use at_sync::Board;
 use barrier::RunStrategy;
-use chare_index::Limits;
+use chare_index::{Limits, Pes};
 use chares::{Chare, Openings};
 use pe_queues::{Locations, Post, Seat};
 use pe_state::{Parcel, PeState};
@@ -58,11 +58,12 @@ impl<C: Chare<A>, H: Openings<C> + RunStrategy, A: Allocator + Copy> OpenedRun<C
         ensures capacity { IfOk result (λ o. o.post.capacity ≡ config.now.capacity) }
     {
         let n = element_count(&chares);
-        let homes = opening_words(alloc, n, config.pes)?;
+        let pes = Pes::of(config.pes);
+        let homes = opening_words(alloc, n, pes)?;
         let words = Locations::<OfRun<C, H>, A>::new(alloc, &homes, config.pes)?;
         let board = Board::new(alloc, n, config.pes, config.strategy)?;
         let (post, seats) = open_post::<C, H, A>(alloc, config)?;
-        let states = opening_pes(alloc, config.pes, chares)?;
+        let states = opening_pes(alloc, pes, chares)?;
         Ok(OpenedRun {
             post,
             seats,

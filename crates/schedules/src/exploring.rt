@@ -14,7 +14,7 @@ use crate::drawing::draw_step;
 use crate::explored::Explored;
 use crate::leaving::{Ending, is_done, leave};
 use crate::schedule::Schedule;
-use chare_index::Limits;
+use chare_index::{Limits, Pes};
 use chares::{Chare, Openings};
 use courses::Course;
 use rts_run::RunError;
@@ -76,7 +76,8 @@ fn explore_as<C: Chare<A>, H: Openings<C>, A: Allocator + Copy>(
     ensures ends { IfOk result (EndsRun C.step C.pack C.refuses C.unpack schedule.now.steps) }
     ensures drawn { IfOk result (IsDrawn C.step C.pack C.unpack schedule.now.bias seed (opening_world H.pes H.opened schedule.now.strategy)) }
 {
-    let mut course = Course::<C, H, A>::new(alloc, schedule.pes, chares, schedule.strategy)?;
+    let pes = Pes::of(schedule.pes);
+    let mut course = Course::<C, H, A>::new(alloc, pes, chares, schedule.strategy)?;
     let mut chooser = Chooser::new(alloc, course.world(), seed, schedule.bias)?;
     let ending = draw_steps(&mut course, &mut chooser, schedule.steps);
     leave(alloc, course, ending)

@@ -12,6 +12,7 @@ use crate::error::ReplayError;
 use crate::explored::Explored;
 use crate::leaving::{Ending, is_done, leave};
 use crate::schedule::Schedule;
+use chare_index::Pes;
 use chares::{Chare, Openings};
 use courses::Course;
 use rts_core::{Event, World};
@@ -91,7 +92,8 @@ fn replay_as<C: Chare<A>, H: Openings<C>, A: Allocator + Copy>(
     ensures follows { IfOk result (Follows events.now) }
     ensures ends { IfOk result (EndsList C.step C.pack C.refuses C.unpack) }
 {
-    let mut course = Course::<C, H, A>::new(alloc, schedule.pes, chares, schedule.strategy)?;
+    let pes = Pes::of(schedule.pes);
+    let mut course = Course::<C, H, A>::new(alloc, pes, chares, schedule.strategy)?;
     match follow(&mut course, events) {
         Some(ending) => Ok(leave(alloc, course, ending)?),
         None => Err(ReplayError::NotEnabled(course.steps().len())),
@@ -145,7 +147,8 @@ fn replay_enabled_as<C: Chare<A>, H: Openings<C>, A: Allocator + Copy>(
     ensures ends { IfOk result (EndsList C.step C.pack C.refuses C.unpack) }
     ensures few { IfOk result (λ x. length x.steps ≤ length events.now) }
 {
-    let mut course = Course::<C, H, A>::new(alloc, schedule.pes, chares, schedule.strategy)?;
+    let pes = Pes::of(schedule.pes);
+    let mut course = Course::<C, H, A>::new(alloc, pes, chares, schedule.strategy)?;
     let ending = follow_enabled(&mut course, events);
     leave(alloc, course, ending)
 }

@@ -4,7 +4,7 @@ ghost use Rattle.std.specs.Prelude.{◌<◌, ◌≤◌};
 
 use crate::fixtures::assert_for;
 use chain_refinement::{Tolerance, check_refinement};
-use chare_index::Pe;
+use chare_index::{Pe, Pes};
 use lb_refinement::{Refined, refine};
 use lb_snapshot::{Loads, Sizes, Snapshot};
 use lb_strategy::check;
@@ -126,10 +126,8 @@ fn is_accepted(case: &Case, decision: &Refined) -> bool {
 // The sum with one more chain.
 fn with_chain(rt: &(impl Abort + AllocGlobal), sum: u64, seed: u64) -> u64 {
     let case = chain(rt, seed);
-    if case.pes == 0 || case.pes > 256 {
-        return 0;
-    }
-    let decision = refine(rt.alloc(), &case.snapshot, case.pes, case.tolerance).expect(
+    let pes = Pes::new(case.pes).expect(rt, "no such number of PEs");
+    let decision = refine(rt.alloc(), &case.snapshot, pes, case.tolerance).expect(
         rt,
         "out of memory",
     );

@@ -1,10 +1,9 @@
 //! The order of the PEs along a chain: worked rows, all short chains compared with a slow search, a full array, and refused
 //! memory.
 
-ghost use Rattle.std.specs.Prelude.{◌≤◌};
-
 use crate::fixtures::{assert_for, same, standing};
 use chain_refinement::{PresentOrder, present_order};
+use chare_index::Pes;
 use lb_snapshot::Sizes;
 use std::alloc::{AllocError, Allocator};
 use std::process::Abort;
@@ -47,10 +46,9 @@ static NO_ORDERS: [(&[u32], u32); 6] = [
 
 // The order of the PEs of elements on these PEs.
 fn ordered(rt: &(impl Abort + AllocGlobal), places: &[u32], pes: u32) -> Option<PresentOrder>
-    requires some_pe { 1 ≤ pes }
-    requires few_pes { pes ≤ 256 }
 {
     let sizes = standing(rt, places);
+    let pes = Pes::new(pes).expect(rt, "no such number of PEs");
     present_order(rt.alloc(), &sizes, pes).expect(rt, "out of memory")
 }
 
@@ -113,8 +111,6 @@ fn mixed_chains(
     count: u32,
     pes: u32,
 ) -> u64
-    requires some_pe { 1 ≤ pes }
-    requires few_pes { pes ≤ 256 }
 {
     let mut sum = sum;
     for number in 0..count {
@@ -141,8 +137,6 @@ fn all_short_chains(rt: HostRuntime) {
 
 // The sum over all chains of up to 5 elements.
 fn sum_of_chains(rt: &(impl Abort + AllocGlobal), pes: u32) -> u64
-    requires some_pe { 1 ≤ pes }
-    requires few_pes { pes ≤ 256 }
 {
     let mut sum = 0;
     for elements in 0..6u32 {
@@ -194,10 +188,11 @@ fn is_found<A: Allocator>(answer: Result<Option<PresentOrder<A>>, AllocError>) -
 #[test]
 fn each_of_two_requests_may_be_refused(rt: HostRuntime) {
     let sizes = standing(&rt, &[2, 2, 0]);
+    let three = Pes::new(3).expect(&rt, "no such number of PEs");
     let refusals = each_refusal(
         rt.alloc(),
         9,
-        |alloc| is_found(present_order(alloc, &sizes, 3)),
+        |alloc| is_found(present_order(alloc, &sizes, three)),
     );
     assert!(rt; refusals == Ok(2));
 }

@@ -5,6 +5,7 @@ use super::fixtures::{push, snapshot, tolerance};
 use super::rows::{DECISIONS, Row};
 use crate::fixtures::assert_for;
 use any_order::check_reordered;
+use chare_index::Pes;
 use lb_any_order::{Reordering, refine_in_any_order};
 use std::process::Abort;
 
@@ -32,10 +33,8 @@ fn is_accepted(case: &Case, decision: &Reordering) -> bool {
 // The sum with one more chain.
 fn with_chain(rt: &(impl Abort + AllocGlobal), sum: u64, seed: u64) -> u64 {
     let case = chain(rt, seed);
-    if case.pes == 0 || case.pes > 256 {
-        return 0;
-    }
-    let decision = refine_in_any_order(rt.alloc(), &case.snapshot, case.pes, case.tolerance).expect(
+    let pes = Pes::new(case.pes).expect(rt, "no such number of PEs");
+    let decision = refine_in_any_order(rt.alloc(), &case.snapshot, pes, case.tolerance).expect(
         rt,
         "out of memory",
     );
@@ -77,10 +76,8 @@ fn eight_thousand_chains(rt: HostRuntime) {
 // Whether the decision on a row moves the number of bytes in it, and is of its kind.
 fn is_decided_so(rt: &(impl Abort + AllocGlobal), row: &Row) -> bool {
     let taken = snapshot(rt, row.1, row.2);
-    if row.3 == 0 || row.3 > 256 {
-        return false;
-    }
-    let decision = refine_in_any_order(rt.alloc(), &taken, row.3, tolerance(rt, row.4)).expect(
+    let pes = Pes::new(row.3).expect(rt, "no such number of PEs");
+    let decision = refine_in_any_order(rt.alloc(), &taken, pes, tolerance(rt, row.4)).expect(
         rt,
         "out of memory",
     );
@@ -103,7 +100,8 @@ fn is_full_array_kept(rt: &(impl Abort + AllocGlobal)) -> bool {
         push(rt, &mut elements, (1, 0));
     }
     let taken = snapshot(rt, &loads, &elements);
-    let decision = refine_in_any_order(rt.alloc(), &taken, 2, tolerance(rt, 0)).expect(
+    let two = Pes::new(2).expect(rt, "no such number of PEs");
+    let decision = refine_in_any_order(rt.alloc(), &taken, two, tolerance(rt, 0)).expect(
         rt,
         "out of memory",
     );

@@ -3,6 +3,7 @@
 use super::fixtures::{snapshot, tolerance};
 use super::rows::TEN;
 use crate::fixtures::assert_for;
+use chare_index::Pes;
 use lb_any_order::{Reordering, refine_in_any_order};
 use std::alloc::{AllocError, Allocator};
 use tests_fixtures::{Outcome, each_refusal};
@@ -25,10 +26,11 @@ const DECIDING: u64 = 95;
 fn each_request_may_be_refused(rt: HostRuntime) {
     let taken = snapshot(&rt, TEN.loads, TEN.elements);
     let fifth = tolerance(&rt, 200);
+    let three = Pes::new(3).expect(&rt, "no such number of PEs");
     let refusals = each_refusal(
         rt.alloc(),
         999,
-        |alloc| is_decided(refine_in_any_order(alloc, &taken, 3, fifth)),
+        |alloc| is_decided(refine_in_any_order(alloc, &taken, three, fifth)),
     );
     let refusals = refusals.expect(&rt, "a refusal was not told");
     assert_for(&rt, refusals == DECIDING, refusals);

@@ -14,7 +14,7 @@ loop-pes-preserved g c =
     let i = c.loop-pes.pes-index in
     let so_far = c.loop-pes.invariant in
     let tolerance = c.args.tolerance in
-    let said = c.in_ok-push_decided.ensures.decided in
+    let said = rw c.of.ensures.value at c.in_ok-push_decided.ensures.decided in
     let are = plans_more A style name s tolerance (take i procs) (slice_index procs i) so_far.0 said.0 so_far.1 said.1 in (
       so_far.0 ++ said.0,
       subst (λ numbers. ArePlans A style name s tolerance numbers (so_far.0 ++ said.0)) (sym (take_more procs i 0 c.loop-pes-test.true)) are,

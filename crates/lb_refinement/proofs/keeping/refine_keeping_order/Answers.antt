@@ -39,4 +39,4 @@ returns-clause-kept_whole g c names present order inside =
 pub returns-clause-places : goal.returns-clause-places
 returns-clause-places g c =
     let s = c.args.snapshot.now in
-    places s.loads s.sizes c.args.pes c.args.tolerance (Near c.in_ok-kept.kept) c.requires.few_pes c.sizes.ensures.paired c.in_ok-kept.ensures.kept
+    places s.loads s.sizes c.args.pes c.args.tolerance (Near c.in_ok-kept.kept) c.get-blocks.ensures.few_pes c.sizes.ensures.paired c.in_ok-kept.ensures.kept

@@ -8,4 +8,4 @@ returns-in-Ok-clause-text g c =
       reordering = c.in-Ok.ensures.reordering;
       no_more = c.in-Ok.ensures.no_more;
       printed = printed;
-    }) c.reordering_text.ensures.text
+    }) (rw c.get.ensures.value at c.reordering_text.ensures.text)

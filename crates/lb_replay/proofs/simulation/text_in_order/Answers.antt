@@ -7,4 +7,4 @@ returns-in-Ok-clause-text g c =
       decision = c.in-Ok.decision;
       refined = c.in-Ok.ensures.refined;
       printed = printed;
-    }) c.ordered_text.ensures.text
+    }) (rw c.get.ensures.value at c.ordered_text.ensures.text)

@@ -11,16 +11,16 @@ use Rattle.rts_run.proofs.opened_run.OpenedRun.new.Goals as goal
 pub invariant_of-result : goal.invariant_of-result
 invariant_of-result g c =
     let n = c.element_count-n.result in
-    let opens : c.in_ok-states.states.items ≡ opening_pes g.H.Openings.pes g.H.Openings.opened = c.in_ok-states.ensures.value ∙ (ap (λ v. opening_pes v c.args.chares.items) c.requires.run ∙ ap (opening_pes g.H.Openings.pes) c.requires.opened) in
+    let opens : c.in_ok-states.states.items ≡ opening_pes g.H.Openings.pes g.H.Openings.opened = c.in_ok-states.ensures.value ∙ (ap (λ v. opening_pes v c.args.chares.items) (c.of-pes.ensures.value ∙ c.requires.run) ∙ ap (opening_pes g.H.Openings.pes) c.requires.opened) in
     let some : 1 ≤ g.H.Openings.pes = omega (arith, c.requires.run, c.requires.within.some_pe) in
     let counts = c.element_count-n.ensures.value ∙ ap length c.deref.ensures.value in
     let all : n ≡ length g.H.Openings.opened = counts ∙ ap length c.requires.opened in
-    let homes : length c.in_ok-homes.homes.items ≡ n = ap length c.in_ok-homes.ensures.value ∙ length-map-range_with_len (λ e. home e n c.args.config.now.pes) 0 n in
+    let homes : length c.in_ok-homes.homes.items ≡ n = ap length c.in_ok-homes.ensures.value ∙ length-map-range_with_len (λ e. home e n c.of-pes.result) 0 n in
     let board : elements c.in_ok-board.board.database ≡ n = ap (λ b. elements b.database) c.in_ok-board.ensures.made ∙ length-replicate {A = ℕ} n 0 in (
       record {
         account = rw opens (opening_account g.C.Chare.step g.H.Openings.pes g.H.Openings.opened some);
         in_order = rw opens (opens_in_order g.H.Openings.pes g.H.Openings.opened some);
-        counted = c.in_ok-states.ensures.counted ∙ c.requires.run;
+        counted = c.in_ok-states.ensures.counted ∙ (c.of-pes.ensures.value ∙ c.requires.run);
         served = c.in_ok-post.ensures.served ∙ c.requires.run;
         shared = length-map c.in_ok-post.seats.items (λ s. s.seats) ∙ (c.in_ok-post.ensures.seated ∙ c.requires.run);
         all_seats = sum_by-map (λ n. n) (λ s. s.seats) c.in_ok-post.seats.items ∙ c.in_ok-post.ensures.all_seats;
