@@ -2,31 +2,19 @@
 -- algorithms for 1D partitioning", Journal of Parallel and Distributed Computing 64(8), 2004, for the least division; the
 -- Charm++ manual's RefineLB, for a balance that moves little. That each is exact is this project's choice.
 use Rattle.std.specs.Prelude.{ℕ, ◌<◌, List, length}
-use Rattle.chain_partition.specs.Chosen.{IsChosen}
-use Rattle.lb_certificates.specs.Chain.{IsDivision, IsLeastDivision}
-use Rattle.lb_certificates.specs.Naming.{IsCheapest, IsLeastNaming, IsNaming}
-use Rattle.lb_strategy.specs.Decisions.{IsRight}
+use Rattle.lb_certificates.specs.Chain.{IsDivision}
+use Rattle.lb_certificates.specs.Naming.{IsNaming}
+use Rattle.lb_strategy.specs.Decisions.{IsPlanned}
 use Rattle.lb_strategy.specs.Moves.{HasPlace}
-use Rattle.lb_strategy.specs.declared.decision.Decision.{Decision}
 use Rattle.lb_refinement.specs.Refined.{ArePricesSmall, IsRefined, refined_cuts, refined_names}
 use Rattle.lb_refinement.specs.declared.refined.Refined.{Refined}
 use Rattle.lb_refinement.specs.declared.refined.Refined.TheVariants.{Near, Planned}
 use Rattle.at_sync.specs.declared.strategy.Strategy.{Strategy}
 use Rattle.at_sync.specs.declared.strategy.Strategy.TheVariants.{Least, Refine}
 
--- A decision is best for these loads and sizes: every part of it is right, its division is the chosen one, and its naming
--- the first of the cheapest. So no division has a lighter heaviest block, no naming of the blocks moves fewer bytes, and
--- the loads and the sizes determine all of it except its prices.
-pub record IsBest {A : Type 0} (loads : List ℕ) (sizes : List (ℕ × ℕ)) (pes : ℕ) (d : Decision A) : Type 0 where
-  pub right : IsRight loads sizes pes d
-  pub chosen : IsChosen loads pes d.division
-  pub least : IsLeastDivision loads pes d.division.bottleneck d.division.cuts
-  pub cheapest : IsCheapest sizes d.division.cuts pes d.naming
-  pub least_naming : IsLeastNaming sizes d.division.cuts pes d.naming
-
--- what a strategy decides: `Least` the best decision, and `Refine` the refined one within its tolerance
+-- what a strategy decides: `Least` the decision that is planned, and `Refine` the refined one within its tolerance
 abbrev pub IsDecidedBy : {A : Type 0} → Strategy → List ℕ → List (ℕ × ℕ) → ℕ → Refined A → Type 0
-IsDecidedBy Least loads sizes pes (Planned d) = IsBest loads sizes pes d
+IsDecidedBy Least loads sizes pes (Planned d) = IsPlanned loads sizes pes d
 IsDecidedBy Least loads sizes pes (Near k) = ⊥
 IsDecidedBy (Refine tolerance) loads sizes pes r = IsRefined loads sizes pes tolerance r
 

@@ -2,9 +2,10 @@
 
 ghost use Rattle.std.specs.Prelude.{◌≡◌, ◌≤◌, IfOk};
 ghost use Rattle.std.specs.Option.{option_map_or};
+ghost use Rattle.lb_strategy.specs.Decisions.{IsPlanned};
 ghost use Rattle.lb_refinement.specs.declared.refined.Refined.TheVariants.{Planned};
 ghost use Rattle.at_sync.specs.declared.strategy.Strategy.TheVariants.{Least, Refine};
-ghost use Rattle.at_sync.specs.Strategies.{IsBest, IsDecidedBy, PlacesAll};
+ghost use Rattle.at_sync.specs.Strategies.{IsDecidedBy, PlacesAll};
 
 use chain_refinement::Tolerance;
 use chare_index::{Gate, Limits, Pes};
@@ -48,8 +49,8 @@ impl Strategy {
     {
         match self {
             Strategy::Least => {
-                let best = best(alloc, snapshot, pes)?;
-                Ok(Refined::Planned(best))
+                let decision = planned(alloc, snapshot, pes)?;
+                Ok(Refined::Planned(decision))
             }
             Strategy::Refine(tolerance) => refine(alloc, snapshot, pes, tolerance),
         }
@@ -72,8 +73,8 @@ impl Strategy {
     {
         match self {
             Strategy::Least => {
-                let best = best_with(rt, alloc, snapshot, pes, workers, gate)?;
-                Ok(Refined::Planned(best))
+                let decision = planned_with(rt, alloc, snapshot, pes, workers, gate)?;
+                Ok(Refined::Planned(decision))
             }
             Strategy::Refine(tolerance) => {
                 refine_with(rt, alloc, snapshot, pes, tolerance, workers, gate)
@@ -83,13 +84,13 @@ impl Strategy {
 }
 
 // The plan.
-#[tactic(auto, using(crate::proofs::Placed::best_places))]
-fn best<A: Allocator + Copy, B: Allocator>(
+#[tactic(auto, using(crate::proofs::Placed::planned_places))]
+fn planned<A: Allocator + Copy, B: Allocator>(
     alloc: A,
     snapshot: &Snapshot<B>,
     pes: Pes,
 ) -> Result<Decision<A>, AllocError>
-    ensures best { IfOk result (IsBest snapshot.now.loads snapshot.now.sizes pes) }
+    ensures planned { IfOk result (IsPlanned snapshot.now.loads snapshot.now.sizes pes) }
     ensures placed { IfOk result (λ d. PlacesAll snapshot.now.loads snapshot.now.sizes pes (Planned d)) }
 {
     match plan(alloc, snapshot, pes.get()) {
@@ -99,8 +100,8 @@ fn best<A: Allocator + Copy, B: Allocator>(
 }
 
 // The same, with the division found by several workers.
-#[tactic(auto, using(crate::proofs::Placed::best_places))]
-fn best_with<R: Threads + Sync, G: Gate + Sync, A: Allocator + Copy, B: Allocator>(
+#[tactic(auto, using(crate::proofs::Placed::planned_places))]
+fn planned_with<R: Threads + Sync, G: Gate + Sync, A: Allocator + Copy, B: Allocator>(
     rt: &R,
     alloc: A,
     snapshot: &Snapshot<B>,
@@ -110,7 +111,7 @@ fn best_with<R: Threads + Sync, G: Gate + Sync, A: Allocator + Copy, B: Allocato
 ) -> Result<Decision<A>, AllocError>
     requires some_worker { 1 ≤ workers }
     requires few_workers { workers ≤ Limits.PROBE_WORKERS }
-    ensures best { IfOk result (IsBest snapshot.now.loads snapshot.now.sizes pes) }
+    ensures planned { IfOk result (IsPlanned snapshot.now.loads snapshot.now.sizes pes) }
     ensures placed { IfOk result (λ d. PlacesAll snapshot.now.loads snapshot.now.sizes pes (Planned d)) }
 {
     match plan_with(rt, alloc, snapshot, pes.get(), workers, gate) {

@@ -11,7 +11,7 @@ use Rattle.chain_refinement.specs.Orders.{IsPresentOrder}
 use Rattle.chain_refinement.specs.Refinement.{AreNearest, AreProved, AreWithin}
 use Rattle.chain_refinement.specs.Tolerances.{limit_of}
 use Rattle.lb_strategy.specs.declared.decision.Decision.{Decision}
-use Rattle.lb_refinement.specs.Refined.{least_load, refined_moved, IsKept, IsPlanned, IsRefined}
+use Rattle.lb_refinement.specs.Refined.{least_load, refined_moved, IsKept, IsRefined, IsThePlan}
 use Rattle.lb_refinement.specs.declared.refined.Kept.{Kept}
 use Rattle.lb_refinement.specs.declared.refined.Refined.{Refined}
 use Rattle.lb_refinement.specs.declared.refined.Refined.TheVariants.{Near, Planned}
@@ -26,7 +26,7 @@ use Rattle.lb_lists.proofs.Plans.{certified_by_stops, chosen_by_stops}
 abbrev pub standing_of : {A : Type 0} → Kept A → Standing
 standing_of k = record { order = k.refinement.order; present = k.refinement.present; heights = k.refinement.heights }
 
-pub told_plan : {A : Type 0} (run : Listed) (pes : ℕ) (d : Decision A) → IsPlanned run.loads (sizes_of run) pes d → IsToldPlan run pes (told_of_plan d)
+pub told_plan : {A : Type 0} (run : Listed) (pes : ℕ) (d : Decision A) → IsThePlan run.loads (sizes_of run) pes d → IsToldPlan run pes (told_of_plan d)
 told_plan run pes d planned =
     record {
       right = record {
@@ -69,7 +69,7 @@ plans_move_once run pes one other this that =
     this.right.moved ∙ same_moved (sizes_of run) pes one.cuts other.cuts one.names other.names cuts this.right.least_naming that.right.least_naming ∙ sym that.right.moved
 
 plan_moves : {A : Type 0} (run : Listed) (pes : ℕ) (d : Decision A) (places : List ℕ) (bottleneck moved : ℕ)
-    → IsPlanned run.loads (sizes_of run) pes d → IsPlan run pes places bottleneck moved → d.moved ≡ moved
+    → IsThePlan run.loads (sizes_of run) pes d → IsPlan run pes places bottleneck moved → d.moved ≡ moved
 plan_moves run pes d places bottleneck moved planned plan =
     let told : IsToldPlan run pes (told_of_plan d) = told_plan run pes d planned in
     let division : told_division (told_of_plan d) ≡ division_of bottleneck plan.cuts plan.stops = only_from_chosen run.loads pes _ plan.chosen _ told.right.chosen in

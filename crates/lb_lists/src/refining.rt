@@ -1,15 +1,12 @@
 //! Decisions within a tolerance.
 
 ghost use Rattle.std.specs.Prelude.{◌≡◌, ◌≤◌, ◌<◌, ◌+◌, ◌↔◌, false, true, ℕ, IsTrue, List, length, take, drop, IfOk, IfErr, OnOk, OnErr};
-ghost use Rattle.lb_certificates.specs.Chain.{peak, IsDivision};
-ghost use Rattle.lb_certificates.specs.Naming.{IsNaming};
+ghost use Rattle.lb_certificates.specs.Chain.{peak};
 ghost use Rattle.lb_strategy.specs.Decisions.{ArePricesBounded};
 ghost use Rattle.chain_refinement.specs.Orders.{IsPresentOrder};
 ghost use Rattle.chain_refinement.specs.Refinement.{AreWithin};
 ghost use Rattle.chain_refinement.specs.Tolerances.{limit_of};
-ghost use Rattle.lb_strategy.specs.Moves.{HasPlace};
-ghost use Rattle.lb_strategy.specs.declared.decision.Decision.{Decision};
-ghost use Rattle.lb_refinement.specs.Refined.{least_load, refined_bottleneck, refined_cuts, refined_moved, refined_names, ArePricesSmall, IsPlanned, IsRefined};
+ghost use Rattle.lb_refinement.specs.Refined.{IsDecidedWithin};
 ghost use Rattle.lb_lists.specs.Plans.{IsPlan};
 ghost use Rattle.lb_lists.specs.Places.{ArePlaces};
 ghost use Rattle.lb_lists.specs.RefinedRooms.{standing_in, standing_lists_in, told_in, HasRefinedRoom, HasStandingListsOf, HasStandingRoom, IsStandingIn};
@@ -77,16 +74,7 @@ pub fn refine_run<A: Allocator + Copy>(
     pes: u32,
     tolerance: Tolerance,
 ) -> Result<Refined<A>, RefineError>
-    ensures refined { IfOk result (IsRefined run.now.loads (sizes_of run.now) pes tolerance) }
-    ensures blocks { IfOk result (λ r. IsDivision 0 (length run.now.loads) pes (refined_cuts r)) }
-    ensures naming { IfOk result (λ r. IsNaming pes (refined_names r)) }
-    ensures peak { IfOk result (λ r. refined_bottleneck r ≡ peak run.now.loads (refined_cuts r)) }
-    ensures within { IfOk result (λ r. refined_bottleneck r ≤ limit_of (least_load r) tolerance) }
-    ensures no_more { IfOk result (λ r. (d : Decision A) → IsPlanned run.now.loads (sizes_of run.now) pes d → refined_moved r ≤ d.moved) }
-    ensures kept_whole { IfOk result (λ r. (names present : List ℕ) → IsPresentOrder (sizes_of run.now) pes names present
-        → AreWithin run.now.loads names (limit_of (least_load r) tolerance) present → refined_moved r ≡ 0) }
-    ensures places { IfOk result (λ r. (i : ℕ) → i < length (sizes_of run.now) → HasPlace (refined_cuts r) (refined_names r) i) }
-    ensures bounded { IfOk result (ArePricesSmall (sizes_of run.now)) }
+    ensures decided { IfOk result (IsDecidedWithin run.now.loads (sizes_of run.now) pes tolerance) }
     ensures asked { OnOk result (IsAsked run.now pes) }
     ensures small { OnOk result (AreSmall run.now.loads) }
     ensures fits { OnOk result (FitsSnapshot run.now pes) }

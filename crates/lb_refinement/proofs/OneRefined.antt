@@ -5,6 +5,7 @@ use Rattle.lb_certificates.specs.Chain.{peak}
 use Rattle.lb_certificates.specs.Naming.{bytes_moved, IsLeastNaming}
 use Rattle.lb_certificates.specs.declared.division.Division.{Division}
 use Rattle.lb_certificates.proofs.LeastNamings.{one_least}
+use Rattle.lb_strategy.specs.Decisions.{IsPlanned}
 use Rattle.lb_strategy.specs.Moves.{moves_below}
 use Rattle.lb_strategy.specs.declared.decision.Decision.{Decision}
 use Rattle.lb_strategy.proofs.OneDecisions.{IsSame, one_decision}
@@ -12,7 +13,7 @@ use Rattle.chain_refinement.specs.Refinement.{AreNearest, refined_limit}
 use Rattle.chain_refinement.specs.Tolerances.{limit_of}
 use Rattle.chain_refinement.proofs.Nearest.{one_is_nearest}
 use Rattle.chain_refinement.proofs.OneOrder.{one_order}
-use Rattle.lb_refinement.specs.Refined.{AreSame, IsKept, IsPlanned, IsRefined}
+use Rattle.lb_refinement.specs.Refined.{AreSame, IsKept, IsRefined, IsThePlan}
 use Rattle.lb_refinement.specs.declared.refined.Kept.{Kept}
 use Rattle.lb_refinement.specs.declared.refined.Refined.{Refined}
 use Rattle.lb_refinement.specs.declared.refined.Refined.TheVariants.{Near, Planned}
@@ -53,7 +54,12 @@ one_kept {A = A} loads sizes pes tolerance k e one other =
     naming : k.naming ≡ e.naming
     naming = one_least pes (bytes_moved sizes k.refinement.cuts) k.naming e.naming one.least_naming (subst (λ xs. IsLeastNaming sizes xs pes e.naming) (sym cuts) other.least_naming)
 
-pub one_planned : {A : Type 0} (loads : List ℕ) (sizes : List (ℕ × ℕ)) (pes : ℕ) (d e : Decision A) → IsPlanned loads sizes pes d → IsPlanned loads sizes pes e → IsSame d e
+-- what is planned is the plan
+pub the_plan : {A : Type 0} (loads : List ℕ) (sizes : List (ℕ × ℕ)) (pes : ℕ) (d : Decision A) → IsPlanned loads sizes pes d → IsThePlan loads sizes pes d
+the_plan loads sizes pes d planned =
+    record { right = planned.right; chosen = planned.chosen; least_naming = planned.least_naming }
+
+pub one_planned : {A : Type 0} (loads : List ℕ) (sizes : List (ℕ × ℕ)) (pes : ℕ) (d e : Decision A) → IsThePlan loads sizes pes d → IsThePlan loads sizes pes e → IsSame d e
 one_planned loads sizes pes d e one other =
     one_decision loads sizes pes d e one.chosen other.chosen one.least_naming other.least_naming one.right other.right
 

@@ -9,16 +9,17 @@ use Rattle.lb_strategy.specs.declared.decision.Decision.{Decision}
 use Rattle.lb_strategy.proofs.RightDecisions.{least_from_right, place_from_named, place_from_right}
 use Rattle.chain_refinement.specs.Refinement.{refined_limit}
 use Rattle.chain_refinement.specs.Tolerances.{limit_of}
-use Rattle.lb_refinement.specs.Refined.{ArePricesSmall, IsCheaper, IsKept, IsPlanned, IsRefined, least_load, refined_bottleneck, refined_cuts, refined_moved, refined_names}
+use Rattle.lb_refinement.specs.Refined.{ArePricesSmall, IsCheaper, IsDecidedWithin, IsKept, IsRefined, IsThePlan, least_load, refined_bottleneck, refined_cuts, refined_moved, refined_names}
 use Rattle.lb_refinement.specs.declared.refined.Kept.{Kept}
 use Rattle.lb_refinement.specs.declared.refined.Refined.{Refined}
 use Rattle.lb_refinement.specs.declared.refined.Refined.TheVariants.{Near, Planned}
+use Rattle.lb_refinement.proofs.KeptWhole.{whole}
 use Rattle.lb_refinement.proofs.OneRefined.{one_planned}
 
 -- the cheaper of the two is the refined decision
-pub cheaper_is : {A : Type 0} (loads : List ℕ) (sizes : List (ℕ × ℕ)) (pes tolerance : ℕ) (planned : Decision A) (kept : Kept A) (r : Refined A) → IsPlanned loads sizes pes planned → IsKept loads sizes pes tolerance kept → IsCheaper planned kept r → IsRefined loads sizes pes tolerance r
+pub cheaper_is : {A : Type 0} (loads : List ℕ) (sizes : List (ℕ × ℕ)) (pes tolerance : ℕ) (planned : Decision A) (kept : Kept A) (r : Refined A) → IsThePlan loads sizes pes planned → IsKept loads sizes pes tolerance kept → IsCheaper planned kept r → IsRefined loads sizes pes tolerance r
 cheaper_is loads sizes pes tolerance planned kept (Planned d) one other (same, no_more) =
-    (subst (IsPlanned loads sizes pes) (sym same) one, inr (kept, other, subst (λ (e : Decision _). e.moved ≤ kept.moved) (sym same) no_more))
+    (subst (IsThePlan loads sizes pes) (sym same) one, inr (kept, other, subst (λ (e : Decision _). e.moved ≤ kept.moved) (sym same) no_more))
 cheaper_is loads sizes pes tolerance planned kept (Near k) one other (same, less) =
     (subst (IsKept loads sizes pes tolerance) (sym same) other, (planned, one, subst (λ (e : Kept _). e.moved < planned.moved) (sym same) less))
 
@@ -50,7 +51,7 @@ pub naming : {A : Type 0} (loads : List ℕ) (sizes : List (ℕ × ℕ)) (pes to
 naming loads sizes pes tolerance (Planned d) refined = refined.0.least_naming.naming
 naming loads sizes pes tolerance (Near k) refined = refined.0.least_naming.naming
 
-pub no_more : {A : Type 0} (loads : List ℕ) (sizes : List (ℕ × ℕ)) (pes tolerance : ℕ) (r : Refined A) → IsRefined loads sizes pes tolerance r → (d : Decision A) → IsPlanned loads sizes pes d → refined_moved r ≤ d.moved
+pub no_more : {A : Type 0} (loads : List ℕ) (sizes : List (ℕ × ℕ)) (pes tolerance : ℕ) (r : Refined A) → IsRefined loads sizes pes tolerance r → (d : Decision A) → IsThePlan loads sizes pes d → refined_moved r ≤ d.moved
 no_more loads sizes pes tolerance (Planned e) refined d planned =
     omega (arith, (one_planned loads sizes pes e d refined.0 planned).moved)
 no_more loads sizes pes tolerance (Near k) (kept, (e, also, less)) d planned =
@@ -67,3 +68,18 @@ bounded loads sizes pes tolerance planned kept (Planned d) one other (same, no_m
     subst (HasBoundedPrices sizes) (sym same) one
 bounded loads sizes pes tolerance planned kept (Near k) one other (same, less) =
     (subst (IsKept loads sizes pes tolerance) (sym same) other).bounded
+
+-- what holds of the refined decision with its prices
+pub decided_within : {A : Type 0} (loads : List ℕ) (sizes : List (ℕ × ℕ)) (pes tolerance : ℕ) (r : Refined A) → IsRefined loads sizes pes tolerance r → ArePricesSmall sizes r → IsDecidedWithin loads sizes pes tolerance r
+decided_within loads sizes pes tolerance r refined prices =
+    record {
+      refined = refined;
+      blocks = blocks loads sizes pes tolerance r refined;
+      naming = naming loads sizes pes tolerance r refined;
+      peak = bottleneck_is loads sizes pes tolerance r refined;
+      within = within loads sizes pes tolerance r refined;
+      no_more = no_more loads sizes pes tolerance r refined;
+      kept_whole = λ names present order inside. whole loads sizes pes tolerance r names present refined order inside;
+      places = places loads sizes pes tolerance r refined;
+      bounded = prices;
+    }

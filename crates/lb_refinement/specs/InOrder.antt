@@ -9,7 +9,7 @@ use Rattle.lb_strategy.specs.Moves.{moves_below}
 use Rattle.chain_refinement.specs.Orders.{IsPresentOrder}
 use Rattle.chain_refinement.specs.Refinement.{AreNearest, IsRefinement, refined_limit}
 use Rattle.chain_refinement.specs.NoOrders.{HasNoOrder}
-use Rattle.lb_refinement.specs.Refined.{IsPlanned}
+use Rattle.lb_refinement.specs.Refined.{IsThePlan}
 use Rattle.lb_refinement.specs.declared.in_order.KeptInOrder.{KeptInOrder}
 use Rattle.lb_refinement.specs.declared.in_order.RefinedInOrder.{RefinedInOrder}
 use Rattle.lb_refinement.specs.declared.in_order.RefinedInOrder.TheVariants.{Near, Planned}
@@ -28,7 +28,7 @@ pub record IsKeptInOrder {A : Type 0} (loads : List ℕ) (sizes : List (ℕ × �
 
 -- The decision that keeps the order: the cuts near the present ones, or, where the PEs have no order, the plan.
 abbrev pub IsRefinedInOrder : {A : Type 0} → List ℕ → List (ℕ × ℕ) → ℕ → ℕ → RefinedInOrder A → Type 0
-IsRefinedInOrder {A} loads sizes pes tolerance (Planned d) = IsPlanned loads sizes pes d × HasNoOrder sizes pes
+IsRefinedInOrder {A} loads sizes pes tolerance (Planned d) = IsThePlan loads sizes pes d × HasNoOrder sizes pes
 IsRefinedInOrder {A} loads sizes pes tolerance (Near k) = IsKeptInOrder loads sizes pes tolerance k
 
 -- the cuts, the names and the bytes that move: block b of kept cuts runs on the PE that is at place b of the order

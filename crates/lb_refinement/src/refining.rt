@@ -1,16 +1,10 @@
-ghost use Rattle.std.specs.Prelude.{◌≡◌, ◌<◌, ◌≤◌, ℕ, List, length, IfOk};
+ghost use Rattle.std.specs.Prelude.{◌≡◌, ◌≤◌, IfOk};
 ghost use Rattle.chain_partition.specs.Chosen.{IsChosen};
 ghost use Rattle.lb_certificates.specs.Certificate.{IsCertified};
-ghost use Rattle.lb_certificates.specs.Naming.{AreBlocks, IsNaming};
-ghost use Rattle.lb_certificates.specs.Chain.{IsDivision, peak};
-ghost use Rattle.lb_strategy.specs.Decisions.{HasBoundedPrices};
-ghost use Rattle.lb_strategy.specs.Moves.{HasPlace};
-ghost use Rattle.lb_strategy.specs.declared.decision.Decision.{Decision};
+ghost use Rattle.lb_certificates.specs.Naming.{AreBlocks};
+ghost use Rattle.lb_strategy.specs.Decisions.{IsPlanned};
 ghost use Rattle.chain_refinement.specs.Orders.{IsPresentOrder};
-ghost use Rattle.chain_refinement.specs.Refinement.{AreWithin};
-ghost use Rattle.chain_refinement.specs.Tolerances.{limit_of};
-ghost use Rattle.lb_refinement.specs.Refined.{ArePricesSmall, HasNames, IsCheaper, IsKept, IsPlanned, IsRefined, least_load};
-ghost use Rattle.lb_refinement.specs.Refined.{refined_bottleneck, refined_cuts, refined_moved, refined_names};
+ghost use Rattle.lb_refinement.specs.Refined.{HasNames, IsCheaper, IsDecidedWithin, IsKept};
 
 use crate::heaviest::greatest_load;
 use crate::refined::{Kept, Refined};
@@ -42,16 +36,7 @@ pub fn refine<A: Allocator + Copy, B: Allocator>(
     pes: Pes,
     tolerance: Tolerance,
 ) -> Result<Refined<A>, AllocError>
-    ensures refined { IfOk result (IsRefined snapshot.now.loads snapshot.now.sizes pes tolerance) }
-    ensures blocks { IfOk result (λ r. IsDivision 0 (length snapshot.now.loads) pes (refined_cuts r)) }
-    ensures naming { IfOk result (λ r. IsNaming pes (refined_names r)) }
-    ensures peak { IfOk result (λ r. refined_bottleneck r ≡ peak snapshot.now.loads (refined_cuts r)) }
-    ensures within { IfOk result (λ r. refined_bottleneck r ≤ limit_of (least_load r) tolerance) }
-    ensures no_more { IfOk result (λ r. (d : Decision A) → IsPlanned snapshot.now.loads snapshot.now.sizes pes d → refined_moved r ≤ d.moved) }
-    ensures kept_whole { IfOk result (λ r. (names present : List ℕ) → IsPresentOrder snapshot.now.sizes pes names present
-        → AreWithin snapshot.now.loads names (limit_of (least_load r) tolerance) present → refined_moved r ≡ 0) }
-    ensures places { IfOk result (λ r. (i : ℕ) → i < length snapshot.now.sizes → HasPlace (refined_cuts r) (refined_names r) i) }
-    ensures bounded { IfOk result (ArePricesSmall snapshot.now.sizes) }
+    ensures decided { IfOk result (IsDecidedWithin snapshot.now.loads snapshot.now.sizes pes tolerance) }
 {
     let planned = planned(alloc, snapshot, pes)?;
     nearer(alloc, snapshot, pes, tolerance, planned)
@@ -75,16 +60,7 @@ pub fn refine_with<R: Threads + Sync, G: Gate + Sync, A: Allocator + Copy, B: Al
 ) -> Result<Refined<A>, AllocError>
     requires some_worker { 1 ≤ workers }
     requires few_workers { workers ≤ Limits.PROBE_WORKERS }
-    ensures refined { IfOk result (IsRefined snapshot.now.loads snapshot.now.sizes pes tolerance) }
-    ensures blocks { IfOk result (λ r. IsDivision 0 (length snapshot.now.loads) pes (refined_cuts r)) }
-    ensures naming { IfOk result (λ r. IsNaming pes (refined_names r)) }
-    ensures peak { IfOk result (λ r. refined_bottleneck r ≡ peak snapshot.now.loads (refined_cuts r)) }
-    ensures within { IfOk result (λ r. refined_bottleneck r ≤ limit_of (least_load r) tolerance) }
-    ensures no_more { IfOk result (λ r. (d : Decision A) → IsPlanned snapshot.now.loads snapshot.now.sizes pes d → refined_moved r ≤ d.moved) }
-    ensures kept_whole { IfOk result (λ r. (names present : List ℕ) → IsPresentOrder snapshot.now.sizes pes names present
-        → AreWithin snapshot.now.loads names (limit_of (least_load r) tolerance) present → refined_moved r ≡ 0) }
-    ensures places { IfOk result (λ r. (i : ℕ) → i < length snapshot.now.sizes → HasPlace (refined_cuts r) (refined_names r) i) }
-    ensures bounded { IfOk result (ArePricesSmall snapshot.now.sizes) }
+    ensures decided { IfOk result (IsDecidedWithin snapshot.now.loads snapshot.now.sizes pes tolerance) }
 {
     let planned = planned_with(rt, alloc, snapshot, pes, workers, gate)?;
     nearer(alloc, snapshot, pes, tolerance, planned)
@@ -101,7 +77,6 @@ pub(crate) fn planned<A: Allocator + Copy, B: Allocator>(
     pes: Pes,
 ) -> Result<Decision<A>, AllocError>
     ensures planned { IfOk result (IsPlanned snapshot.now.loads snapshot.now.sizes pes) }
-    ensures bounded { IfOk result (HasBoundedPrices snapshot.now.sizes) }
 {
     match plan(alloc, snapshot, pes.get()) {
         Ok(decision) => Ok(decision),
@@ -121,7 +96,6 @@ fn planned_with<R: Threads + Sync, G: Gate + Sync, A: Allocator + Copy, B: Alloc
     requires some_worker { 1 ≤ workers }
     requires few_workers { workers ≤ Limits.PROBE_WORKERS }
     ensures planned { IfOk result (IsPlanned snapshot.now.loads snapshot.now.sizes pes) }
-    ensures bounded { IfOk result (HasBoundedPrices snapshot.now.sizes) }
 {
     match plan_with(rt, alloc, snapshot, pes.get(), workers, gate) {
         Ok(decision) => Ok(decision),
@@ -138,17 +112,7 @@ fn nearer<A: Allocator + Copy, B: Allocator>(
     planned: Decision<A>,
 ) -> Result<Refined<A>, AllocError>
     requires planned { IsPlanned snapshot.now.loads snapshot.now.sizes pes planned }
-    requires bounded { HasBoundedPrices snapshot.now.sizes planned }
-    ensures refined { IfOk result (IsRefined snapshot.now.loads snapshot.now.sizes pes tolerance) }
-    ensures blocks { IfOk result (λ r. IsDivision 0 (length snapshot.now.loads) pes (refined_cuts r)) }
-    ensures naming { IfOk result (λ r. IsNaming pes (refined_names r)) }
-    ensures peak { IfOk result (λ r. refined_bottleneck r ≡ peak snapshot.now.loads (refined_cuts r)) }
-    ensures within { IfOk result (λ r. refined_bottleneck r ≤ limit_of (least_load r) tolerance) }
-    ensures no_more { IfOk result (λ r. (d : Decision A) → IsPlanned snapshot.now.loads snapshot.now.sizes pes d → refined_moved r ≤ d.moved) }
-    ensures kept_whole { IfOk result (λ r. (names present : List ℕ) → IsPresentOrder snapshot.now.sizes pes names present
-        → AreWithin snapshot.now.loads names (limit_of (least_load r) tolerance) present → refined_moved r ≡ 0) }
-    ensures places { IfOk result (λ r. (i : ℕ) → i < length snapshot.now.sizes → HasPlace (refined_cuts r) (refined_names r) i) }
-    ensures bounded { IfOk result (ArePricesSmall snapshot.now.sizes) }
+    ensures decided { IfOk result (IsDecidedWithin snapshot.now.loads snapshot.now.sizes pes tolerance) }
 {
     let Some(order) = present_order(alloc, snapshot.sizes(), pes)? else {
         return Ok(Refined::Planned(planned));

@@ -1,13 +1,15 @@
 -- When a decision of a balancing step is right, and what is the first flaw of one that is not.
 use Rattle.std.specs.Prelude.{◌≡◌, ◌≢◌, ◌<◌, ◌≤◌, ℕ, List, length, ◌⊎◌, ℤ}
 use Rattle.block_assignment.specs.Table.{AreWithin}
+use Rattle.chain_partition.specs.Chosen.{IsChosen}
 use Rattle.lb_certificates.specs.Certificate.{IsCertified}
+use Rattle.lb_certificates.specs.Chain.{IsLeastDivision}
 use Rattle.lb_certificates.specs.Flaws.{HasFlaw, HasNamingFlaw, IsFirst}
-use Rattle.lb_certificates.specs.Naming.{block_cost, blocks_between, bytes_moved, IsNamed}
+use Rattle.lb_certificates.specs.Naming.{block_cost, blocks_between, bytes_moved, IsCheapest, IsLeastNaming, IsNamed}
 use Rattle.lb_certificates.specs.declared.flaw.Flaw.{Flaw}
 use Rattle.lb_certificates.specs.declared.flaw.Flaw.TheVariants.{MovedWrong, MovesWrong}
 use Rattle.lb_strategy.specs.declared.decision.Decision.{Decision}
-use Rattle.lb_strategy.specs.Moves.{moves_below}
+use Rattle.lb_strategy.specs.Moves.{moves_below, HasPlace}
 
 -- the bytes that the decision's naming moves
 abbrev pub right_moved : {A : Type 0} → List (ℕ × ℕ) → Decision A → ℕ
@@ -47,6 +49,23 @@ pub record ArePricesBounded (sizes : List (ℕ × ℕ)) (cuts : List ℕ) (u v :
 -- the prices of a decision are bounded
 abbrev pub HasBoundedPrices : {A : Type 0} → List (ℕ × ℕ) → Decision A → Type 0
 HasBoundedPrices sizes d = ArePricesBounded sizes d.division.cuts d.prices.u d.prices.v
+
+-- What is planned for these loads and sizes and this number of PEs. The loads and the sizes determine all of it except its prices.
+pub record IsPlanned {A : Type 0} (loads : List ℕ) (sizes : List (ℕ × ℕ)) (pes : ℕ) (d : Decision A) : Type 0 where
+  -- every part of it is right
+  pub right : IsRight loads sizes pes d
+  -- its division is the chosen one of the least divisions
+  pub chosen : IsChosen loads pes d.division
+  -- no division into as many consecutive blocks has a lighter heaviest block
+  pub least : IsLeastDivision loads pes d.division.bottleneck d.division.cuts
+  -- no naming of these blocks moves fewer bytes
+  pub cheapest : IsCheapest sizes d.division.cuts pes d.naming
+  -- of the namings that move as few, its own is the first in dictionary order
+  pub least_naming : IsLeastNaming sizes d.division.cuts pes d.naming
+  -- each element has a place
+  pub places : (i : ℕ) → i < length sizes → HasPlace d.division.cuts d.naming i
+  -- its prices are bounded
+  pub bounded : HasBoundedPrices sizes d
 
 -- the first flaw of the division
 abbrev pub IsDivisionFlaw : {A : Type 0} → List ℕ → ℕ → Decision A → Flaw → Type 0

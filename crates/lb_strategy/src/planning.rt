@@ -1,10 +1,8 @@
-ghost use Rattle.std.specs.Prelude.{◌≡◌, ◌<◌, ◌≤◌, ℕ, length, IfOk, IfErr};
+ghost use Rattle.std.specs.Prelude.{◌≡◌, ◌≤◌, IfOk, IfErr};
 ghost use Rattle.chain_partition.specs.Chosen.{IsChosen};
 ghost use Rattle.lb_certificates.specs.Certificate.{IsCertified};
-ghost use Rattle.lb_certificates.specs.Chain.{IsLeastDivision};
-ghost use Rattle.lb_certificates.specs.Naming.{AreBlocks, IsCheapest, IsLeastNaming, IsNamed, blocks_between, bytes_moved};
-ghost use Rattle.lb_strategy.specs.Decisions.{ArePricesBounded, HasBoundedPrices, IsRight};
-ghost use Rattle.lb_strategy.specs.Moves.{HasPlace};
+ghost use Rattle.lb_certificates.specs.Naming.{AreBlocks, IsLeastNaming, IsNamed, blocks_between, bytes_moved};
+ghost use Rattle.lb_strategy.specs.Decisions.{ArePricesBounded, IsPlanned};
 ghost use Rattle.lb_strategy.specs.declared.error.PlanError.TheVariants.{OutOfMemory};
 
 use crate::decision::Decision;
@@ -34,13 +32,7 @@ pub fn plan<A: Allocator + Copy, B: Allocator>(
 ) -> Result<Decision<A>, PlanError>
     requires some_pe { 1 ≤ pes }
     requires few_pes { pes ≤ Limits.PES }
-    ensures right { IfOk result (IsRight snapshot.now.loads snapshot.now.sizes pes) }
-    ensures chosen { IfOk result (λ d. IsChosen snapshot.now.loads pes d.division) }
-    ensures least { IfOk result (λ d. IsLeastDivision snapshot.now.loads pes d.division.bottleneck d.division.cuts) }
-    ensures cheapest { IfOk result (λ d. IsCheapest snapshot.now.sizes d.division.cuts pes d.naming) }
-    ensures least_naming { IfOk result (λ d. IsLeastNaming snapshot.now.sizes d.division.cuts pes d.naming) }
-    ensures places { IfOk result (λ d. (i : ℕ) → i < length snapshot.now.sizes → HasPlace d.division.cuts d.naming i) }
-    ensures bounded { IfOk result (HasBoundedPrices snapshot.now.sizes) }
+    ensures planned { IfOk result (IsPlanned snapshot.now.loads snapshot.now.sizes pes) }
     ensures only_memory { IfErr result (λ error. error ≡ OutOfMemory) }
 {
     let division = divide(alloc, snapshot.loads(), pes)?;
@@ -65,13 +57,7 @@ pub fn plan_with<R: Threads + Sync, G: Gate + Sync, A: Allocator + Copy, B: Allo
     requires few_pes { pes ≤ Limits.PES }
     requires some_worker { 1 ≤ workers }
     requires few_workers { workers ≤ Limits.PROBE_WORKERS }
-    ensures right { IfOk result (IsRight snapshot.now.loads snapshot.now.sizes pes) }
-    ensures chosen { IfOk result (λ d. IsChosen snapshot.now.loads pes d.division) }
-    ensures least { IfOk result (λ d. IsLeastDivision snapshot.now.loads pes d.division.bottleneck d.division.cuts) }
-    ensures cheapest { IfOk result (λ d. IsCheapest snapshot.now.sizes d.division.cuts pes d.naming) }
-    ensures least_naming { IfOk result (λ d. IsLeastNaming snapshot.now.sizes d.division.cuts pes d.naming) }
-    ensures places { IfOk result (λ d. (i : ℕ) → i < length snapshot.now.sizes → HasPlace d.division.cuts d.naming i) }
-    ensures bounded { IfOk result (HasBoundedPrices snapshot.now.sizes) }
+    ensures planned { IfOk result (IsPlanned snapshot.now.loads snapshot.now.sizes pes) }
     ensures only_memory { IfErr result (λ error. error ≡ OutOfMemory) }
 {
     let found = divide_with(rt, alloc, snapshot.loads(), pes, workers, gate)?;
@@ -90,13 +76,7 @@ fn complete<A: Allocator + Copy, B: Allocator>(
     requires few_pes { pes ≤ Limits.PES }
     requires chosen { IsChosen snapshot.now.loads pes division }
     requires certified { IsCertified snapshot.now.loads pes division }
-    ensures chosen { IfOk result (λ d. IsChosen snapshot.now.loads pes d.division) }
-    ensures right { IfOk result (IsRight snapshot.now.loads snapshot.now.sizes pes) }
-    ensures least { IfOk result (λ d. IsLeastDivision snapshot.now.loads pes d.division.bottleneck d.division.cuts) }
-    ensures cheapest { IfOk result (λ d. IsCheapest snapshot.now.sizes d.division.cuts pes d.naming) }
-    ensures least_naming { IfOk result (λ d. IsLeastNaming snapshot.now.sizes d.division.cuts pes d.naming) }
-    ensures places { IfOk result (λ d. (i : ℕ) → i < length snapshot.now.sizes → HasPlace d.division.cuts d.naming i) }
-    ensures bounded { IfOk result (HasBoundedPrices snapshot.now.sizes) }
+    ensures planned { IfOk result (IsPlanned snapshot.now.loads snapshot.now.sizes pes) }
     ensures only_memory { IfErr result (λ error. error ≡ OutOfMemory) }
 {
     let sizes = snapshot.sizes();

@@ -2,8 +2,15 @@ use Rattle.std.proofs.Common.{rules}
 use Rattle.lb_strategy.proofs.RightDecisions.{place_from_right}
 use Rattle.chain_refinement.specs.NoOrders.{HasNoOrder}
 use Rattle.lb_refinement.specs.declared.in_order.RefinedInOrder.TheVariants.{Near}
+use Rattle.lb_refinement.proofs.OneRefined.{the_plan}
 use Rattle.lb_refinement.proofs.InOrderCases.{keeps_order, nearest, places, whole, within}
 use Rattle.lb_refinement.proofs.keeping.refine_keeping_order.Goals as goal
+
+pub returns-in_default-clause-refined : goal.returns-in_default-clause-refined
+returns-in_default-clause-refined g c =
+    let s = c.args.snapshot.now in
+    let none : HasNoOrder s.sizes c.args.pes = search rules in
+    (the_plan s.loads s.sizes c.args.pes c.in_ok-planned.field-0 c.in_ok-planned.ensures.planned, none)
 
 pub returns-in_default-clause-nearest : goal.returns-in_default-clause-nearest
 returns-in_default-clause-nearest g c names present order =

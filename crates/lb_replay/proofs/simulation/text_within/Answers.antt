@@ -5,6 +5,6 @@ pub returns-in-Ok-clause-text : goal.returns-in-Ok-clause-text
 returns-in-Ok-clause-text g c =
     IfOk-weaker c.refined_text.result _ _ (λ text printed. record {
       decision = c.in-Ok.decision;
-      refined = c.in-Ok.ensures.refined;
+      refined = c.in-Ok.ensures.decided.refined;
       printed = printed;
     }) (rw c.get.ensures.value at c.refined_text.ensures.text)
