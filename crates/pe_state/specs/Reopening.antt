@@ -8,7 +8,7 @@ abbrev pub address_again : ℕ → ℕ → Option ℕ → Option ℕ
 address_again pes me None = None
 address_again pes me (Some q) = Some (if nat_lt q pes then q else me)
 
--- a parcel with such an address, or with such a look
+-- a parcel with such an address
 abbrev pub readdressed : ℕ → ℕ → Item → Item
 readdressed pes me x = record { parcel = x.parcel; address = address_again pes me x.address }
 
@@ -16,7 +16,7 @@ readdressed pes me x = record { parcel = x.parcel; address = address_again pes m
 abbrev pub parcel_at : ℕ → Parcel → Item
 parcel_at q parcel = record { parcel = parcel; address = Some q }
 
--- the PE with such a look, with such addresses, and with the parcels that its queue held at the back of its outbox, addressed
+-- the PE with such addresses, in its hand too, and with the parcels that its queue held at the back of its outbox, addressed
 -- to itself
 abbrev pub reopened : {C : Type 0} → ℕ → PeView C → List Parcel → PeView C
 reopened pes pe left =

@@ -14,7 +14,7 @@ abbrev pub AreBelow : ℕ → List Item → Type 0
 AreBelow pes [] = Unit {0}
 AreBelow pes (x ∷ xs) = IsBelow pes x.address × AreBelow pes xs
 
--- so is the look of a parcel in a hand
+-- so is the address of a parcel in a hand
 abbrev pub IsHandBelow : ℕ → Option Item → Type 0
 IsHandBelow pes hand = IfSome hand (λ x. IsBelow pes x.address)
 

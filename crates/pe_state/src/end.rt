@@ -25,7 +25,7 @@ pub struct PeEnd<C: Chare<A>, A: Allocator = Global> {
     pub(crate) n: u32,
     // The elements that stand here.
     pub(crate) room: Room<C, A>,
-    // What was taken from the queue last, with the PE that a look gave.
+    // What was taken from the queue last, with the address that a look gave.
     pub(crate) hand: Option<Item<A>>,
     // Letters that came before their element, in the order in which they came.
     pub(crate) shelf: VecDeque<Letter<A>, A>,
@@ -115,7 +115,7 @@ impl<C: Chare<A>, A: Allocator> PeEnd<C, A> {
         self.room.take(index)
     }
 
-    /// The parcel in its hand, with the PE that a look gave.
+    /// The parcel in its hand, with the address that a look gave.
     pub fn hand(&self) -> Option<&Item<A>>
         ensures value { option_copied result ≡ self.now.hand }
     {

@@ -12,7 +12,7 @@ pub type Parcel<C, H, A = Global> = Carried<Letter<A>, PackedElement<C, H, A>>;
 /// A parcel that a PE holds. Its type does not name the array of the run; the type of the PE does.
 pub type HeldParcel<A = Global> = Carried<Letter<A>, Packed<A>>;
 
-/// A parcel that a PE holds, perhaps with a PE: in an outbox the one that it goes to, in a hand the one that a look gave.
+/// A parcel that a PE holds, perhaps with an address: in an outbox the PE that it goes to, in a hand the one that a look gave.
 pub type Item<A = Global> = Addressed<HeldParcel<A>>;
 
 /// The parcel as a PE holds it. The clause `history` says what the type of the parcel said.

@@ -96,17 +96,18 @@ impl<C: Chare<A>, H: Openings<C>, A: Allocator + Copy> PeState<C, H, A> {
         end.kept = None;
     }
 
-    /// The element that [`wants`](PeState::wants) names was looked for, and is believed to be on this PE.
-    pub fn look(&mut self, believed: Pe)
+    /// The element that [`wants`](PeState::wants) names was looked for: its letter gets this address, the PE where it is
+    /// believed to be.
+    pub fn look(&mut self, address: Pe)
         requires wanted { IsSome (wanted self.old) }
-        requires known { believed < H.pes }
-        ensures ok { self.new ≡ looked self.old believed }
+        requires known { address < H.pes }
+        ensures ok { self.new ≡ looked self.old address }
     {
         let Some(_) = self.hand_wants() else {
-            self.look_for_front(believed);
+            self.look_for_front(address);
             return;
         };
-        self.look_for_hand(believed);
+        self.look_for_hand(address);
     }
 
     /// Gives up the front of the outbox, which has an address, and keeps that.
@@ -125,19 +126,19 @@ impl<C: Chare<A>, H: Openings<C>, A: Allocator + Copy> PeState<C, H, A> {
     }
 
     /// The element of the letter at the front of the outbox was looked for, and is believed to be on this PE: gives the
-    /// letter up, and keeps that address. It is a look and then a sending, where the hand is empty.
-    pub fn look_and_send(&mut self, believed: Pe) -> Parcel<C, H, A>
+    /// letter up, and keeps that address. It is a look and then a flush, where the hand is empty.
+    pub fn look_and_flush(&mut self, address: Pe) -> Parcel<C, H, A>
         requires idle { self.old.hand ≡ None }
         requires wanted { IsSome (front_wants self.old.outbox) }
-        requires known { believed < H.pes }
+        requires known { address < H.pes }
         ensures value { front_parcel self.old.outbox ≡ Some result }
-        ensures ok { self.new ≡ gave_up (looked self.old believed) }
+        ensures ok { self.new ≡ gave_up (looked self.old address) }
     {
         let end = &mut self.end;
         let Some(Addressed { parcel, address: _ }) = end.outbox.pop_front() else {
             unreachable!()
         };
-        end.kept = Some(believed);
+        end.kept = Some(address);
         into_parcel(parcel)
     }
 
@@ -252,7 +253,7 @@ impl<C: Chare<A>, H: Openings<C>, A: Allocator> PeState<C, H, A> {
         let _room = self.room();
     }
 
-    /// The element that has to be looked for: that of a letter in the hand without a look, where it does not stand here,
+    /// The element that has to be looked for: that of a letter in the hand without an address, where it does not stand here,
     /// or else that of a letter without an address at the front of the outbox.
     pub fn wants(&self) -> Option<Index>
         ensures value { result ≡ wanted self.now }
@@ -348,37 +349,34 @@ impl<C: Chare<A>, H: Openings<C>, A: Allocator> PeState<C, H, A> {
 }
 
 impl<C: Chare<A>, H: Openings<C>, A: Allocator> PeState<C, H, A> {
-    // Holds a parcel in the hand, perhaps with a look.
-    fn hold(&mut self, parcel: HeldParcel<A>, look: Option<Pe>)
-        requires below { IsBelow H.pes look }
+    // Holds a parcel in the hand, perhaps with an address.
+    fn hold(&mut self, parcel: HeldParcel<A>, address: Option<Pe>)
+        requires below { IsBelow H.pes address }
         requires history { IsParcelHistory C.step C.fits C.pack H.opened parcel }
-        ensures ok { self.new ≡ held self.old parcel look }
+        ensures ok { self.new ≡ held self.old parcel address }
     {
         let end = &mut self.end;
-        end.hand = Some(Addressed {
-            parcel,
-            address: look,
-        });
+        end.hand = Some(Addressed { parcel, address });
     }
 
-    // Gives the parcel in the hand, if there is one, this look.
-    fn look_for_hand(&mut self, to: Pe)
-        requires known { to < H.pes }
-        ensures ok { self.new ≡ record self.old { hand = option_map (at_pe to) self.old.hand; kept = None } }
+    // Gives the parcel in the hand, if there is one, this address.
+    fn look_for_hand(&mut self, address: Pe)
+        requires known { address < H.pes }
+        ensures ok { self.new ≡ record self.old { hand = option_map (at_pe address) self.old.hand; kept = None } }
     {
         let end = &mut self.end;
         end.kept = None;
         let Some(Addressed { parcel, address: _ }) = end.hand.take() else {
             return;
         };
-        self.hold(parcel, Some(to));
+        self.hold(parcel, Some(address));
     }
 
     // Gives the front of the outbox, if there is one, this address.
     #[tactic(auto, using(crate::proofs::Below::rest_below))]
-    fn look_for_front(&mut self, to: Pe)
-        requires known { to < H.pes }
-        ensures ok { self.new ≡ record self.old { outbox = front_at to self.old.outbox; kept = None } }
+    fn look_for_front(&mut self, address: Pe)
+        requires known { address < H.pes }
+        ensures ok { self.new ≡ record self.old { outbox = front_at address self.old.outbox; kept = None } }
     {
         let end = &mut self.end;
         end.kept = None;
@@ -387,7 +385,7 @@ impl<C: Chare<A>, H: Openings<C>, A: Allocator> PeState<C, H, A> {
         };
         end.outbox.push_front_reserved(Addressed {
             parcel,
-            address: Some(to),
+            address: Some(address),
         });
     }
 }

@@ -18,21 +18,21 @@ use pe_state::StepError;
 use std::alloc::Allocator;
 
 // Gives a note to the board, and returns whether the board takes it.
-fn take_note<J: BoardSize, A: Allocator>(board: &mut RunBoard<J, A>, note: &Note) -> bool
+fn report_note<J: BoardSize, A: Allocator>(board: &mut RunBoard<J, A>, note: &Note) -> bool
     ensures taken { MatchBool result (board_after board.old note.now ≡ Some board.new) (board_after board.old note.now ≡ None) }
     ensures refused { MatchBool result (Unit {0}) (board.new ≡ board.old) }
 {
     match note {
         Note::Sync(e, round, units, bytes, at) => {
-            take_sync(board, *e, *round, *units, *bytes, *at)
+            report_sync(board, *e, *round, *units, *bytes, *at)
         }
-        Note::Finish(e) => take_finish(board, *e),
+        Note::Finish(e) => report_finish(board, *e),
     }
 }
 
 // Reports to the board that an element waits for the end of its round.
 #[tactic(auto, using(rts_core::proofs::Notes::sync_taken, rts_core::proofs::Notes::sync_refused, rts_core::proofs::Notes::sync_elsewhere))]
-fn take_sync<J: BoardSize, A: Allocator>(
+fn report_sync<J: BoardSize, A: Allocator>(
     board: &mut RunBoard<J, A>,
     e: Index,
     round: Round,
@@ -52,7 +52,7 @@ fn take_sync<J: BoardSize, A: Allocator>(
 
 // Tells the board that an element has finished.
 #[tactic(auto, using(rts_core::proofs::Notes::finish_taken, rts_core::proofs::Notes::finish_refused))]
-fn take_finish<J: BoardSize, A: Allocator>(board: &mut RunBoard<J, A>, e: Index) -> bool
+fn report_finish<J: BoardSize, A: Allocator>(board: &mut RunBoard<J, A>, e: Index) -> bool
     ensures taken { MatchBool result (board_after board.old (Note.Finish e) ≡ Some board.new) (board_after board.old (Note.Finish e) ≡ None) }
     ensures refused { MatchBool result (Unit {0}) (board.new ≡ board.old) }
 {
@@ -74,7 +74,7 @@ impl<C: Chare<A>, H: Openings<C> + RunStrategy, J: RunBeginning<C>, A: Allocator
     {
         self.pe.known();
         let note = self.pe.next_note()?;
-        if !take_note(board, &note) {
+        if !report_note(board, &note) {
             return None;
         }
         self.pe.note_done();

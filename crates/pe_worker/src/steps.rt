@@ -66,7 +66,7 @@ impl<C: Chare<A>, H: Openings<C>, J: RunBeginning<C>, A: Allocator + Copy> Seate
         let Some(parcel) = post.try_take(&mut self.seat, me) else {
             return Ok(None);
         };
-        let acted = self.pe.receive_and_act(gate, parcel)?;
+        let acted = self.pe.deliver_and_act(gate, parcel)?;
         Ok(Some(acted))
     }
 
@@ -134,7 +134,7 @@ impl<C: Chare<A>, H: Openings<C>, J: RunBeginning<C>, A: Allocator + Copy> Seate
             return None;
         }
         let to = words.look(element);
-        let parcel = self.pe.look_and_send(to);
+        let parcel = self.pe.look_and_flush(to);
         let Err(parcel) = post.try_put(&mut self.seat, to, parcel) else {
             return Some(true);
         };

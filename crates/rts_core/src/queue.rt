@@ -36,7 +36,7 @@ impl<C: Chare<A>, H: Openings<C>, A: Allocator + Copy> Queue<C, H, A> {
     }
 
     /// Moves the front of the outbox of a PE to the back.
-    pub(crate) fn put_from(&mut self, pe: &mut PeState<C, H, A>) -> Result<(), AllocError>
+    pub(crate) fn push_from(&mut self, pe: &mut PeState<C, H, A>) -> Result<(), AllocError>
         requires addressed { IsSome (front_address pe.old.outbox) }
         ensures put { OnOk result (IfSome (front_parcel pe.old.outbox) (λ parcel. self.new ≡ self.old ++ parcel ∷ [])) }
         ensures front { IsSome (front_parcel pe.old.outbox) }
@@ -50,8 +50,8 @@ impl<C: Chare<A>, H: Openings<C>, A: Allocator + Copy> Queue<C, H, A> {
         Ok(())
     }
 
-    /// Takes the parcel at the front.
-    pub(crate) fn take(&mut self) -> Option<Parcel<C, H, A>>
+    /// Pops the parcel at the front.
+    pub(crate) fn pop(&mut self) -> Option<Parcel<C, H, A>>
         ensures taken { MatchOption result ((self.old ≡ []) × (self.new ≡ [])) (λ parcel. self.old ≡ parcel ∷ self.new) }
     {
         self.parcels.pop_front()

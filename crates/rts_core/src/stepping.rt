@@ -14,7 +14,7 @@ use crate::handlers::{act, resume, start};
 use crate::queue::Queue;
 use crate::reports::Reports;
 use crate::sync::{depart, report};
-use crate::transport::{deliver_at, flush, look_up};
+use crate::transport::{deliver_at, flush, look};
 use at_sync::Board;
 use chare_index::Pe;
 use chares::{Chare, Openings};
@@ -47,7 +47,7 @@ pub(crate) fn step_at<C: Chare<A>, H: Openings<C>, A: Allocator + Copy>(
     match event {
         Event::Start(_, e) => start(alloc, pe, e),
         Event::Look(_) => {
-            look_up(pe, words);
+            look(pe, words);
             Ok(Reports::none(alloc))
         }
         Event::Flush(_) => {

@@ -35,7 +35,7 @@ pub(crate) fn report<C: Chare<A>, H: Openings<C>, A: Allocator + Copy>(
         return Ok(Reports::none(alloc));
     };
     let reports = entries_of_note(alloc, &note)?;
-    if !take_note(board, &note) {
+    if !report_note(board, &note) {
         return Ok(Reports::none(alloc));
     }
     pe.note_done();
@@ -54,21 +54,21 @@ fn entries_of_note<A: Allocator>(alloc: A, note: &Note) -> Result<Reports<A>, Al
 }
 
 // Gives a note to the board, and returns whether the board takes it.
-fn take_note<A: Allocator>(board: &mut Board<A>, note: &Note) -> bool
+fn report_note<A: Allocator>(board: &mut Board<A>, note: &Note) -> bool
     ensures taken { MatchBool result (board_after board.old note.now ≡ Some board.new) (board_after board.old note.now ≡ None) }
     ensures refused { MatchBool result (Unit {0}) (board.new ≡ board.old) }
 {
     match note {
         Note::Sync(e, round, units, bytes, at) => {
-            take_sync(board, *e, *round, *units, *bytes, *at)
+            report_sync(board, *e, *round, *units, *bytes, *at)
         }
-        Note::Finish(e) => take_finish(board, *e),
+        Note::Finish(e) => report_finish(board, *e),
     }
 }
 
 // Reports to the board that an element waits for the end of its round.
 #[tactic(auto, using(crate::proofs::Notes::sync_taken, crate::proofs::Notes::sync_refused, crate::proofs::Notes::sync_elsewhere))]
-fn take_sync<A: Allocator>(
+fn report_sync<A: Allocator>(
     board: &mut Board<A>,
     e: Index,
     round: Round,
@@ -88,7 +88,7 @@ fn take_sync<A: Allocator>(
 
 // Reports to the board that an element has finished.
 #[tactic(auto, using(crate::proofs::Notes::finish_taken, crate::proofs::Notes::finish_refused))]
-fn take_finish<A: Allocator>(board: &mut Board<A>, e: Index) -> bool
+fn report_finish<A: Allocator>(board: &mut Board<A>, e: Index) -> bool
     ensures taken { MatchBool result (board_after board.old (Note.Finish e) ≡ Some board.new) (board_after board.old (Note.Finish e) ≡ None) }
     ensures refused { MatchBool result (Unit {0}) (board.new ≡ board.old) }
 {

@@ -13,7 +13,7 @@ use std::alloc::{AllocError, Allocator};
 
 /// Look: a letter of the PE gets the PE that the location word of its element names.
 #[tactic(auto, using(std::proofs::lemmas::Option::gets))]
-pub(crate) fn look_up<C: Chare<A>, H: Openings<C>, A: Allocator + Copy>(
+pub(crate) fn look<C: Chare<A>, H: Openings<C>, A: Allocator + Copy>(
     pe: &mut PeState<C, H, A>,
     words: &[Pe],
 )
@@ -48,7 +48,7 @@ pub(crate) fn flush<C: Chare<A>, H: Openings<C>, A: Allocator + Copy>(
     if queues.len() <= q {
         return Ok(());
     }
-    queues[q].put_from(pe)
+    queues[q].push_from(pe)
 }
 
 /// Deliver: the front of the queue of a PE goes into its hand.
@@ -61,7 +61,7 @@ pub(crate) fn deliver<C: Chare<A>, H: Openings<C>, A: Allocator + Copy>(
     if !pe.as_end().hand().is_none() {
         return;
     }
-    let Some(parcel) = queue.take() else {
+    let Some(parcel) = queue.pop() else {
         return;
     };
     pe.receive(parcel);

@@ -14,7 +14,7 @@ use tally::Tally;
 fn execute<H: Openings<Tally>>(rt: &impl Abort, at: &mut PeState<Tally, H>) {
     let letter = take_front(rt, at);
     assert!(rt; at.as_end().hand().is_none());
-    let executed = at.receive_and_act(&NoGate, letter).expect(rt, "refused");
+    let executed = at.deliver_and_act(&NoGate, letter).expect(rt, "refused");
     assert!(rt; executed);
 }
 

@@ -122,7 +122,7 @@ fn execute<H: Openings<Relay<A>>, A: Allocator + Copy>(
     }
     let parcel = take_front(rt, at);
     assert!(rt; at.as_end().hand().is_none());
-    let acted = at.receive_and_act(&NoGate, parcel)?;
+    let acted = at.deliver_and_act(&NoGate, parcel)?;
     assert!(rt; acted);
     Ok(())
 }

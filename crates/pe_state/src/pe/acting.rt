@@ -31,7 +31,7 @@ use std::collections::VecDeque;
 impl<C: Chare<A>, H: Openings<C>, A: Allocator + Copy> PeState<C, H, A> {
     /// Acts on the parcel in its hand. An element is unpacked into the room, and its letters leave the shelf for the
     /// back of the outbox, addressed to this PE. A letter is executed, where its element stands here and has started.
-    /// Where it does not stand here, a letter with a look goes to the shelf if that names this PE, and otherwise, with
+    /// Where it does not stand here, a letter with an address goes to the shelf if that is this PE, and otherwise, with
     /// one hop more, to the back of the outbox, addressed to the PE that it names. In all other cases it returns `None`
     /// and nothing changes: with an empty hand, with a letter whose element has not started, or that wants a look, and
     /// with an element where one with its index stands already.
@@ -85,15 +85,15 @@ impl<C: Chare<A>, H: Openings<C>, A: Allocator + Copy> PeState<C, H, A> {
 }
 
 impl<C: Chare<A>, H: Openings<C>, A: Allocator + Copy> PeState<C, H, A> {
-    /// Receives a parcel and, where that is a letter whose element stands here and has started, acts on it: a receipt
+    /// Delivers a parcel and, where that is a letter whose element stands here and has started, acts on it: a delivery
     /// and then an act, in which the letter never lies in the hand. It returns whether it acted. Any other parcel lies in
     /// the hand then, as [`receive`](PeState::receive) leaves it.
     ///
     /// # Errors
     ///
-    /// The letter was received and lies in the hand on any of them: [`OutOfMemory`](StepError::OutOfMemory), or what the
+    /// The letter was delivered and lies in the hand on any of them: [`OutOfMemory`](StepError::OutOfMemory), or what the
     /// handler returns.
-    pub fn receive_and_act<G: Gate>(
+    pub fn deliver_and_act<G: Gate>(
         &mut self,
         gate: &G,
         parcel: Parcel<C, H, A>,
@@ -108,7 +108,7 @@ impl<C: Chare<A>, H: Openings<C>, A: Allocator + Copy> PeState<C, H, A> {
         ensures refused { IfErr result (RefusesStep (RefusesAct C.refuses (received self.old parcel))) }
     {
         match parcel {
-            Carried::Letter(letter) => self.receive_letter(gate, letter),
+            Carried::Letter(letter) => self.deliver_letter(gate, letter),
             Carried::Element(element) => {
                 self.receive(Carried::Element(element));
                 Ok(false)
@@ -116,8 +116,8 @@ impl<C: Chare<A>, H: Openings<C>, A: Allocator + Copy> PeState<C, H, A> {
         }
     }
 
-    // Receives a letter, and acts on it where its element stands here and has started.
-    fn receive_letter<G: Gate>(&mut self, gate: &G, letter: Letter<A>) -> Result<bool, StepError>
+    // Delivers a letter, and acts on it where its element stands here and has started.
+    fn deliver_letter<G: Gate>(&mut self, gate: &G, letter: Letter<A>) -> Result<bool, StepError>
         requires empty { self.old.hand ≡ None }
         ensures acted { IfOk result (λ acts. acts ≡ has_started self.old letter.to) }
         ensures ok { IfOk result (λ acts. self.new ≡ (if acts
@@ -155,24 +155,24 @@ impl<C: Chare<A>, H: Openings<C>, A: Allocator + Copy> PeState<C, H, A> {
         &mut self,
         gate: &G,
         letter: Letter<A>,
-        look: Option<Pe>,
+        address: Option<Pe>,
         tracing: bool,
         trace: &mut Vec<TraceEntry, A>,
     ) -> Result<Option<Acted>, StepError>
         requires empty { self.old.hand ≡ None }
-        requires below { IsBelow H.pes look }
-        ensures acts { Acts result (acting_on_letter C.step C.pack self.old letter look) (held self.old (Carried.Letter letter) look) self.new }
+        requires below { IsBelow H.pes address }
+        ensures acts { Acts result (acting_on_letter C.step C.pack self.old letter address) (held self.old (Carried.Letter letter) address) self.new }
         ensures refused { IfErr result (RefusesStep (RefusesParcel C.refuses self.old (Carried.Letter letter))) }
-        ensures traces { Traces result tracing (trace_of (acting_on_letter C.step C.pack self.old letter look)) trace.old.items trace.new.items }
+        ensures traces { Traces result tracing (trace_of (acting_on_letter C.step C.pack self.old letter address)) trace.old.items trace.new.items }
     {
         let Some(element) = self.end.room().element(letter.to()) else {
-            return self.pass_on(letter, look, tracing, trace);
+            return self.pass_on(letter, address, tracing, trace);
         };
         if !element.progress().started {
-            self.hold(Carried::Letter(letter), look);
+            self.hold(Carried::Letter(letter), address);
             return Ok(None);
         }
-        self.execute(gate, letter, look, tracing, trace)?;
+        self.execute(gate, letter, address, tracing, trace)?;
         Ok(Some(Acted::Executed))
     }
 
@@ -181,26 +181,26 @@ impl<C: Chare<A>, H: Openings<C>, A: Allocator + Copy> PeState<C, H, A> {
         &mut self,
         gate: &G,
         letter: Letter<A>,
-        look: Option<Pe>,
+        address: Option<Pe>,
         tracing: bool,
         trace: &mut Vec<TraceEntry, A>,
     ) -> Result<(), StepError>
         requires empty { self.old.hand ≡ None }
-        requires below { IsBelow H.pes look }
+        requires below { IsBelow H.pes address }
         requires stands { IsSome (found letter.to self.old.room) }
         requires started { has_started self.old letter.to ≡ true }
         ensures ok { OnOk result (self.new ≡ (executed C.step C.pack self.old letter).pe) }
-        ensures err { OnErr result (self.new ≡ held self.old (Carried.Letter letter) look) }
+        ensures err { OnErr result (self.new ≡ held self.old (Carried.Letter letter) address) }
         ensures refused { IfErr result (RefusesStep (RefusesParcel C.refuses self.old (Carried.Letter letter))) }
         ensures traces { Traces result tracing (executed C.step C.pack self.old letter).trace trace.old.items trace.new.items }
     {
         let end = &mut self.end;
         let Ok(()) = end.notes.reserve(1) else {
-            self.hold(Carried::Letter(letter), look);
+            self.hold(Carried::Letter(letter), address);
             return Err(StepError::OutOfMemory);
         };
         let Ok(()) = end.outbox.reserve(1) else {
-            self.hold(Carried::Letter(letter), look);
+            self.hold(Carried::Letter(letter), address);
             return Err(StepError::OutOfMemory);
         };
         let handled = lent::execute(
@@ -220,7 +220,7 @@ impl<C: Chare<A>, H: Openings<C>, A: Allocator + Copy> PeState<C, H, A> {
             Ok(note) => note,
             Err(unread) => {
                 let Unread { letter, error } = unread;
-                self.hold(Carried::Letter(letter), look);
+                self.hold(Carried::Letter(letter), address);
                 return Err(StepError::from(error));
             }
         };
@@ -234,25 +234,25 @@ impl<C: Chare<A>, H: Openings<C>, A: Allocator + Copy> PeState<C, H, A> {
     fn pass_on(
         &mut self,
         letter: Letter<A>,
-        look: Option<Pe>,
+        address: Option<Pe>,
         tracing: bool,
         trace: &mut Vec<TraceEntry, A>,
     ) -> Result<Option<Acted>, StepError>
         requires empty { self.old.hand ≡ None }
-        requires below { IsBelow H.pes look }
-        ensures acts { Acts result (passing self.old letter look) (held self.old (Carried.Letter letter) look) self.new }
+        requires below { IsBelow H.pes address }
+        ensures acts { Acts result (passing self.old letter address) (held self.old (Carried.Letter letter) address) self.new }
         ensures only_memory { IfErr result (λ error. error ≡ OutOfMemory) }
-        ensures traces { Traces result tracing (trace_of (passing self.old letter look)) trace.old.items trace.new.items }
+        ensures traces { Traces result tracing (trace_of (passing self.old letter address)) trace.old.items trace.new.items }
     {
-        let Some(to) = look else {
-            self.hold(Carried::Letter(letter), look);
+        let Some(address) = address else {
+            self.hold(Carried::Letter(letter), address);
             return Ok(None);
         };
-        if to == self.end.me() {
-            self.shelve(letter, to, tracing, trace)?;
+        if address == self.end.me() {
+            self.shelve(letter, address, tracing, trace)?;
             return Ok(Some(Acted::Shelved));
         }
-        self.forward(letter, to, tracing, trace)?;
+        self.forward(letter, address, tracing, trace)?;
         Ok(Some(Acted::Forwarded))
     }
 
@@ -260,24 +260,24 @@ impl<C: Chare<A>, H: Openings<C>, A: Allocator + Copy> PeState<C, H, A> {
     fn shelve(
         &mut self,
         letter: Letter<A>,
-        look: Pe,
+        address: Pe,
         tracing: bool,
         trace: &mut Vec<TraceEntry, A>,
     ) -> Result<(), AllocError>
         requires empty { self.old.hand ≡ None }
-        requires below { look < H.pes }
+        requires below { address < H.pes }
         ensures ok { OnOk result (self.new ≡ (shelving self.old letter).pe) }
-        ensures err { OnErr result (self.new ≡ held self.old (Carried.Letter letter) (Some look)) }
+        ensures err { OnErr result (self.new ≡ held self.old (Carried.Letter letter) (Some address)) }
         ensures traces { Traces result tracing (shelving self.old letter).trace trace.old.items trace.new.items }
     {
         let end = &mut self.end;
         let Ok(()) = reserve_entry(trace, tracing) else {
-            self.hold(Carried::Letter(letter), Some(look));
+            self.hold(Carried::Letter(letter), Some(address));
             return Err(AllocError);
         };
         let id = letter.id();
         if let Err(refused) = end.shelf.push_back(letter) {
-            self.hold(Carried::Letter(refused.value), Some(look));
+            self.hold(Carried::Letter(refused.value), Some(address));
             return Err(AllocError);
         }
         add_entry(trace, tracing, TraceEntry::Shelved(id));
@@ -290,30 +290,30 @@ impl<C: Chare<A>, H: Openings<C>, A: Allocator + Copy> PeState<C, H, A> {
     fn forward(
         &mut self,
         mut letter: Letter<A>,
-        to: Pe,
+        address: Pe,
         tracing: bool,
         trace: &mut Vec<TraceEntry, A>,
     ) -> Result<(), AllocError>
         requires empty { self.old.hand ≡ None }
-        requires below { to < H.pes }
-        ensures ok { OnOk result (self.new ≡ (forwarding self.old letter to).pe) }
-        ensures err { OnErr result (self.new ≡ held self.old (Carried.Letter letter) (Some to)) }
-        ensures traces { Traces result tracing (forwarding self.old letter to).trace trace.old.items trace.new.items }
+        requires below { address < H.pes }
+        ensures ok { OnOk result (self.new ≡ (forwarding self.old letter address).pe) }
+        ensures err { OnErr result (self.new ≡ held self.old (Carried.Letter letter) (Some address)) }
+        ensures traces { Traces result tracing (forwarding self.old letter address).trace trace.old.items trace.new.items }
     {
         let end = &mut self.end;
         let Ok(()) = reserve_entry(trace, tracing) else {
-            self.hold(Carried::Letter(letter), Some(to));
+            self.hold(Carried::Letter(letter), Some(address));
             return Err(AllocError);
         };
         let Ok(()) = end.outbox.reserve(1) else {
-            self.hold(Carried::Letter(letter), Some(to));
+            self.hold(Carried::Letter(letter), Some(address));
             return Err(AllocError);
         };
         add_entry(trace, tracing, TraceEntry::Forwarded(letter.id()));
         letter.hop();
         end.outbox.push_back_reserved(Addressed {
             parcel: Carried::Letter(letter),
-            address: Some(to),
+            address: Some(address),
         });
         end.kept = None;
         Ok(())
@@ -326,26 +326,26 @@ impl<C: Chare<A>, H: Openings<C>, A: Allocator + Copy> PeState<C, H, A> {
     fn act_on_element(
         &mut self,
         element: Packed<A>,
-        look: Option<Pe>,
+        address: Option<Pe>,
         tracing: bool,
         trace: &mut Vec<TraceEntry, A>,
     ) -> Result<Option<Acted>, StepError>
         requires empty { self.old.hand ≡ None }
-        requires below { IsBelow H.pes look }
+        requires below { IsBelow H.pes address }
         requires consistent { IsPackedHistory C.step C.fits C.pack H.opened element }
-        ensures acts { Acts result (acting_on_element C.step C.pack C.unpack self.old element) (held self.old (Carried.Element element) look) self.new }
+        ensures acts { Acts result (acting_on_element C.step C.pack C.unpack self.old element) (held self.old (Carried.Element element) address) self.new }
         ensures only_memory { IfErr result (λ error. error ≡ OutOfMemory) }
         ensures traces { Traces result tracing (trace_of (acting_on_element C.step C.pack C.unpack self.old element)) trace.old.items trace.new.items }
     {
         if self.end.room().element(element.index()).is_some() {
-            self.hold(Carried::Element(element), look);
+            self.hold(Carried::Element(element), address);
             return Ok(None);
         }
         let Ok(chare) = element.unpack::<C, H>(self.alloc) else {
-            self.hold(Carried::Element(element), look);
+            self.hold(Carried::Element(element), address);
             return Err(StepError::OutOfMemory);
         };
-        self.install(element, chare, look, tracing, trace)?;
+        self.install(element, chare, address, tracing, trace)?;
         Ok(Some(Acted::Installed))
     }
 }
@@ -357,35 +357,35 @@ impl<C: Chare<A>, H: Openings<C>, A: Allocator + Copy> PeState<C, H, A> {
         &mut self,
         element: Packed<A>,
         chare: C,
-        look: Option<Pe>,
+        address: Option<Pe>,
         tracing: bool,
         trace: &mut Vec<TraceEntry, A>,
     ) -> Result<(), AllocError>
         requires empty { self.old.hand ≡ None }
-        requires below { IsBelow H.pes look }
+        requires below { IsBelow H.pes address }
         requires lacks { found element.index self.old.room ≡ None }
         requires consistent { IsPackedHistory C.step C.fits C.pack H.opened element }
         requires history { IsHistory C.step C.pack H.opened (unpacked element chare) }
         ensures ok { OnOk result (self.new ≡ installed self.old element chare) }
-        ensures err { OnErr result (self.new ≡ held self.old (Carried.Element element) look) }
+        ensures err { OnErr result (self.new ≡ held self.old (Carried.Element element) address) }
         ensures traces { Traces result tracing (TraceEntry.Installed element.index ∷ []) trace.old.items trace.new.items }
     {
         let end = &mut self.end;
         let Ok(()) = reserve_entry(trace, tracing) else {
-            self.hold(Carried::Element(element), look);
+            self.hold(Carried::Element(element), address);
             return Err(AllocError);
         };
         let Ok(()) = end.outbox.reserve(end.shelf.len()) else {
-            self.hold(Carried::Element(element), look);
+            self.hold(Carried::Element(element), address);
             return Err(AllocError);
         };
         let Ok(mut rest) = VecDeque::with_capacity(self.alloc, end.shelf.len()) else {
-            self.hold(Carried::Element(element), look);
+            self.hold(Carried::Element(element), address);
             return Err(AllocError);
         };
         let index = element.index();
         if let Err(refused) = end.room.install(element, chare) {
-            self.hold(Carried::Element(refused.value), look);
+            self.hold(Carried::Element(refused.value), address);
             return Err(AllocError);
         }
         add_entry(trace, tracing, TraceEntry::Installed(index));

@@ -17,7 +17,7 @@ use std::marker::PhantomData;
 
 impl<C: Chare<A>, H: Openings<C>, A: Allocator> PeState<C, H, A> {
     /// Opens a PE again that a run left, on `pes` PEs, with what its queue still held at the back of its outbox, in order and
-    /// addressed to itself. An address, or a look, that names none of the PEs becomes this PE: so what a PE holds need be
+    /// addressed to itself. An address that names none of the PEs becomes this PE: so what a PE holds need be
     /// trusted no more than its type says. The only error is that memory was refused; what was passed is dropped then.
     pub fn reopen(
         alloc: A,
@@ -69,7 +69,7 @@ fn address_again(address: Option<Pe>, pes: u32, me: Pe) -> Option<Pe>
     if to.get() < pes { Some(to) } else { Some(me) }
 }
 
-// What was in a hand, with its look again.
+// What was in a hand, with its address again.
 fn readdress_hand<A: Allocator>(hand: Option<Item<A>>, pes: u32, me: Pe) -> Option<Item<A>>
     ensures value { result ≡ option_map (readdressed pes me) hand }
 {

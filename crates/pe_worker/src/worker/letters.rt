@@ -13,7 +13,7 @@ use chare_index::Gate;
 use chares::{Chare, Openings};
 use std::alloc::Allocator;
 
-/// How many times a turn takes a letter and flushes one, before the worker sees to anything else.
+/// How many times a turn delivers a letter and flushes one, before the worker sees to anything else.
 const LETTERS: usize = 64;
 
 impl<C: Chare<A>, H: Openings<C> + RunStrategy, J: RunBeginning<C>, A: Allocator + Copy> Worker<
@@ -22,7 +22,7 @@ impl<C: Chare<A>, H: Openings<C> + RunStrategy, J: RunBeginning<C>, A: Allocator
     J,
     A,
 > {
-    // Takes a letter and flushes one, again and again while there is one to take or to flush, as often as a turn may. It
+    // Delivers a letter and flushes one, again and again while there is one to deliver or to flush, as often as a turn may. It
     // returns how often.
     pub(super) fn move_letters<G: Gate, V: Watch>(
         &mut self,
@@ -34,18 +34,18 @@ impl<C: Chare<A>, H: Openings<C> + RunStrategy, J: RunBeginning<C>, A: Allocator
         ensures cause { IfErr result (HasCause C.step C.pack C.refuses H.opened) }
     {
         for moved in 0..LETTERS {
-            let taken = self.take_letter(gate, watch, field)?;
+            let delivered = self.deliver_letter(gate, watch, field)?;
             let flushed = self.flush_letter(field);
-            if !taken && !flushed {
+            if !delivered && !flushed {
                 return Ok(moved);
             }
         }
         Ok(LETTERS)
     }
 
-    // Takes a parcel from the queue, if the hand is empty, and acts on it. It returns whether it did anything. Where nobody
+    // Delivers a parcel from the queue, if the hand is empty, and acts on it. It returns whether it did anything. Where nobody
     // follows the steps, a letter whose element stands here goes straight to its handler.
-    fn take_letter<G: Gate, V: Watch>(
+    fn deliver_letter<G: Gate, V: Watch>(
         &mut self,
         gate: &G,
         watch: &V,

@@ -20,7 +20,7 @@ pub returns-in-Look-clause-kept : goal.returns-in-Look-clause-kept
 returns-in-Look-clause-kept g c =
     let d = c.requires.run in
     record {
-      histories = subst (λ (x : PeView g.row.C.Denot). HasHistories g.C.Chare.step g.C.Pup.fits g.C.Pup.pack g.H.Openings.opened x) (sym c.look_up.ensures) (look_event_holds g.C.Chare.step g.C.Pup.fits g.C.Pup.pack g.H.Openings.opened c.args.pe.now c.args.words.now d.histories);
+      histories = subst (λ (x : PeView g.row.C.Denot). HasHistories g.C.Chare.step g.C.Pup.fits g.C.Pup.pack g.H.Openings.opened x) (sym c.look.ensures) (look_event_holds g.C.Chare.step g.C.Pup.fits g.C.Pup.pack g.H.Openings.opened c.args.pe.now c.args.words.now d.histories);
       parcels = d.parcels;
       words_name = d.words_name;
       board_counted = d.board_counted;

@@ -33,12 +33,12 @@ returns-in_default-clause-refused g c = memory_refuses (RefusesParcel g.C.Chare.
 pub returns-then-not-progress-clause-acts : goal.returns-then-not-progress-clause-acts
 returns-then-not-progress-clause-acts g c =
     let some = sym (c.in-Some.ensures.value ∙ ap (λ k. found k c.room.result.now) c.to.ensures.value ∙ ap (λ r. found c.args.letter.to r) c.room.ensures.value ∙ ap (λ (v : PeView g.row.C.Denot). found c.args.letter.to v.room) c.self.view_is) in
-    did_nothing _ _ _ (waits g.C.Chare.step g.C.Pup.pack g.C.Pup.unpack c.args.self.now c.args.letter c.args.look _ _ _ some c.progress.ensures.value c.if-not-progress.true) c.hold.ensures.ok
+    did_nothing _ _ _ (waits g.C.Chare.step g.C.Pup.pack g.C.Pup.unpack c.args.self.now c.args.letter c.args.address _ _ _ some c.progress.ensures.value c.if-not-progress.true) c.hold.ensures.ok
 
 pub returns-then-not-progress-clause-traces : goal.returns-then-not-progress-clause-traces
 returns-then-not-progress-clause-traces g c =
     let some = sym (c.in-Some.ensures.value ∙ ap (λ k. found k c.room.result.now) c.to.ensures.value ∙ ap (λ r. found c.args.letter.to r) c.room.ensures.value ∙ ap (λ (v : PeView g.row.C.Denot). found c.args.letter.to v.room) c.self.view_is) in
-    traced_nothing _ _ _ _ _ (waits g.C.Chare.step g.C.Pup.pack g.C.Pup.unpack c.args.self.now c.args.letter c.args.look _ _ _ some c.progress.ensures.value c.if-not-progress.true) refl
+    traced_nothing _ _ _ _ _ (waits g.C.Chare.step g.C.Pup.pack g.C.Pup.unpack c.args.self.now c.args.letter c.args.address _ _ _ some c.progress.ensures.value c.if-not-progress.true) refl
 
 -- its element executes it
 
@@ -58,7 +58,7 @@ returns-in_err-execute-clause-refused g c = same_error (RefusesStep (RefusesParc
 pub returns-in_err-execute-clause-acts : goal.returns-in_err-execute-clause-acts
 returns-in_err-execute-clause-acts g c =
     let some = sym (c.in-Some.ensures.value ∙ ap (λ k. found k c.room.result.now) c.to.ensures.value ∙ ap (λ r. found c.args.letter.to r) c.room.ensures.value ∙ ap (λ (v : PeView g.row.C.Denot). found c.args.letter.to v.room) c.self.view_is) in
-    did_not _ _ _ _ c.from_residual.ensures.0 (ap is_some (runs g.C.Chare.step g.C.Pup.pack g.C.Pup.unpack c.args.self.now c.args.letter c.args.look _ _ _ some c.progress.ensures.value c.if-not-progress.false)) c.in_err-execute.ensures.err
+    did_not _ _ _ _ c.from_residual.ensures.0 (ap is_some (runs g.C.Chare.step g.C.Pup.pack g.C.Pup.unpack c.args.self.now c.args.letter c.args.address _ _ _ some c.progress.ensures.value c.if-not-progress.false)) c.in_err-execute.ensures.err
 
 pub returns-in_err-execute-clause-traces : goal.returns-in_err-execute-clause-traces
 returns-in_err-execute-clause-traces g c = untraced _ _ _ _ _ c.from_residual.ensures.0 c.in_err-execute.ensures.traces.err
@@ -66,9 +66,9 @@ returns-in_err-execute-clause-traces g c = untraced _ _ _ _ _ c.from_residual.en
 pub returns-clause-acts : goal.returns-clause-acts
 returns-clause-acts g c =
     let some = sym (c.in-Some.ensures.value ∙ ap (λ k. found k c.room.result.now) c.to.ensures.value ∙ ap (λ r. found c.args.letter.to r) c.room.ensures.value ∙ ap (λ (v : PeView g.row.C.Denot). found c.args.letter.to v.room) c.self.view_is) in
-    did _ _ _ _ (runs g.C.Chare.step g.C.Pup.pack g.C.Pup.unpack c.args.self.now c.args.letter c.args.look _ _ _ some c.progress.ensures.value c.if-not-progress.false) c.in_ok-execute.ensures.ok
+    did _ _ _ _ (runs g.C.Chare.step g.C.Pup.pack g.C.Pup.unpack c.args.self.now c.args.letter c.args.address _ _ _ some c.progress.ensures.value c.if-not-progress.false) c.in_ok-execute.ensures.ok
 
 pub returns-clause-traces : goal.returns-clause-traces
 returns-clause-traces g c =
     let some = sym (c.in-Some.ensures.value ∙ ap (λ k. found k c.room.result.now) c.to.ensures.value ∙ ap (λ r. found c.args.letter.to r) c.room.ensures.value ∙ ap (λ (v : PeView g.row.C.Denot). found c.args.letter.to v.room) c.self.view_is) in
-    traced_so _ _ _ _ _ _ (runs g.C.Chare.step g.C.Pup.pack g.C.Pup.unpack c.args.self.now c.args.letter c.args.look _ _ _ some c.progress.ensures.value c.if-not-progress.false) c.in_ok-execute.ensures.traces.ok
+    traced_so _ _ _ _ _ _ (runs g.C.Chare.step g.C.Pup.pack g.C.Pup.unpack c.args.self.now c.args.letter c.args.address _ _ _ some c.progress.ensures.value c.if-not-progress.false) c.in_ok-execute.ensures.traces.ok

@@ -59,7 +59,7 @@ pub returns-in-Err-clause-err : goal.returns-in-Err-clause-err
 returns-in-Err-clause-err g c =
     let a = c.in-Err.ensures in
     held_same _ _ _ _ _ c.hold-in-Err.ensures.ok (same_view _ _ _ _ _ _ a.same_room (a.same_outbox ∙ c.reserve-2.ensures.items) c.reserve.ensures.items a.same_count (c.end.view_is ∙ c.self.view_is))
-    ∙ ap (λ l. held c.args.self.now (Carried.Letter l) c.args.look) a.letter
+    ∙ ap (λ l. held c.args.self.now (Carried.Letter l) c.args.address) a.letter
 
 pub returns-in-Err-clause-refused : goal.returns-in-Err-clause-refused
 returns-in-Err-clause-refused g c =

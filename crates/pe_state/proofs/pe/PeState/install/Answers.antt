@@ -52,7 +52,7 @@ invariant_of-self-in-Err-install g c =
 pub returns-in-Err-clause-err : goal.returns-in-Err-clause-err
 returns-in-Err-clause-err g c =
     held_same _ _ _ _ _ c.hold-in-Err.ensures.ok (same_view _ _ _ _ _ _ c.in-Err.ensures.err c.reserve.ensures.items refl refl (c.end.view_is ∙ c.self.view_is))
-    ∙ ap (λ p. held c.args.self.now (Carried.Element p) c.args.look) c.in-Err.ensures.back
+    ∙ ap (λ p. held c.args.self.now (Carried.Element p) c.args.address) c.in-Err.ensures.back
 
 -- the element stands here
 

@@ -4,10 +4,10 @@ use Rattle.pe_state.proofs.Below.{rest_below}
 use Rattle.pe_state.proofs.Fronts.{looked_and_gave_up}
 use Rattle.pe_state.proofs.Histories.{still_holds, gave_up_holds, first_holds}
 use Rattle.pe_state.proofs.Runs.{same_run}
-use Rattle.pe_state.proofs.pe.PeState.look_and_send.Goals as goal
+use Rattle.pe_state.proofs.pe.PeState.look_and_flush.Goals as goal
 
 pub returns-clause-ok : goal.returns-clause-ok
-returns-clause-ok g c = looked_and_gave_up c.args.self.now _ c.args.believed _ _ (c.end.view_is ∙ c.self.view_is) c.requires.idle c.in-Some.ensures.items
+returns-clause-ok g c = looked_and_gave_up c.args.self.now _ c.args.address _ _ (c.end.view_is ∙ c.self.view_is) c.requires.idle c.in-Some.ensures.items
 
 pub invariant_of-end-2 : goal.invariant_of-end-2
 invariant_of-end-2 g c = (c.end.invariant.0, λ k. omega (arith, c.in-Some.ensures.len, c.in-Some.ensures.capacity))

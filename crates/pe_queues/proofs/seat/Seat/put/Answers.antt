@@ -1,6 +1,6 @@
 use Rattle.std.proofs.Common.{◌∙◌, ap, refl}
 use Rattle.pe_queues.proofs.Tickets.{inside_tickets, ticket_queue, push_told, if_ok, if_err, on_err, all_held, push_kept}
-use Rattle.pe_queues.proofs.seat.Seat.push.Goals as goal
+use Rattle.pe_queues.proofs.seat.Seat.put.Goals as goal
 
 pub push-requires-clause-own : goal.push-requires-clause-own
 push-requires-clause-own g c =

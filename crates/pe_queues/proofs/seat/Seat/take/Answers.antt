@@ -1,6 +1,6 @@
 use Rattle.std.proofs.Common.{◌∙◌, ap, arith}
 use Rattle.pe_queues.proofs.Tickets.{inside_tickets, ticket_queue, pop_told, if_some, if_none, on_none, all_held, pop_kept}
-use Rattle.pe_queues.proofs.seat.Seat.pop.Goals as goal
+use Rattle.pe_queues.proofs.seat.Seat.take.Goals as goal
 
 pub pop-requires-clause-own : goal.pop-requires-clause-own
 pop-requires-clause-own g c =
