@@ -65,7 +65,6 @@ fn fewest_of_all<A: Allocator + Copy, B: Allocator>(
     let Some(order) = present_order(alloc, snapshot.sizes(), pes)? else {
         return Ok(None);
     };
-    let pes = pes.get();
     let least = least_of(refined)?;
     let Some(reordered) = reorder(alloc, snapshot, pes, least, tolerance, &order)? else {
         return Ok(None);
@@ -84,7 +83,7 @@ fn least_of<A: Allocator + Copy>(refined: &Refined<A>) -> Result<Division<A>, Al
 fn with_moves<A: Allocator + Copy, B: Allocator>(
     alloc: A,
     snapshot: &Snapshot<B>,
-    pes: u32,
+    pes: Pes,
     reordered: Reordered<A>,
 ) -> Result<Fewest<A>, AllocError>
     requires right { IsReordered snapshot.now.loads snapshot.now.sizes pes reordered }

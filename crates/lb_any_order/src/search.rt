@@ -10,6 +10,7 @@ use crate::row::{NONE, free_at};
 use crate::sized::is_small;
 use any_order::{Bounds, Reordered, check_reordered};
 use chain_refinement::{PresentOrder, Tolerance};
+use chare_index::Pes;
 use lb_certificates::{Cuts, Division, Naming};
 use lb_snapshot::{Sizes, Snapshot, Units};
 use std::alloc::{AllocError, Allocator};
@@ -28,7 +29,7 @@ use std::alloc::{AllocError, Allocator};
 pub fn reorder<A: Allocator + Copy, B: Allocator>(
     alloc: A,
     snapshot: &Snapshot<B>,
-    pes: u32,
+    pes: Pes,
     least: Division<A>,
     tolerance: Tolerance,
     order: &PresentOrder<A>,
@@ -41,7 +42,7 @@ pub fn reorder<A: Allocator + Copy, B: Allocator>(
 {
     let loads = snapshot.loads().as_slice();
     let limit = tolerance.limit(least.bottleneck);
-    let Some(found) = search(alloc, loads, snapshot.sizes(), pes, limit, order)? else {
+    let Some(found) = search(alloc, loads, snapshot.sizes(), pes.get(), limit, order)? else {
         return Ok(None);
     };
     let reordered = Reordered {
@@ -58,14 +59,14 @@ pub fn reorder<A: Allocator + Copy, B: Allocator>(
 // The same where the checker accepts it.
 fn accepted<A: Allocator, B: Allocator>(
     snapshot: &Snapshot<B>,
-    pes: u32,
+    pes: Pes,
     reordered: Reordered<A>,
 ) -> Option<Reordered<A>>
     ensures right { IfSome result (IsReordered snapshot.now.loads snapshot.now.sizes pes) }
     ensures fewest { IfSome result (λ r. AreFewestOfAll snapshot.now.loads snapshot.now.sizes pes (reordered_limit r) r.cuts r.names) }
     ensures same { IfSome result (λ r. r ≡ reordered) }
 {
-    match check_reordered(snapshot, pes, &reordered) {
+    match check_reordered(snapshot, pes.get(), &reordered) {
         Ok(()) => Some(reordered),
         Err(_) => None,
     }
