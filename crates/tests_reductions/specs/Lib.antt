@@ -1,1 +1,3 @@
 pub mod Givers
+pub mod Numerals
+pub mod Spans

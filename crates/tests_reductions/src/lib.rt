@@ -1,5 +1,5 @@
-//! Tests of reductions, letter by letter: the operations of numbers, the bodies of contributions, parts and results, bodies that are no
-//! message, and what is refused, with what that leaves.
+//! Tests of reductions: sums whose bits depend on the order of the operands, an operation that shows this order, and arrays of many shapes,
+//! on every number of PEs, in every order of events and while elements move; and what is refused, with what that leaves.
 #![tactic(auto)]
 
 #[cfg(test)]
@@ -9,10 +9,20 @@ mod fixtures;
 #[cfg(test)]
 mod giver;
 #[cfg(test)]
+mod numeral;
+#[cfg(test)]
+mod numerals;
+#[cfg(test)]
 mod operations;
 #[cfg(test)]
 mod refused_memory;
 #[cfg(test)]
 mod single;
+#[cfg(test)]
+mod span;
+#[cfg(test)]
+mod spans;
+#[cfg(test)]
+mod sums;
 #[cfg(test)]
 mod worn;

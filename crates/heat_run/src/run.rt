@@ -1,0 +1,33 @@
+//! The run of a rod.
+
+ghost use Rattle.std.specs.Prelude.{IfOk};
+ghost use Rattle.heat_rod.specs.Rods.{opening_rod};
+ghost use Rattle.rts_run.specs.Outcomes.{IsOutcome};
+
+use chare_index::NoGate;
+use chares::Chare;
+use heat_rod::{Rod, RodChare};
+use pup_pack::Pup;
+use rts_run::{Config, Outcome, RunError, run};
+use std::alloc::Allocator;
+use std::sync::Wait;
+use std::thread::Threads;
+
+/// Runs a rod on PEs.
+///
+/// # Errors
+///
+/// Those of [`rts_run::run`]. No thread was started then.
+pub fn run_rod<R: Threads + Wait + Sync, A: Allocator + Copy + Send + Sync>(
+    rt: &R,
+    alloc: A,
+    config: &Config,
+    rod: &Rod,
+) -> Result<Outcome<RodChare<A>, A>, RunError>
+    ensures outcome { IfOk result (IsOutcome ⟦<RodChare<A> as Chare<A>>⟧.step ⟦<RodChare<A> as Pup<A>>⟧.fits ⟦<RodChare<A> as Pup<A>>⟧.pack ⟦<RodChare<A> as Chare<A>>⟧.refuses
+        (opening_rod rod.now.plan rod.now.strips) config.now.pes config.now.strategy) }
+{
+    let chares = rod.chares(alloc)?;
+    let outcome = run(rt, alloc, config, &NoGate, chares)?;
+    Ok(outcome)
+}

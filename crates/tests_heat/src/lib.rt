@@ -1,0 +1,12 @@
+//! Tests of a rod on fire: it ends with the numbers of `examples/heat.c`, a plain loop over all cells, on every number of PEs and under
+//! a hundred schedules; and a run whose requests for memory are refused in turn.
+#![tactic(auto)]
+
+#[cfg(test)]
+mod fixtures;
+#[cfg(test)]
+mod many_orders;
+#[cfg(test)]
+mod refused_memory;
+#[cfg(test)]
+mod runs;
