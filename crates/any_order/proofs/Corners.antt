@@ -52,7 +52,8 @@ rises_here sizes any free next_any next_free x any_here kept_here free_here =
           let low : next_any x ≤ cond (eqb (home sizes x) pe) (free x) (any x) = below_either (eqb (home sizes x) pe) (free x) (any x) (next_any x) kept_here any_here in
           omega (arith, low);
       of_free = λ pe elsewhere.
-          let low : next_free x ≤ cond (eqb (home sizes x) pe || eqb (home sizes x) (home sizes x)) (free x) (any x) = rw (eq-eqb (home sizes x) (home sizes x) refl) (below_first (eqb (home sizes x) pe) (free x) (any x) (next_free x) free_here) in
+          let low : next_free x ≤ cond (eqb (home sizes x) pe || eqb (home sizes x) (home sizes x)) (free x) (any x) = rw
+          (eq-eqb (home sizes x) (home sizes x) refl) (below_first (eqb (home sizes x) pe) (free x) (any x) (next_free x) free_here) in
           omega (arith, low);
     }
 
@@ -63,9 +64,12 @@ none_rises_here sizes any free next_any next_free x rises =
     let own : ℕ = home sizes x in
     let none : (pe : ℕ) → brought sizes x x pe ≡ 0 = λ pe. omega (arith, sum_after (λ size. moved_bytes size pe) sizes x x (omega arith)) in
     let away : own ≢ own + 1 = λ same. absurd (omega (arith, same)) in
-    let at_other : next_any x ≤ any x + brought sizes x x (own + 1) = subst (λ t. next_any x ≤ cond t (free x) (any x) + brought sizes x x (own + 1)) (ne_eqb own (own + 1) away) (rises.of_any (own + 1)) in
+    let at_other : next_any x ≤ any x + brought sizes x x (own + 1) = subst
+    (λ t. next_any x ≤ cond t (free x) (any x) + brought sizes x x (own + 1)) (ne_eqb own (own + 1) away) (rises.of_any (own + 1)) in
     let at_own : next_any x ≤ free x + brought sizes x x own = subst (λ t. next_any x ≤ cond t (free x) (any x) + brought sizes x x own) (eq-eqb own own refl) (rises.of_any own) in
-    let kept : next_free x ≤ free x + brought sizes x x (own + 1) = either (eqb own (own + 1)) (free x) (any x) (next_free x) (brought sizes x x (own + 1)) (subst (λ t. next_free x ≤ cond (eqb own (own + 1) || t) (free x) (any x) + brought sizes x x (own + 1)) (eq-eqb own own refl) (rises.of_free (own + 1) away)) in
+    let kept : next_free x ≤ free x + brought sizes x x (own + 1) = either (eqb own (own + 1)) (free x) (any x) (next_free x)
+    (brought sizes x x (own + 1)) (subst (λ t. next_free x ≤ cond (eqb own (own + 1) || t) (free x) (any x) + brought sizes x x
+    (own + 1)) (eq-eqb own own refl) (rises.of_free (own + 1) away)) in
     (omega (arith, at_other, none (own + 1)), omega (arith, at_own, none own), omega (arith, kept, none (own + 1)))
   where
     either : (test : Bool) (one other low more : ℕ) → low ≤ cond (test || true) one other + more → low ≤ one + more
@@ -79,11 +83,13 @@ rises_before sizes any free next_any next_free y x inside level after =
     record {
       of_any = λ pe.
           let wider : brought sizes (y + 1) x pe ≤ brought sizes y x pe = brought_wider sizes (y + 1) x y x pe (omega arith) inside (omega arith) in
-          let low : next_any x ≤ cond (eqb (home sizes y) pe) (free y) (any y) + brought sizes (y + 1) x pe = rw (level.home_same, level.any_same, level.free_same) (after.of_any pe) in
+          let low : next_any x ≤ cond (eqb (home sizes y) pe) (free y) (any y) + brought sizes (y + 1) x pe = rw
+          (level.home_same, level.any_same, level.free_same) (after.of_any pe) in
           omega (arith, wider, low);
       of_free = λ pe elsewhere.
           let wider : brought sizes (y + 1) x pe ≤ brought sizes y x pe = brought_wider sizes (y + 1) x y x pe (omega arith) inside (omega arith) in
-          let low : next_free x ≤ cond (eqb (home sizes y) pe || eqb (home sizes y) (home sizes x)) (free y) (any y) + brought sizes (y + 1) x pe = rw (level.home_same, level.any_same, level.free_same) (after.of_free pe elsewhere) in
+          let low : next_free x ≤ cond (eqb (home sizes y) pe || eqb (home sizes y) (home sizes x)) (free y) (any y) + brought sizes (y + 1)
+          x pe = rw (level.home_same, level.any_same, level.free_same) (after.of_free pe elsewhere) in
           omega (arith, wider, low);
     }
 
@@ -97,7 +103,9 @@ rises_behind sizes any free next_any next_free y x inside level before =
           omega (arith, wider, before.of_any pe, level.any_same);
       of_free = λ pe elsewhere.
           let wider : brought sizes y x pe ≤ brought sizes y (x + 1) pe = brought_wider sizes y x y (x + 1) pe (omega arith) inside (omega arith) in
-          let low : next_free x ≤ cond (eqb (home sizes y) pe || eqb (home sizes y) (home sizes (x + 1))) (free y) (any y) + brought sizes y x pe = subst (λ h. h ≢ pe → next_free x ≤ cond (eqb (home sizes y) pe || eqb (home sizes y) h) (free y) (any y) + brought sizes y x pe) level.home_same (before.of_free pe) elsewhere in
+          let low : next_free x ≤ cond (eqb (home sizes y) pe || eqb (home sizes y) (home sizes (x + 1))) (free y) (any y) + brought sizes y
+          x pe = subst (λ h. h ≢ pe → next_free x ≤ cond (eqb (home sizes y) pe || eqb (home sizes y) h) (free y) (any y) + brought
+          sizes y x pe) level.home_same (before.of_free pe) elsewhere in
           omega (arith, wider, low, level.free_same);
     }
 
@@ -116,7 +124,8 @@ rises_by_test sizes any free next_any next_free y x false false low_is high_is i
 few : (loads : List ℕ) (sizes : List (ℕ × ℕ)) (limit : ℕ) (any free next_any next_free : ℕ → ℕ)
     → IsRiseAtCorners loads sizes limit any free next_any next_free → (d y : ℕ) → y + d ≤ length loads → load loads y (y + d) ≤ limit
     → RisesTo sizes any free next_any next_free y (y + d)
-few loads sizes limit any free next_any next_free looked zero y inside light = subst (λ x. RisesTo sizes any free next_any next_free y x) (sym (add-zero y)) (looked y y (omega arith) (omega arith) (omega (arith, empty_load loads y)) (inl refl))
+few loads sizes limit any free next_any next_free looked zero y inside light = subst (λ x. RisesTo sizes any free next_any next_free y x)
+    (sym (add-zero y)) (looked y y (omega arith) (omega arith) (omega (arith, empty_load loads y)) (inl refl))
 few loads sizes limit any free next_any next_free looked (suc d) y inside light =
     let more : y + d + 1 ≡ y + suc d = omega arith in
     let moved : y + 1 + d ≡ y + d + 1 = omega arith in
@@ -124,9 +133,12 @@ few loads sizes limit any free next_any next_free looked (suc d) y inside light 
     let narrow : load loads y (y + d) ≤ limit = omega (arith, wide, load_wider loads y (y + d) y (y + d + 1) (omega arith) (omega arith) (omega arith)) in
     let behind : load loads (y + 1) (y + d + 1) ≤ limit = omega (arith, wide, load_wider loads (y + 1) (y + d + 1) y (y + d + 1) (omega arith) (omega arith) (omega arith)) in
     let earlier : RisesTo sizes any free next_any next_free y (y + d) = few loads sizes limit any free next_any next_free looked d y (omega arith) narrow in
-    let later : RisesTo sizes any free next_any next_free (y + 1) (y + d + 1) = subst (λ x. RisesTo sizes any free next_any next_free (y + 1) x) moved (few loads sizes limit any free next_any next_free looked d (y + 1) (omega arith) (subst (λ x. load loads (y + 1) x ≤ limit) (sym moved) behind)) in
+    let later : RisesTo sizes any free next_any next_free (y + 1) (y + d + 1) = subst
+    (λ x. RisesTo sizes any free next_any next_free (y + 1) x) moved
+    (few loads sizes limit any free next_any next_free looked d (y + 1) (omega arith) (subst (λ x. load loads (y + 1) x ≤ limit) (sym moved) behind)) in
     let before : y + d + 1 - 1 ≡ y + d = omega arith in
-    let done : RisesTo sizes any free next_any next_free y (y + d + 1) = rises_by_test sizes any free next_any next_free y (y + d) (is_level sizes any free y) (is_level sizes next_any next_free (y + d)) refl refl (omega arith) later earlier
+    let done : RisesTo sizes any free next_any next_free y (y + d + 1) = rises_by_test sizes any free next_any next_free y (y + d)
+    (is_level sizes any free y) (is_level sizes next_any next_free (y + d)) refl refl (omega arith) later earlier
     (λ low high. looked y (y + d + 1) (omega arith) (omega arith) wide (inr (low, subst (λ x. is_level sizes next_any next_free x ≡ false) (sym before) high))) in
     subst (λ x. RisesTo sizes any free next_any next_free y x) more done
 
@@ -134,4 +146,5 @@ pub few_places : (loads : List ℕ) (sizes : List (ℕ × ℕ)) (limit : ℕ) (a
     → IsRiseAtCorners loads sizes limit any free next_any next_free → IsRise loads sizes limit any free next_any next_free
 few_places loads sizes limit any free next_any next_free looked y x inside within light =
     let same : y + (x - y) ≡ x = omega arith in
-    subst (λ z. RisesTo sizes any free next_any next_free y z) same (few loads sizes limit any free next_any next_free looked (x - y) y (omega arith) (subst (λ z. load loads y z ≤ limit) (sym same) light))
+    subst (λ z. RisesTo sizes any free next_any next_free y z) same
+    (few loads sizes limit any free next_any next_free looked (x - y) y (omega arith) (subst (λ z. load loads y z ≤ limit) (sym same) light))

@@ -226,7 +226,8 @@ pub row_count_is_first : {A : Type 0} (loads : List ℕ) (sizes : List (ℕ × �
     → AreOrdered pes r.names → IsPlan loads pes (reordered_limit r) r.cuts r.names → (length r.any ≢ pes + 1) ⊎ (length r.free ≢ pes + 1)
     → IsFirstReorderedFlaw (HasReorderedFlaw loads sizes pes r) RowCount
 row_count_is_first loads sizes pes r least order plan wrong =
-    let right = right_to_rows loads sizes pes r 27 (omega arith) least order plan (λ h. absurd (omega (arith, h))) (λ h. absurd (omega (arith, h))) (λ h. absurd (omega (arith, h))) in
+    let right = right_to_rows loads sizes pes r 27 (omega arith) least order plan (λ h. absurd (omega (arith, h)))
+    (λ h. absurd (omega (arith, h))) (λ h. absurd (omega (arith, h))) in
     first_by_number (HasReorderedFlaw loads sizes pes r) RowCount refl wrong (nothing_before loads sizes pes r 27 right (omega arith))
 
 pub start_is_first : {A : Type 0} (loads : List ℕ) (sizes : List (ℕ × ℕ)) (pes : ℕ) (r : Reordered A) → IsCertified loads pes r.least
@@ -249,11 +250,15 @@ steep_is_first {A} loads sizes pes r b y x least order plan rows started first =
   where
     earlier : (other : ReorderedFlaw) → reordered_flaw_number other ≡ 29 → ComesFirst (reordered_flaw_place other) (b, y, x) → ¬ (HasReorderedFlaw loads sizes pes r other)
     earlier (Steep k from to) same (inl lower) (inside, flawed) =
-        flawed.steep (first.earlier k lower from (omega (arith, flawed.onward, flawed.inside)) to flawed.onward (omega (arith, flawed.inside)) flawed.inside flawed.light flawed.corner)
+        flawed.steep (first.earlier k lower from (omega (arith, flawed.onward, flawed.inside)) to flawed.onward
+        (omega (arith, flawed.inside)) flawed.inside flawed.light flawed.corner)
     earlier (Steep k from to) same (inr (tied, inl lower)) (inside, flawed) =
-        flawed.steep (subst (λ c. RisesBelow (claim_at (bounded_of loads sizes r) c) y) (sym tied) first.first.earlier from lower to flawed.onward (omega (arith, flawed.inside)) flawed.inside flawed.light flawed.corner)
+        flawed.steep (subst (λ c. RisesBelow (claim_at (bounded_of loads sizes r) c) y) (sym tied) first.first.earlier from lower to
+        flawed.onward (omega (arith, flawed.inside)) flawed.inside flawed.light flawed.corner)
     earlier (Steep k from to) same (inr (tied, inr (level, lower))) (inside, flawed) =
-        flawed.steep (subst (λ c. RisesFrom (claim_at (bounded_of loads sizes r) c) from x) (sym tied) (subst (λ z. RisesFrom (claim_at (bounded_of loads sizes r) b) z x) (sym level) first.first.first.earlier) to flawed.onward lower flawed.inside flawed.light flawed.corner)
+        flawed.steep (subst (λ c. RisesFrom (claim_at (bounded_of loads sizes r) c) from x) (sym tied)
+        (subst (λ z. RisesFrom (claim_at (bounded_of loads sizes r) b) z x) (sym level) first.first.first.earlier) to flawed.onward
+        lower flawed.inside flawed.light flawed.corner)
     earlier (Least flaw) same before flawed = absurd (omega (arith, same, division_flaw flaw))
     earlier _ same before flawed = absurd (omega (arith, same))
 
@@ -276,7 +281,10 @@ right_is_flawless {A} loads sizes pes r right flaw =
 
     before : AreRightBefore loads sizes pes r 30
     before =
-        right_to_rows loads sizes pes r 30 (omega arith) right.least order right.plan (λ _. record { any = right.any_counted; free = right.free_counted }) (λ _. record { any = right.bounds.any_starts; free = right.bounds.free_starts }) (λ _ b inside y _ x onward _ within light _. right.bounds.rises b inside y x onward within light)
+        right_to_rows loads sizes pes r 30 (omega arith) right.least order right.plan
+        (λ _. record { any = right.any_counted; free = right.free_counted })
+        (λ _. record { any = right.bounds.any_starts; free = right.bounds.free_starts })
+        (λ _ b inside y _ x onward _ within light _. right.bounds.rises b inside y x onward within light)
 
     none : (flaw : ReorderedFlaw) → ¬ (HasReorderedFlaw loads sizes pes r flaw)
     none Low low = absurd (omega (arith, low, right.bounds.ends))

@@ -111,7 +111,8 @@ joins_own held next own element most before more here =
 
 -- an element joins that is on another PE
 pub joins_other : (held next : ℕ → ℕ) (own : ℕ) (element : ℕ × ℕ) (most result : Most) (place bytes : ℕ) (kept : List ℕ)
-    → ((held next : ℕ → ℕ) (own : ℕ) → IsMost held own most → place ≢ own → next place ≡ slice_index kept place + bytes → ((other : ℕ) → other ≢ place → next other ≡ held other) → held place ≤ slice_index kept place + bytes → IsMost next own result)
+    → ((held next : ℕ → ℕ) (own : ℕ) → IsMost held own most → place ≢ own → next place ≡ slice_index kept place + bytes
+    → ((other : ℕ) → other ≢ place → next other ≡ held other) → held place ≤ slice_index kept place + bytes → IsMost next own result)
     → place ≢ own → place ≡ element.1 → bytes ≡ element.0 → IsMost held own most → held element.1 ≡ slice_index kept element.1
     → ((pe : ℕ) → next pe ≡ held pe + held_bytes element pe) → IsMost next own result
 joins_other held next own element most result place bytes kept raises foreign at size before here more =

@@ -28,7 +28,8 @@ right_by_parts loads sizes pes r least order plan rows started risen ends =
       bounds = record {
         any_starts = started.any;
         free_starts = started.free;
-        rises = λ b inside. few_places loads sizes (reordered_limit r) (bound_at r.any b) (bound_at r.free b) (bound_at r.any (b + 1)) (bound_at r.free (b + 1)) (λ y x onward within light corner. risen b inside y (omega arith) x onward (omega arith) within light corner);
+        rises = λ b inside. few_places loads sizes (reordered_limit r) (bound_at r.any b) (bound_at r.free b) (bound_at r.any (b + 1))
+            (bound_at r.free (b + 1)) (λ y x onward within light corner. risen b inside y (omega arith) x onward (omega arith) within light corner);
         ends = ends;
       };
     }

@@ -58,13 +58,16 @@ held_not_at : (element : ℕ × ℕ) (pe : ℕ) → pe ≢ element.1 → held_by
 held_not_at element pe apart = grind (arith, eqb_tells)
 
 -- one more element
-pub next_holding : (sizes : List (ℕ × ℕ)) (y x own bytes : ℕ) (kept : List ℕ) (most result : Most) (d : ℕ × ℕ) → y ≤ x → x < length sizes → IsHolding sizes y x own kept most bytes → (get_or sizes x d).1 < PES
-    → ((held next : ℕ → ℕ) → IsMost held own most → held (get_or sizes x d).1 ≡ slice_index kept (get_or sizes x d).1 → ((pe : ℕ) → next pe ≡ held pe + held_bytes (get_or sizes x d) pe) → IsMost next own result)
+pub next_holding : (sizes : List (ℕ × ℕ)) (y x own bytes : ℕ) (kept : List ℕ) (most result : Most) (d : ℕ × ℕ) → y ≤ x → x < length sizes
+    → IsHolding sizes y x own kept most bytes → (get_or sizes x d).1 < PES
+    → ((held next : ℕ → ℕ) → IsMost held own most → held (get_or sizes x d).1 ≡ slice_index kept (get_or sizes x d).1
+    → ((pe : ℕ) → next pe ≡ held pe + held_bytes (get_or sizes x d) pe) → IsMost next own result)
     → IsHolding sizes y (x + 1) own (slice_set kept (get_or sizes x d).1 (slice_index kept (get_or sizes x d).1 + (get_or sizes x d).0)) result (bytes + (get_or sizes x d).0)
 next_holding sizes y x own bytes kept most result d onward inside holding pe_low joins =
     let element : ℕ × ℕ = get_or sizes x d in
     let now : ℕ = slice_index kept element.1 + element.0 in
-    let more : (pe : ℕ) → held_between sizes y (x + 1) pe ≡ held_between sizes y x pe + held_bytes element pe = λ pe. between_more (λ size. held_bytes size pe) sizes y x d onward inside in
+    let more : (pe : ℕ) → held_between sizes y (x + 1) pe ≡ held_between sizes y x pe + held_bytes element pe = λ pe. between_more
+    (λ size. held_bytes size pe) sizes y x d onward inside in
     let there : element.1 < length kept = omega (arith, holding.counted, pe_low) in
     record {
       counted = length-set kept element.1 now ∙ holding.counted;
@@ -78,8 +81,10 @@ next_holding sizes y x own bytes kept most result d onward inside holding pe_low
     }
 
 -- bounds that pass the test rise by no more than the block brings to any PE
-pub rises_by_block : (sizes : List (ℕ × ℕ)) (any free next_any next_free : ℕ → ℕ) (y x bytes own_bytes : ℕ) (most : Most) → own_bytes ≡ held_between sizes y x (home sizes y) → IsMost (held_between sizes y x) (home sizes y) most → bytes ≡ bytes_between sizes y x
-    → IsRisen (record { any = any y; free = free y }) (record { any = next_any x; free = next_free x }) (home sizes y) (home sizes x) (record { bytes = bytes; own = own_bytes; most = most }) → RisesTo sizes any free next_any next_free y x
+pub rises_by_block : (sizes : List (ℕ × ℕ)) (any free next_any next_free : ℕ → ℕ) (y x bytes own_bytes : ℕ) (most : Most)
+    → own_bytes ≡ held_between sizes y x (home sizes y) → IsMost (held_between sizes y x) (home sizes y) most → bytes ≡ bytes_between sizes y x
+    → IsRisen (record { any = any y; free = free y }) (record { any = next_any x; free = next_free x }) (home sizes y) (home sizes x)
+    (record { bytes = bytes; own = own_bytes; most = most }) → RisesTo sizes any free next_any next_free y x
 rises_by_block sizes any free next_any next_free y x bytes own_bytes most own_is most_is bytes_is risen =
     let held : ℕ → ℕ = held_between sizes y x in
     let whole : (pe : ℕ) → brought sizes y x pe + held pe ≡ bytes_between sizes y x = block_whole sizes y x in
@@ -102,8 +107,10 @@ rises_by_block sizes any free next_any next_free y x bytes own_bytes most own_is
     }
 
 -- and bounds that rise by no more than the block brings to any PE pass the test
-pub risen_by_rises : (sizes : List (ℕ × ℕ)) (any free next_any next_free : ℕ → ℕ) (y x bytes own_bytes : ℕ) (most : Most) → own_bytes ≡ held_between sizes y x (home sizes y) → IsMost (held_between sizes y x) (home sizes y) most → bytes ≡ bytes_between sizes y x
-    → RisesTo sizes any free next_any next_free y x → IsRisen (record { any = any y; free = free y }) (record { any = next_any x; free = next_free x }) (home sizes y) (home sizes x) (record { bytes = bytes; own = own_bytes; most = most })
+pub risen_by_rises : (sizes : List (ℕ × ℕ)) (any free next_any next_free : ℕ → ℕ) (y x bytes own_bytes : ℕ) (most : Most)
+    → own_bytes ≡ held_between sizes y x (home sizes y) → IsMost (held_between sizes y x) (home sizes y) most → bytes ≡ bytes_between sizes y x
+    → RisesTo sizes any free next_any next_free y x → IsRisen (record { any = any y; free = free y })
+    (record { any = next_any x; free = next_free x }) (home sizes y) (home sizes x) (record { bytes = bytes; own = own_bytes; most = most })
 risen_by_rises sizes any free next_any next_free y x bytes own_bytes most own_is most_is bytes_is rises =
     let own : ℕ = home sizes y in
     let there : ℕ = home sizes x in
@@ -111,11 +118,20 @@ risen_by_rises sizes any free next_any next_free y x bytes own_bytes most own_is
     let whole : (pe : ℕ) → brought sizes y x pe + held pe ≡ bytes_between sizes y x = block_whole sizes y x in
     let (other, away, below, reached) = most_is.others_reached in
     let foreign : own ≢ most.pe = λ e. most_is.apart (sym e) in
-    let any_own : next_any x ≤ free y + brought sizes y x own = subst (λ t. next_any x ≤ cond t (free y) (any y) + brought sizes y x own) (eq-eqb own own refl) (rises.of_any own) in
-    let any_most : next_any x ≤ any y + brought sizes y x most.pe = subst (λ t. next_any x ≤ cond t (free y) (any y) + brought sizes y x most.pe) (ne_eqb own most.pe foreign) (rises.of_any most.pe) in
-    let free_own : there ≢ own → next_free x ≤ free y + brought sizes y x own = λ apart. subst (λ t. next_free x ≤ cond (t || eqb own there) (free y) (any y) + brought sizes y x own) (eq-eqb own own refl) (rises.of_free own apart) in
-    let free_same : own ≡ there → there ≢ most.pe → next_free x ≤ free y + brought sizes y x most.pe = λ same apart. subst (λ t. next_free x ≤ cond t (free y) (any y) + brought sizes y x most.pe) (eq-eqb own there same) (subst (λ t. next_free x ≤ cond (t || eqb own there) (free y) (any y) + brought sizes y x most.pe) (ne_eqb own most.pe foreign) (rises.of_free most.pe apart)) in
-    let free_at : (pe : ℕ) → own ≢ pe → own ≢ there → there ≢ pe → next_free x ≤ any y + brought sizes y x pe = λ pe off apart apart_too. subst (λ t. next_free x ≤ cond t (free y) (any y) + brought sizes y x pe) (ne_eqb own there apart) (subst (λ t. next_free x ≤ cond (t || eqb own there) (free y) (any y) + brought sizes y x pe) (ne_eqb own pe off) (rises.of_free pe apart_too)) in
+    let any_own : next_any x ≤ free y + brought sizes y x own = subst (λ t. next_any x ≤ cond t (free y) (any y) + brought sizes y x own)
+    (eq-eqb own own refl) (rises.of_any own) in
+    let any_most : next_any x ≤ any y + brought sizes y x most.pe = subst
+    (λ t. next_any x ≤ cond t (free y) (any y) + brought sizes y x most.pe) (ne_eqb own most.pe foreign) (rises.of_any most.pe) in
+    let free_own : there ≢ own → next_free x ≤ free y + brought sizes y x own = λ apart. subst
+    (λ t. next_free x ≤ cond (t || eqb own there) (free y) (any y) + brought sizes y x own) (eq-eqb own own refl) (rises.of_free own apart) in
+    let free_same : own ≡ there → there ≢ most.pe → next_free x ≤ free y + brought sizes y x most.pe = λ same apart. subst
+    (λ t. next_free x ≤ cond t (free y) (any y) + brought sizes y x most.pe) (eq-eqb own there same)
+    (subst (λ t. next_free x ≤ cond (t || eqb own there) (free y) (any y) + brought sizes y x most.pe) (ne_eqb own most.pe foreign)
+    (rises.of_free most.pe apart)) in
+    let free_at : (pe : ℕ) → own ≢ pe → own ≢ there → there ≢ pe
+    → next_free x ≤ any y + brought sizes y x pe = λ pe off apart apart_too. subst
+    (λ t. next_free x ≤ cond t (free y) (any y) + brought sizes y x pe) (ne_eqb own there apart)
+    (subst (λ t. next_free x ≤ cond (t || eqb own there) (free y) (any y) + brought sizes y x pe) (ne_eqb own pe off) (rises.of_free pe apart_too)) in
     record {
       on_own = omega (arith, any_own, whole own, own_is, bytes_is);
       on_other = omega (arith, any_most, whole most.pe, most_is.reached, bytes_is);
@@ -129,7 +145,8 @@ risen_by_rises sizes any free next_any next_free y x bytes own_bytes most own_is
 pub empty_rises : (claim : Claimed) (y : ℕ) → (high_at claim y).any ≤ (low_at claim y).any → (high_at claim y).any ≤ (low_at claim y).free
     → (high_at claim y).free ≤ (low_at claim y).free → RisesFrom claim y (y + 1)
 empty_rises claim y any_here kept_here free_here x low high within light corner =
-    subst (λ z. RisesAt claim y z) (omega arith) (rises_here claim.sizes (level_at claim.any 0) (level_at claim.free 0) (level_at claim.next_any 0) (level_at claim.next_free 0) y any_here kept_here free_here)
+    subst (λ z. RisesAt claim y z) (omega arith) (rises_here claim.sizes (level_at claim.any 0) (level_at claim.free 0)
+    (level_at claim.next_any 0) (level_at claim.next_free 0) y any_here kept_here free_here)
 
 pub empty_steep : (claim : Claimed) (y : ℕ) → y ≤ length claim.loads
     → ¬ (((high_at claim y).any ≤ (low_at claim y).any) × ((high_at claim y).any ≤ (low_at claim y).free) × ((high_at claim y).free ≤ (low_at claim y).free))
@@ -178,19 +195,33 @@ pub too_heavy : (claim : Claimed) (y x weight : ℕ) → y ≤ x → x < length 
 too_heavy claim y x weight onward inside before weighed heavy z low high within light corner =
     elim (leb_tells z x) [
       | inl earlier ↦ before z low (omega (arith, earlier.1)) within light corner
-      | inr last ↦ absurd (omega (arith, weighed, heavy, light, between_more (λ n. n) claim.loads y x 0 onward inside, load_wider claim.loads y (x + 1) y z (omega arith) (omega arith) (omega (arith, last.1))))
+      | inr last ↦ absurd (omega (
+        arith,
+        weighed,
+        heavy,
+        light,
+        between_more (λ n. n) claim.loads y x 0 onward inside,
+        load_wider claim.loads y (x + 1) y z (omega arith) (omega arith) (omega (arith, last.1)),
+      ))
     ]
 
 -- what is held behind one more element
-pub held_next : (claim : Claimed) (y x own bytes size : ℕ) (kept joined : List ℕ) (most result : Most) → AreMeasured claim.loads claim.sizes → y ≤ x → x < length claim.loads → IsHolding claim.sizes y x own kept most bytes
+pub held_next : (claim : Claimed) (y x own bytes size : ℕ) (kept joined : List ℕ) (most result : Most) → AreMeasured claim.loads claim.sizes
+    → y ≤ x → x < length claim.loads → IsHolding claim.sizes y x own kept most bytes
     → (get_or claim.sizes x (0, 0)).1 < PES → size ≡ (get_or claim.sizes x (0, 0)).0
     → joined ≡ slice_set kept (get_or claim.sizes x (0, 0)).1 (slice_index kept (get_or claim.sizes x (0, 0)).1 + (get_or claim.sizes x (0, 0)).0)
-    → ((held next : ℕ → ℕ) → IsMost held own most → held (get_or claim.sizes x (0, 0)).1 ≡ slice_index kept (get_or claim.sizes x (0, 0)).1 → ((pe : ℕ) → next pe ≡ held pe + held_bytes (get_or claim.sizes x (0, 0)) pe) → IsMost next own result)
+    → ((held next : ℕ → ℕ) → IsMost held own most → held (get_or claim.sizes x (0, 0)).1 ≡ slice_index kept (get_or claim.sizes x (0, 0)).1
+    → ((pe : ℕ) → next pe ≡ held pe + held_bytes (get_or claim.sizes x (0, 0)) pe) → IsMost next own result)
     → IsHolding claim.sizes y (x + 1) own joined result (bytes + size)
 held_next claim y x own bytes size kept joined most result measured onward inside holding pe_low size_is joined_is joins =
-    let at_element : IsHolding claim.sizes y (x + 1) own (slice_set kept (get_or claim.sizes x (0, 0)).1 (slice_index kept (get_or claim.sizes x (0, 0)).1 + (get_or claim.sizes x (0, 0)).0)) result (bytes + (get_or claim.sizes x (0, 0)).0) =
+    let at_element : IsHolding claim.sizes y (x + 1) own
+    (slice_set kept (get_or claim.sizes x (0, 0)).1 (slice_index kept
+    (get_or claim.sizes x (0, 0)).1 + (get_or claim.sizes x (0, 0)).0)) result (bytes + (get_or claim.sizes x (0, 0)).0) =
     next_holding claim.sizes y x own bytes kept most result (0, 0) onward (omega (arith, measured.paired, inside)) holding pe_low joins in
-    let at_size : IsHolding claim.sizes y (x + 1) own (slice_set kept (get_or claim.sizes x (0, 0)).1 (slice_index kept (get_or claim.sizes x (0, 0)).1 + (get_or claim.sizes x (0, 0)).0)) result (bytes + size) = subst (λ n. IsHolding claim.sizes y (x + 1) own (slice_set kept (get_or claim.sizes x (0, 0)).1 (slice_index kept (get_or claim.sizes x (0, 0)).1 + (get_or claim.sizes x (0, 0)).0)) result (bytes + n)) (sym size_is) at_element in
+    let at_size : IsHolding claim.sizes y (x + 1) own (slice_set kept (get_or claim.sizes x (0, 0)).1
+    (slice_index kept (get_or claim.sizes x (0, 0)).1 + (get_or claim.sizes x (0, 0)).0)) result (bytes + size) = subst
+    (λ n. IsHolding claim.sizes y (x + 1) own (slice_set kept (get_or claim.sizes x (0, 0)).1
+    (slice_index kept (get_or claim.sizes x (0, 0)).1 + (get_or claim.sizes x (0, 0)).0)) result (bytes + n)) (sym size_is) at_element in
     subst (λ l. IsHolding claim.sizes y (x + 1) own l result (bytes + size)) (sym joined_is) at_size
 
 -- one more element on the walk
@@ -210,7 +241,8 @@ next_walk claim y x own bytes weight units own_bytes kept most next onward insid
           (subst (λ o. own_bytes ≡ held_between claim.sizes y (x + 1) o) own_is kept_own)
           (subst (λ o. IsMost (held_between claim.sizes y (x + 1)) o most) own_is holding.most_is)
           holding.bytes_is
-          (subst (λ o. IsRisen (low_at claim y) (high_at claim (x + 1)) o (home claim.sizes (x + 1)) (record { bytes = bytes; own = own_bytes; most = most })) own_is (risen level))) onward;
+          (subst (λ o. IsRisen (low_at claim y) (high_at claim (x + 1)) o (home claim.sizes (x + 1))
+          (record { bytes = bytes; own = own_bytes; most = most })) own_is (risen level))) onward;
       high_is = there;
     }
 
@@ -229,7 +261,8 @@ steep_end claim y x own bytes weight units own_bytes kept most onward inside edg
         inside = omega arith;
         light = omega (arith, light, weighed, units_is, between_more (λ n. n) claim.loads y x 0 onward inside);
         corner = inr (edge, subst (λ n. IsFalse (is_high_level claim n)) back level);
-        steep = λ rises. steep (subst (λ o. IsRisen (low_at claim y) (high_at claim (x + 1)) o (home claim.sizes (x + 1)) (record { bytes = bytes; own = own_bytes; most = most })) (sym own_is)
+        steep = λ rises. steep (subst (λ o. IsRisen (low_at claim y) (high_at claim (x + 1)) o (home claim.sizes (x + 1))
+            (record { bytes = bytes; own = own_bytes; most = most })) (sym own_is)
             (risen_by_rises claim.sizes (level_at claim.any 0) (level_at claim.free 0) (level_at claim.next_any 0) (level_at claim.next_free 0) y (x + 1) bytes own_bytes most
             (subst (λ o. own_bytes ≡ held_between claim.sizes y (x + 1) o) own_is kept_own)
             (subst (λ o. IsMost (held_between claim.sizes y (x + 1)) o most) own_is holding.most_is)

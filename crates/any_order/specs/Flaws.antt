@@ -65,4 +65,5 @@ ComesFirst one other = (one.0 < other.0) ⊎ ((one.0 ≡ other.0) × ((one.1 < o
 pub record IsFirstReorderedFlaw (applies : ReorderedFlaw → Type 0) (flaw : ReorderedFlaw) : Type 0 where
   pub applies_itself : applies flaw
   pub no_lower_number : (other : ReorderedFlaw) → reordered_flaw_number other < reordered_flaw_number flaw → ¬ (applies other)
-  pub no_lower_place : (other : ReorderedFlaw) → reordered_flaw_number other ≡ reordered_flaw_number flaw → ComesFirst (reordered_flaw_place other) (reordered_flaw_place flaw) → ¬ (applies other)
+  pub no_lower_place : (other : ReorderedFlaw) → reordered_flaw_number other ≡ reordered_flaw_number flaw
+      → ComesFirst (reordered_flaw_place other) (reordered_flaw_place flaw) → ¬ (applies other)

@@ -17,7 +17,8 @@ sized loads sizes pes cuts division blocks =
     let end : slice_index cuts (blocks_between cuts) ≡ slice_index cuts pes = ap (slice_index cuts) counted in
     omega (arith, end, blocks.divides.ends, division.ends)
 
-refined_sized : {A : Type 0} (loads : List ℕ) (sizes : List (ℕ × ℕ)) (pes tolerance : ℕ) (r : Refined A) → IsRefined loads sizes pes tolerance r → IsDivision 0 (length loads) pes (refined_cuts r) → length sizes ≡ length loads
+refined_sized : {A : Type 0} (loads : List ℕ) (sizes : List (ℕ × ℕ)) (pes tolerance : ℕ) (r : Refined A)
+    → IsRefined loads sizes pes tolerance r → IsDivision 0 (length loads) pes (refined_cuts r) → length sizes ≡ length loads
 refined_sized loads sizes pes tolerance (Planned d) refined division =
     sized loads sizes pes d.division.cuts division refined.0.right.named.blocks
 refined_sized loads sizes pes tolerance (Near k) refined division =
@@ -32,7 +33,8 @@ planned_places loads sizes pes d planned =
       bounded = planned.bounded;
     }
 
-pub refined_places : {A : Type 0} (loads : List ℕ) (sizes : List (ℕ × ℕ)) (pes tolerance : ℕ) (r : Refined A) → IsDecidedWithin loads sizes pes tolerance r → PlacesAll loads sizes pes r
+pub refined_places : {A : Type 0} (loads : List ℕ) (sizes : List (ℕ × ℕ)) (pes tolerance : ℕ) (r : Refined A)
+    → IsDecidedWithin loads sizes pes tolerance r → PlacesAll loads sizes pes r
 refined_places loads sizes pes tolerance r decided =
     record {
       blocks = decided.blocks;
@@ -42,10 +44,12 @@ refined_places loads sizes pes tolerance r decided =
     }
 
 -- the same of what was decided, where memory was not refused
-pub all_placed : {A E : Type 0} (loads : List ℕ) (sizes : List (ℕ × ℕ)) (pes tolerance : ℕ) (r : Result (Refined A) E) → IfOk r (IsDecidedWithin loads sizes pes tolerance) → IfOk r (PlacesAll loads sizes pes)
+pub all_placed : {A E : Type 0} (loads : List ℕ) (sizes : List (ℕ × ℕ)) (pes tolerance : ℕ) (r : Result (Refined A) E)
+    → IfOk r (IsDecidedWithin loads sizes pes tolerance) → IfOk r (PlacesAll loads sizes pes)
 all_placed loads sizes pes tolerance (Ok r) decided = refined_places loads sizes pes tolerance r decided
 all_placed loads sizes pes tolerance (Err e) decided = tt
 
-pub all_refined : {A E : Type 0} (loads : List ℕ) (sizes : List (ℕ × ℕ)) (pes tolerance : ℕ) (r : Result (Refined A) E) → IfOk r (IsDecidedWithin loads sizes pes tolerance) → IfOk r (IsRefined loads sizes pes tolerance)
+pub all_refined : {A E : Type 0} (loads : List ℕ) (sizes : List (ℕ × ℕ)) (pes tolerance : ℕ) (r : Result (Refined A) E)
+    → IfOk r (IsDecidedWithin loads sizes pes tolerance) → IfOk r (IsRefined loads sizes pes tolerance)
 all_refined loads sizes pes tolerance (Ok r) decided = decided.refined
 all_refined loads sizes pes tolerance (Err e) decided = tt

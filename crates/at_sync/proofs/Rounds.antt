@@ -17,7 +17,9 @@ use Rattle.at_sync.specs.declared.strategy.Strategy.{Strategy}
 use Rattle.at_sync.specs.Boards.{BoardState, Kept, kept_of, new_board, after_decision, IsDecided, AreDecided, IsKeptIn, IsBoard, Decides}
 
 -- what the strategy decides for the snapshot of a round is right
-pub decided_by : {A : Type 0} (m : Measured) (pes : ℕ) (strategy : Strategy) (taken : Taken) (r : Refined A) → IsSnapshotOf m m.round pes taken → IsDecidedBy strategy taken.loads taken.sizes pes r → PlacesAll taken.loads taken.sizes pes r → IsDecided (elements m) pes strategy m.round (taken, r)
+pub decided_by : {A : Type 0} (m : Measured) (pes : ℕ) (strategy : Strategy) (taken : Taken) (r : Refined A)
+    → IsSnapshotOf m m.round pes taken → IsDecidedBy strategy taken.loads taken.sizes pes r → PlacesAll taken.loads taken.sizes pes r
+    → IsDecided (elements m) pes strategy m.round (taken, r)
 decided_by m pes strategy taken r snapshot by placed =
     record {
       at_step = snapshot.at_step;
@@ -28,7 +30,8 @@ decided_by m pes strategy taken r snapshot by placed =
     }
 
 -- what holds of each item and of one more holds of all of them
-item_more : {X : Type 0} (P : ℕ → X → Type 0) (items : List X) (item : X) → ((k : ℕ) → IfSome (slice_get items k) (P k)) → P (length items) item → (k : ℕ) → IfSome (slice_get (items ++ item ∷ []) k) (P k)
+item_more : {X : Type 0} (P : ℕ → X → Type 0) (items : List X) (item : X) → ((k : ℕ) → IfSome (slice_get items k) (P k))
+    → P (length items) item → (k : ℕ) → IfSome (slice_get (items ++ item ∷ []) k) (P k)
 item_more P [] item all last zero = last
 item_more P [] item all last (suc k) = tt
 item_more P (first ∷ items) item all last zero = all zero
@@ -36,7 +39,8 @@ item_more P (first ∷ items) item all last (suc k) =
     item_more (λ j. P (suc j)) items item (λ j. all (suc j)) last k
 
 -- what is kept of one more round is best, where it is of the round after those that are kept
-decided_more : {A : Type 0} (n pes : ℕ) (strategy : Strategy) (r : ℕ) (rounds : List (Kept A)) (kept : Kept A) → AreDecided n pes strategy rounds → r ≡ length rounds + 1 → IsDecided n pes strategy r kept → AreDecided n pes strategy (rounds ++ kept ∷ [])
+decided_more : {A : Type 0} (n pes : ℕ) (strategy : Strategy) (r : ℕ) (rounds : List (Kept A)) (kept : Kept A)
+    → AreDecided n pes strategy rounds → r ≡ length rounds + 1 → IsDecided n pes strategy r kept → AreDecided n pes strategy (rounds ++ kept ∷ [])
 decided_more n pes strategy r rounds kept all next decided zero = tt
 decided_more n pes strategy r rounds kept all next decided (suc k) =
     let same : r ≡ suc (length rounds) = omega (arith, next) in
@@ -64,7 +68,8 @@ board_new A n pes strategy some few = record {
 }
 
 -- a board stays one where its round is decided
-pub board_after : {A : Type 0} (b : BoardState A) (kept : Kept A) → IsBoard b → IsDecided (elements b.database) b.pes b.strategy b.database.round kept → IsBoard (after_decision b kept)
+pub board_after : {A : Type 0} (b : BoardState A) (kept : Kept A) → IsBoard b
+    → IsDecided (elements b.database) b.pes b.strategy b.database.round kept → IsBoard (after_decision b kept)
 board_after b kept board decided =
     let same : elements b.database ≡ length (replicate {A = ℕ} (elements b.database) 0) = sym (length-replicate (elements b.database) 0) in
     record {
@@ -73,11 +78,14 @@ board_after b kept board decided =
       placed = none_reported b.pes (b.database.round + 1) (elements b.database);
       counted = board.counted ∙ same;
       numbered = omega (arith, board.numbered, length-append b.rounds (kept ∷ []));
-      decided = subst (λ n. AreDecided n b.pes b.strategy (b.rounds ++ kept ∷ [])) same (decided_more (elements b.database) b.pes b.strategy b.database.round b.rounds kept board.decided board.numbered decided);
+      decided = subst (λ n. AreDecided n b.pes b.strategy (b.rounds ++ kept ∷ [])) same
+          (decided_more (elements b.database) b.pes b.strategy b.database.round b.rounds kept board.decided board.numbered decided);
     }
 
 -- the parts of a decided round
-pub decides_from : {A : Type 0} (b : BoardState A) (kept : Kept A) → HasNextRound b.database → IsSnapshotOf b.database b.database.round b.pes kept.0 → IsDecided (elements b.database) b.pes b.strategy b.database.round kept → Decides b (after_decision b kept)
+pub decides_from : {A : Type 0} (b : BoardState A) (kept : Kept A) → HasNextRound b.database
+    → IsSnapshotOf b.database b.database.round b.pes kept.0 → IsDecided (elements b.database) b.pes b.strategy b.database.round kept
+    → Decides b (after_decision b kept)
 decides_from b kept next reported decided = record {
   kept = kept;
   complete = next.0;

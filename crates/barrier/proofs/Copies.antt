@@ -33,4 +33,5 @@ pub same_place : {A : Type 0} (b : BoardState A) (r : ℕ) (d : Refined A) → I
 same_place b r d kept i inside =
     let cut : nat_lt i (elements_cut (refined_cuts d)) ≡ true = lt-ltb i (elements_cut (refined_cuts d)) (omega (arith, inside, all_cut b r d kept)) in
     let found : decision_of b r ≡ Some d = ap (option_map (λ pair. pair.1)) kept.kept in
-    ap (λ known. if known then Some (planned_pe (refined_cuts d) (refined_names d) i) else None) cut ∙ sym (ap (option_map (λ e. planned_pe (refined_cuts e) (refined_names e) i)) found)
+    ap (λ known. if known then Some (planned_pe (refined_cuts d) (refined_names d) i) else None) cut
+    ∙ sym (ap (option_map (λ e. planned_pe (refined_cuts e) (refined_names e) i)) found)

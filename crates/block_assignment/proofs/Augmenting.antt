@@ -26,7 +26,8 @@ pub record IsAugmenting (s : State) (names : List ℕ) (holders : List (Option �
   pub scanned : 0 < slice_index s.rank pe
   pub kept : (b : ℕ) → b < s.named → slice_index s.rank (slice_index s.names b) < slice_index s.rank pe → slice_index names b ≡ slice_index s.names b
 
-pub augmenting_starts : (s : State) (free : ℕ) → IsSized s → IsMatched s → free < s.table.blocks → slice_index_or s.holders free None ≡ None → 0 < slice_index s.rank free → IsAugmenting s s.names s.holders free
+pub augmenting_starts : (s : State) (free : ℕ) → IsSized s → IsMatched s → free < s.table.blocks → slice_index_or s.holders free None ≡ None
+    → 0 < slice_index s.rank free → IsAugmenting s s.names s.holders free
 augmenting_starts s free sized matched inside unheld scanned =
     record {
       names_length = sized.names_length;
@@ -44,20 +45,27 @@ augmenting_starts s free sized matched inside unheld scanned =
     }
 
 -- the PE that the block held before is the next, and was scanned earlier
-pub next_earlier : (s : State) (names : List ℕ) (holders : List (Option ℕ)) (pe b : ℕ) → IsPath s → IsAugmenting s names holders pe → b ≡ slice_index s.from pe → b < s.named → (slice_index names b ≡ slice_index s.names b) × (slice_index s.rank (slice_index names b) < slice_index s.rank pe) × (0 < slice_index s.rank (slice_index names b))
+pub next_earlier : (s : State) (names : List ℕ) (holders : List (Option ℕ)) (pe b : ℕ) → IsPath s → IsAugmenting s names holders pe
+    → b ≡ slice_index s.from pe → b < s.named → (slice_index names b ≡ slice_index s.names b)
+    × (slice_index s.rank (slice_index names b) < slice_index s.rank pe) × (0 < slice_index s.rank (slice_index names b))
 next_earlier s names holders pe b path augmenting e named =
     let before : slice_index s.from pe < s.named = omega (arith, e, named) in
-    let less : slice_index s.rank (slice_index s.names b) < slice_index s.rank pe = subst (λ k. slice_index s.rank (slice_index s.names k) < slice_index s.rank pe) (sym e) (path.earlier pe augmenting.inside augmenting.scanned before) in
-    let some : 0 < slice_index s.rank (slice_index s.names b) = subst (λ k. 0 < slice_index s.rank (slice_index s.names k)) (sym e) (path.scanned pe augmenting.inside augmenting.scanned before) in
+    let less : slice_index s.rank (slice_index s.names b) < slice_index s.rank pe = subst
+    (λ k. slice_index s.rank (slice_index s.names k) < slice_index s.rank pe) (sym e) (path.earlier pe augmenting.inside augmenting.scanned before) in
+    let some : 0 < slice_index s.rank (slice_index s.names b) = subst (λ k. 0 < slice_index s.rank (slice_index s.names k)) (sym e)
+    (path.scanned pe augmenting.inside augmenting.scanned before) in
     let same : slice_index names b ≡ slice_index s.names b = augmenting.kept b named less in
     (same, subst (λ q. slice_index s.rank q < slice_index s.rank pe) (sym same) less, subst (λ q. 0 < slice_index s.rank q) (sym same) some)
 
 -- the price of the block before a PE
-before_price : (s : State) (names : List ℕ) (holders : List (Option ℕ)) (pe b : ℕ) → IsPath s → IsAugmenting s names holders pe → b ≡ slice_index s.from pe → slice_index s.price b ≡ cost_at s.table b pe + slice_index s.discount pe
+before_price : (s : State) (names : List ℕ) (holders : List (Option ℕ)) (pe b : ℕ) → IsPath s → IsAugmenting s names holders pe
+    → b ≡ slice_index s.from pe → slice_index s.price b ≡ cost_at s.table b pe + slice_index s.discount pe
 before_price s names holders pe b path augmenting e =
     subst (λ k. slice_index s.price k ≡ cost_at s.table k pe + slice_index s.discount pe) (sym e) (path.reduced_zero pe augmenting.inside augmenting.scanned)
 
-pub augmenting_more : (s : State) (names : List ℕ) (holders : List (Option ℕ)) (pe b : ℕ) → s.named ≤ s.table.blocks → IsPath s → IsAugmenting s names holders pe → b ≡ slice_index s.from pe → b < s.named → IsAugmenting s (set names b pe) (set holders pe (Some b)) (slice_index names b)
+pub augmenting_more : (s : State) (names : List ℕ) (holders : List (Option ℕ)) (pe b : ℕ) → s.named ≤ s.table.blocks → IsPath s
+    → IsAugmenting s names holders pe → b ≡ slice_index s.from pe → b < s.named
+    → IsAugmenting s (set names b pe) (set holders pe (Some b)) (slice_index names b)
 augmenting_more s names holders pe b few path augmenting e named =
     record {
       names_length = length-set names b pe ∙ augmenting.names_length;
@@ -109,10 +117,12 @@ augmenting_more s names holders pe b few path augmenting e named =
     known k inside =
         elim (cases_eq k b) [
           | inl same ↦ ap (λ p. slice_index_or (set holders pe (Some b)) p None) (here_at k same) ∙ holder_here ∙ ap (λ n. Some n) (sym same)
-          | inr other ↦ ap (λ p. slice_index_or (set holders pe (Some b)) p None) (there k other) ∙ holder_there (slice_index names k) (augmenting.not_held k inside) ∙ augmenting.known k inside
+          | inr other ↦ ap (λ p. slice_index_or (set holders pe (Some b)) p None) (there k other)
+              ∙ holder_there (slice_index names k) (augmenting.not_held k inside) ∙ augmenting.known k inside
         ]
 
-    held : (p k : ℕ) → p < s.table.blocks → p ≢ slice_index names b → slice_index_or (set holders pe (Some b)) p None ≡ Some k → (k < s.named) × (slice_index (set names b pe) k ≡ p)
+    held : (p k : ℕ) → p < s.table.blocks → p ≢ slice_index names b → slice_index_or (set holders pe (Some b)) p None ≡ Some k
+        → (k < s.named) × (slice_index (set names b pe) k ≡ p)
     held p k inside other is =
         elim (cases_eq p pe) [
           | inl at ↦
@@ -127,7 +137,8 @@ augmenting_more s names holders pe b few path augmenting e named =
     tight : (k : ℕ) → k < s.named → slice_index s.price k ≡ cost_at s.table k (slice_index (set names b pe) k) + slice_index s.discount (slice_index (set names b pe) k)
     tight k inside =
         elim (cases_eq k b) [
-          | inl same ↦ subst (λ q. slice_index s.price k ≡ cost_at s.table k q + slice_index s.discount q) (sym (here_at k same)) (before_price s names holders pe k path augmenting (same ∙ e))
+          | inl same ↦ subst (λ q. slice_index s.price k ≡ cost_at s.table k q + slice_index s.discount q) (sym (here_at k same))
+              (before_price s names holders pe k path augmenting (same ∙ e))
           | inr other ↦ subst (λ q. slice_index s.price k ≡ cost_at s.table k q + slice_index s.discount q) (sym (there k other)) (augmenting.tight k inside)
         ]
 
@@ -154,12 +165,15 @@ augmenting_more s names holders pe b few path augmenting e named =
         there k other ∙ augmenting.kept k inside (omega (arith, before, earlier.1))
 
 -- the same, where the next PE was read before
-pub augmenting_next : (s : State) (names : List ℕ) (holders : List (Option ℕ)) (pe b before : ℕ) → s.named ≤ s.table.blocks → IsPath s → IsAugmenting s names holders pe → b ≡ slice_index s.from pe → b < s.named → before ≡ slice_index names b → IsAugmenting s (set names b pe) (set holders pe (Some b)) before
+pub augmenting_next : (s : State) (names : List ℕ) (holders : List (Option ℕ)) (pe b before : ℕ) → s.named ≤ s.table.blocks → IsPath s
+    → IsAugmenting s names holders pe → b ≡ slice_index s.from pe → b < s.named → before ≡ slice_index names b
+    → IsAugmenting s (set names b pe) (set holders pe (Some b)) before
 augmenting_next s names holders pe b before few path augmenting e named read =
     subst (λ q. IsAugmenting s (set names b pe) (set holders pe (Some b)) q) (sym read) (augmenting_more s names holders pe b few path augmenting e named)
 
 -- lists that are written over keep their lengths
-pub augmented_sized : (s : State) (named b : ℕ) (names : List ℕ) (holders : List (Option ℕ)) (pe : ℕ) → IsSized s → IsAugmenting s names holders pe → IsSized (renamed s named (set names b pe) (set holders pe (Some b)))
+pub augmented_sized : (s : State) (named b : ℕ) (names : List ℕ) (holders : List (Option ℕ)) (pe : ℕ) → IsSized s
+    → IsAugmenting s names holders pe → IsSized (renamed s named (set names b pe) (set holders pe (Some b)))
 augmented_sized s named b names holders pe sized augmenting =
     record {
       is_table = sized.is_table;
@@ -173,7 +187,9 @@ augmented_sized s named b names holders pe sized augmenting =
     }
 
 -- the root takes the last
-pub augmenting_ends : (s : State) (names : List ℕ) (holders : List (Option ℕ)) (pe b : ℕ) → s.named < s.table.blocks → IsMatched s → IsPath s → IsAugmenting s names holders pe → b ≡ slice_index s.from pe → s.named ≤ b → IsMatched (renamed s (s.named + 1) (set names s.named pe) (set holders pe (Some s.named)))
+pub augmenting_ends : (s : State) (names : List ℕ) (holders : List (Option ℕ)) (pe b : ℕ) → s.named < s.table.blocks → IsMatched s
+    → IsPath s → IsAugmenting s names holders pe → b ≡ slice_index s.from pe → s.named ≤ b
+    → IsMatched (renamed s (s.named + 1) (set names s.named pe) (set holders pe (Some s.named)))
 augmenting_ends s names holders pe b unnamed matched path augmenting e past =
     record {
       below = λ k inside. elim (cases_eq k s.named) [
@@ -188,10 +204,12 @@ augmenting_ends s names holders pe b unnamed matched path augmenting e past =
       held = held;
       low = matched.low;
       tight = λ k inside. elim (cases_eq k s.named) [
-        | inl last ↦ subst (λ q. slice_index s.price k ≡ cost_at s.table k q + slice_index s.discount q) (sym (here_at k last)) (before_price s names holders pe k path augmenting (last ∙ sym root ∙ e))
+        | inl last ↦ subst (λ q. slice_index s.price k ≡ cost_at s.table k q + slice_index s.discount q) (sym (here_at k last))
+            (before_price s names holders pe k path augmenting (last ∙ sym root ∙ e))
         | inr other ↦ subst (λ q. slice_index s.price k ≡ cost_at s.table k q + slice_index s.discount q) (sym (there k other)) (augmenting.tight k (omega arith))
       ];
-      free = λ p inside is_free. augmenting.free p inside (λ k within same. is_free k (omega arith) (there k (omega arith) ∙ same)) (λ same. is_free s.named (omega arith) (here ∙ sym same));
+      free = λ p inside is_free. augmenting.free p inside (λ k within same. is_free k (omega arith) (there k (omega arith) ∙ same))
+          (λ same. is_free s.named (omega arith) (here ∙ sym same));
     }
   where
     root : b ≡ s.named
@@ -216,7 +234,8 @@ augmenting_ends s names holders pe b unnamed matched path augmenting e past =
     known k inside =
         elim (cases_eq k s.named) [
           | inl last ↦ ap (λ p. slice_index_or (set holders pe (Some s.named)) p None) (here_at k last) ∙ holder_here ∙ ap (λ n. Some n) (sym last)
-          | inr other ↦ ap (λ p. slice_index_or (set holders pe (Some s.named)) p None) (there k other) ∙ holder_there (slice_index names k) (augmenting.not_held k (omega arith)) ∙ augmenting.known k (omega arith)
+          | inr other ↦ ap (λ p. slice_index_or (set holders pe (Some s.named)) p None) (there k other)
+              ∙ holder_there (slice_index names k) (augmenting.not_held k (omega arith)) ∙ augmenting.known k (omega arith)
         ]
 
     held : (p k : ℕ) → p < s.table.blocks → slice_index_or (set holders pe (Some s.named)) p None ≡ Some k → (k < s.named + 1) × (slice_index (set names s.named pe) k ≡ p)

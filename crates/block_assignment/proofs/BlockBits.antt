@@ -12,12 +12,15 @@ pub written_here : (words : List ℕ) (b word : ℕ) → b / 64 < length words �
 written_here words b word inside = ap (λ x. bit_at x (b % 64)) (get_or-set_same words (b / 64) word 0 inside)
 
 -- and the other bits are as they were
-pub written_others : (words : List ℕ) (b word k : ℕ) → b / 64 < length words → k ≢ b → ((i : ℕ) → i < 64 → i ≢ b % 64 → bit_at word i ≡ bit_at (slice_index words (b / 64)) i) → member (set words (b / 64) word) k ≡ member words k
+pub written_others : (words : List ℕ) (b word k : ℕ) → b / 64 < length words → k ≢ b
+    → ((i : ℕ) → i < 64 → i ≢ b % 64 → bit_at word i ≡ bit_at (slice_index words (b / 64)) i) → member (set words (b / 64) word) k ≡ member words k
 written_others words b word k inside other same =
     elim (cases_eq (k / 64) (b / 64)) [
       | inl here ↦
           let apart : k % 64 ≢ b % 64 = λ e. other (omega (arith, here, e)) in
-          ap (λ w. bit_at (slice_index (set words (b / 64) word) w) (k % 64)) here ∙ ap (λ x. bit_at x (k % 64)) (get_or-set_same words (b / 64) word 0 inside) ∙ same (k % 64) (omega arith) apart ∙ ap (λ w. bit_at (slice_index words w) (k % 64)) (omega (arith, here))
+          ap (λ w. bit_at (slice_index (set words (b / 64) word) w) (k % 64)) here
+          ∙ ap (λ x. bit_at x (k % 64)) (get_or-set_same words (b / 64) word 0 inside) ∙ same (k % 64) (omega arith) apart
+          ∙ ap (λ w. bit_at (slice_index words w) (k % 64)) (omega (arith, here))
       | inr away ↦ ap (λ x. bit_at x (k % 64)) (get_or-set_other words (b / 64) (k / 64) word 0 away)
     ]
 
@@ -47,7 +50,8 @@ none_in_word one other b none has =
     omega (arith, both, zero, has)
 
 -- sets with no bit in common in the words that both have
-pub none_common : (one other : List ℕ) (words : ℕ) → words ≡ min (length one) (length other) → ((w : ℕ) → w < words → bit_and (slice_index one w) (slice_index other w) ≡ 0) → (b : ℕ) → member one b ≡ 1 → member other b ≡ 0
+pub none_common : (one other : List ℕ) (words : ℕ) → words ≡ min (length one) (length other)
+    → ((w : ℕ) → w < words → bit_and (slice_index one w) (slice_index other w) ≡ 0) → (b : ℕ) → member one b ≡ 1 → member other b ≡ 0
 none_common one other words counted none b has =
     elim (cases_lt (b / 64) (length one)) [
       | inr past ↦ absurd (omega (arith, has, no_word_behind one b past))
@@ -58,7 +62,8 @@ none_common one other words counted none b has =
     ]
 
 -- the lowest bit that two words have in common
-pub lowest_common : (one other : List ℕ) (w : ℕ) → w < length one → let both = bit_and (slice_index one w) (slice_index other w) in 0 < both → both < 2 ^ 64 → let b = w * 64 + trailing_zeros w64 both in (b < 64 * length one) × (member one b ≡ 1) × (member other b ≡ 1)
+pub lowest_common : (one other : List ℕ) (w : ℕ) → w < length one → let both = bit_and (slice_index one w) (slice_index other w) in 0 < both
+    → both < 2 ^ 64 → let b = w * 64 + trailing_zeros w64 both in (b < 64 * length one) × (member one b ≡ 1) × (member other b ≡ 1)
 lowest_common one other w small some fits =
     let both : ℕ = bit_and (slice_index one w) (slice_index other w) in
     let lowest = bit_at-trailing_zeros w64 both some fits in

@@ -31,7 +31,8 @@ pub changed_apart : (f : ℕ → ℕ) (q x k : ℕ) → k ≢ q → changed f q 
 changed_apart f q x k apart = cond-false (k == q) x (f k) (ne_eqb k q apart)
 
 -- without the block that reaches the last number the others reach those before it
-reached_before : (m n : ℕ) (f : ℕ → ℕ) (top : ℕ) → top < n → f top ≡ m → ((p : ℕ) → p < suc m → (b : ℕ) × (b < n) × (f b ≡ p)) → (p : ℕ) → p < m → (b : ℕ) × (b < n - 1) × (changed f top (f (n - 1)) b ≡ p)
+reached_before : (m n : ℕ) (f : ℕ → ℕ) (top : ℕ) → top < n → f top ≡ m → ((p : ℕ) → p < suc m → (b : ℕ) × (b < n) × (f b ≡ p)) → (p : ℕ)
+    → p < m → (b : ℕ) × (b < n - 1) × (changed f top (f (n - 1)) b ≡ p)
 reached_before m n f top below e h p inside =
     let at = h p (omega arith) in
     let apart : at.0 ≢ top = λ same. absurd (omega (arith, inside, at.2, e, ap f same)) in

@@ -8,7 +8,8 @@ use Rattle.block_assignment.proofs.Namings.{same_block, exchanged, total_less}
 
 -- The holder has the PE that block b had, and is to have the one of the block whose PE is taken next. All other blocks
 -- have PEs that they may have, and those with lower ranks the PEs that they had.
-pub record IsPassing (takers : List (List ℕ)) (old : List ℕ) (b chosen : ℕ) (left next : List ℕ) (trail : IsTrail takers old b left next) (names : List ℕ) (holder taken : ℕ) : Type 0 where
+pub record IsPassing (takers : List (List ℕ)) (old : List ℕ) (b chosen : ℕ) (left next : List ℕ) (trail : IsTrail takers old b left next)
+    (names : List ℕ) (holder taken : ℕ) : Type 0 where
   pub naming : IsNaming (length takers) names
   pub holder_in : holder < length takers
   pub holds : slice_index names holder ≡ slice_index old b
@@ -19,7 +20,9 @@ pub record IsPassing (takers : List (List ℕ)) (old : List ℕ) (b chosen : ℕ
   pub start : ((holder ≡ b) × (taken ≡ chosen)) ⊎ ((b < holder) × (trail.rank taken < trail.rank holder) × (slice_index names b ≡ slice_index old chosen))
   pub before : (k : ℕ) → k < b → slice_index names k ≡ slice_index old k
 
-pub passing_starts : (takers : List (List ℕ)) (old : List ℕ) (b chosen : ℕ) (left next : List ℕ) (trail : IsTrail takers old b left next) → IsNaming (length takers) old → IsAllowed takers old → b < length takers → IsFound (length takers) b left chosen → may_have takers b (slice_index old chosen) ≡ 1 → IsPassing takers old b chosen left next trail old b chosen
+pub passing_starts : (takers : List (List ℕ)) (old : List ℕ) (b chosen : ℕ) (left next : List ℕ) (trail : IsTrail takers old b left next)
+    → IsNaming (length takers) old → IsAllowed takers old → b < length takers → IsFound (length takers) b left chosen
+    → may_have takers b (slice_index old chosen) ≡ 1 → IsPassing takers old b chosen left next trail old b chosen
 passing_starts takers old b chosen left next trail naming allowed inside reached wants =
     record {
       naming = naming;
@@ -43,7 +46,9 @@ same_here a b e = cond-true (a == b) 1 0 (eq-eqb a b e)
 same_apart : (a b : ℕ) → a ≢ b → same a b ≡ 0
 same_apart a b apart = cond-false (a == b) 1 0 (ne_eqb a b apart)
 
-module _ (takers : List (List ℕ)) (old : List ℕ) (b chosen : ℕ) (left next : List ℕ) (trail : IsTrail takers old b left next) (first : IsNaming (length takers) old) (names : List ℕ) (holder taken : ℕ) (passing : IsPassing takers old b chosen left next trail names holder taken) where
+module _ (takers : List (List ℕ)) (old : List ℕ) (b chosen : ℕ) (left next : List ℕ) (trail : IsTrail takers old b left next)
+    (first : IsNaming (length takers) old) (names : List ℕ) (holder taken : ℕ)
+    (passing : IsPassing takers old b chosen left next trail names holder taken) where
   module _ (more : taken ≢ b) (new : List ℕ) (counted : length new ≡ length takers) (swapped : Swapped (λ k. slice_index names k) (λ k. slice_index new k) holder taken) where
     after : b < taken
     after = omega (arith, passing.reached.from, more)
@@ -95,18 +100,26 @@ module _ (takers : List (List ℕ)) (old : List ℕ) (b chosen : ℕ) (left next
     -- fewer blocks have the PEs that they had
     pub passing_less : total (length takers) (λ k. same (slice_index new k) (slice_index old k)) < total (length takers) (λ k. same (slice_index names k) (slice_index old k))
     passing_less =
-        total_less (length takers) (λ k. same (slice_index new k) (slice_index old k)) (λ k. same (slice_index names k) (slice_index old k)) taken no_more passing.reached.inside (omega (arith, gone taken, here))
+        total_less (length takers) (λ k. same (slice_index new k) (slice_index old k)) (λ k. same (slice_index names k) (slice_index old k))
+        taken no_more passing.reached.inside (omega (arith, gone taken, here))
       where
         here : same (slice_index names taken) (slice_index old taken) ≡ 1
         here = same_here (slice_index names taken) (slice_index old taken) had
 
         gone : (k : ℕ) → same (slice_index new taken) (slice_index old taken) ≡ 0
-        gone k = same_apart (slice_index new taken) (slice_index old taken) (λ e. more (sym (same_block (length takers) old b taken first (omega (arith, after, passing.reached.inside)) passing.reached.inside (sym passing.holds ∙ sym swapped.1 ∙ e))))
+        gone k = same_apart (slice_index new taken) (slice_index old taken)
+            (λ e. more (sym (same_block (length takers) old b taken first (omega (arith, after, passing.reached.inside))
+            passing.reached.inside (sym passing.holds ∙ sym swapped.1 ∙ e))))
 
         no_more : (k : ℕ) → k < length takers → same (slice_index new k) (slice_index old k) ≤ same (slice_index names k) (slice_index old k)
         no_more k inside =
             elim (cases_eq k holder) [
-              | inl at ↦ omega (arith, ap (λ m. same (slice_index new m) (slice_index old m)) at, same_apart (slice_index new holder) (slice_index old holder) (λ e. apart (same_block (length takers) old holder taken first passing.holder_in passing.reached.inside (sym e ∙ swapped.0 ∙ had))))
+              | inl at ↦ omega (
+                arith,
+                ap (λ m. same (slice_index new m) (slice_index old m)) at,
+                same_apart (slice_index new holder) (slice_index old holder)
+                    (λ e. apart (same_block (length takers) old holder taken first passing.holder_in passing.reached.inside (sym e ∙ swapped.0 ∙ had))),
+              )
               | inr away ↦ elim (cases_eq k taken) [
                 | inl at ↦ omega (arith, ap (λ m. same (slice_index new m) (slice_index old m)) at, gone taken)
                 | inr other ↦ omega (arith, ap (λ p. same p (slice_index old k)) (swapped.2 k away other))
@@ -117,7 +130,8 @@ module _ (takers : List (List ℕ)) (old : List ℕ) (b chosen : ℕ) (left next
   pub passing_ends : taken ≡ b → IsAllowed takers names × (slice_index names b ≡ slice_index old chosen)
   passing_ends last = (
     λ k inside. elim (cases_eq k holder) [
-      | inl here ↦ ap (λ m. may_have takers m (slice_index names m)) here ∙ ap (λ p. may_have takers holder p) (passing.holds ∙ ap (λ m. slice_index old m) (sym last)) ∙ passing.wants
+      | inl here ↦ ap (λ m. may_have takers m (slice_index names m)) here
+          ∙ ap (λ p. may_have takers holder p) (passing.holds ∙ ap (λ m. slice_index old m) (sym last)) ∙ passing.wants
       | inr other ↦ passing.others k inside other
     ],
     elim passing.start [

@@ -5,7 +5,8 @@ use Rattle.lb_certificates.proofs.HeldTables.{cost_by_table}
 use Rattle.block_assignment.specs.Held.{HasHeldCosts}
 use Rattle.block_assignment.specs.Table.{IsTableOf, Table}
 
-pub table_of_held : (blocks : ℕ) (sizes : List (ℕ × ℕ)) (cuts held : List ℕ) (t : Table) → length held ≡ blocks * blocks → HasHeldCosts blocks held t → IsHeld blocks sizes cuts held → IsTableOf sizes cuts t
+pub table_of_held : (blocks : ℕ) (sizes : List (ℕ × ℕ)) (cuts held : List ℕ) (t : Table) → length held ≡ blocks * blocks
+    → HasHeldCosts blocks held t → IsHeld blocks sizes cuts held → IsTableOf sizes cuts t
 table_of_held blocks sizes cuts held t square costs table =
     record {
       counted = omega (arith, costs.counted, table.divides.counted);

@@ -13,20 +13,29 @@ pub record IsRow (s : State) (b : ℕ) (row : List ℕ) : Type 0 where
   pub costs : (p : ℕ) → p < s.table.blocks → slice_index row p ≡ cost_at s.table b p
 
 -- the price is no more than the cost plus the discount
-pub row_low : (s : State) (b price : ℕ) (row : List ℕ) → IsMatched s → IsRow s b row → price ≡ slice_index s.price b → (p : ℕ) → p < length row → price ≤ slice_index row p + slice_index s.discount p
+pub row_low : (s : State) (b price : ℕ) (row : List ℕ) → IsMatched s → IsRow s b row → price ≡ slice_index s.price b → (p : ℕ)
+    → p < length row → price ≤ slice_index row p + slice_index s.discount p
 row_low s b price row matched is_row read p inside =
     omega (arith, read, is_row.costs p (omega (arith, inside, is_row.counted)), matched.low b p is_row.inside (omega (arith, inside, is_row.counted)))
 
 -- its costs are small
-pub row_small : (s : State) (b : ℕ) (row : List ℕ) → IsSized s → IsMatched s → s.named < s.table.blocks → IsRow s b row → (p : ℕ) → p < length row → slice_index row p + slice_index s.discount p ≤ 2 ^ 49
+pub row_small : (s : State) (b : ℕ) (row : List ℕ) → IsSized s → IsMatched s → s.named < s.table.blocks → IsRow s b row → (p : ℕ)
+    → p < length row → slice_index row p + slice_index s.discount p ≤ 2 ^ 49
 row_small s b row sized matched unnamed is_row p inside =
     let within : p < s.table.blocks = omega (arith, inside, is_row.counted) in
     omega (arith, is_row.costs p within, cost_within s.table b p sized.is_table is_row.inside within, discount_small s sized.is_table matched unnamed p within)
 
 -- the PEs as they are once the row was gone through
-pub relaxed_by_row : (s : State) (far : ℕ) (rank : List ℕ) (b : ℕ) (row old_distance distance from : List ℕ) → IsRow s b row → ((p : ℕ) → p < length row → slice_index rank p ≡ 0 → IsRelaxed far (slice_index row p) (slice_index s.price b) (slice_index s.discount p) b (slice_index old_distance p) (slice_index s.from p) (slice_index distance p) (slice_index from p)) → (p : ℕ) → p < s.table.blocks → slice_index rank p ≡ 0 → IsRelaxed far (cost_at s.table b p) (slice_index s.price b) (slice_index s.discount p) b (slice_index old_distance p) (slice_index s.from p) (slice_index distance p) (slice_index from p)
+pub relaxed_by_row : (s : State) (far : ℕ) (rank : List ℕ) (b : ℕ) (row old_distance distance from : List ℕ) → IsRow s b row
+    → ((p : ℕ) → p < length row → slice_index rank p ≡ 0
+    → IsRelaxed far (slice_index row p) (slice_index s.price b) (slice_index s.discount p) b (slice_index old_distance p)
+    (slice_index s.from p) (slice_index distance p) (slice_index from p)) → (p : ℕ) → p < s.table.blocks → slice_index rank p ≡ 0
+    → IsRelaxed far (cost_at s.table b p) (slice_index s.price b) (slice_index s.discount p) b (slice_index old_distance p)
+    (slice_index s.from p) (slice_index distance p) (slice_index from p)
 relaxed_by_row s far rank b row old_distance distance from is_row relaxed p inside not_yet =
-    subst (λ cost. IsRelaxed far cost (slice_index s.price b) (slice_index s.discount p) b (slice_index old_distance p) (slice_index s.from p) (slice_index distance p) (slice_index from p)) (is_row.costs p inside) (relaxed p (omega (arith, inside, is_row.counted)) not_yet)
+    subst (λ cost. IsRelaxed far cost (slice_index s.price b) (slice_index s.discount p) b (slice_index old_distance p)
+    (slice_index s.from p) (slice_index distance p) (slice_index from p)) (is_row.costs p inside)
+    (relaxed p (omega (arith, inside, is_row.counted)) not_yet)
 
 -- the block of the nearest PE is ready to join the tree
 pub record IsReady (next : ℕ) (s : State) (b pe : ℕ) : Type 0 where
@@ -39,7 +48,8 @@ pub record IsReady (next : ℕ) (s : State) (b pe : ℕ) : Type 0 where
   pub pe_in_rank : pe < length s.rank
   pub pe_in_distance : pe < length s.distance
 
-pub ready : (next : ℕ) (s old : State) (b pe : ℕ) → s ≡ old → IsSized old → IsMatched old → IsTree next old → old.named < old.table.blocks → IsNearest old.rank old.distance old.table.blocks pe → slice_index_or old.holders pe None ≡ Some b → IsReady next s b pe
+pub ready : (next : ℕ) (s old : State) (b pe : ℕ) → s ≡ old → IsSized old → IsMatched old → IsTree next old → old.named < old.table.blocks
+    → IsNearest old.rank old.distance old.table.blocks pe → slice_index_or old.holders pe None ≡ Some b → IsReady next s b pe
 ready next s old b pe same sized matched tree unnamed near held =
     let block : b < old.table.blocks = omega (arith, (matched.held pe b near.inside held).0, unnamed) in
     subst (λ z. IsReady next z b pe) (sym same) (record {

@@ -16,7 +16,8 @@ member_or_not set b =
     ]
 
 -- two namings that agree before b, and the block of the one that holds a PE of the other
-module _ (takers : List (List ℕ)) (names others : List ℕ) (b : ℕ) (naming : IsNaming (length takers) names) (other : IsNaming (length takers) others) (same : (k : ℕ) → k < b → slice_index others k ≡ slice_index names k) (inside : b < length takers) where
+module _ (takers : List (List ℕ)) (names others : List ℕ) (b : ℕ) (naming : IsNaming (length takers) names)
+    (other : IsNaming (length takers) others) (same : (k : ℕ) → k < b → slice_index others k ≡ slice_index names k) (inside : b < length takers) where
   abbrev holder : ℕ → ℕ
   holder k = place (length takers) names (slice_index others k)
 
@@ -62,14 +63,19 @@ module _ (takers : List (List ℕ)) (names others : List ℕ) (b : ℕ) (naming 
                 | inl here ↦ omega (arith, ap (λ m. member left m) here, taken)
                 | inr after ↦
                     let has : may_have takers k (slice_index names (holder k)) ≡ 1 = ap (λ p. may_have takers k p) (holds k block) ∙ allowed k block in
-                    let gone : member left k ≡ 0 = closed (holder k) k (record { from = not_before k at block; inside = holder_in k block; taken = reached }) (omega (arith, at, after)) block has in
+                    let gone : member left k ≡ 0 = closed (holder k) k
+                    (record { from = not_before k at block; inside = holder_in k block; taken = reached }) (omega (arith, at, after)) block has in
                     omega (arith, gone)
               ]
             ]
           ]
 
 -- the chosen block has the least PE that block b can have
-pub least_chosen : (takers : List (List ℕ)) (names left : List ℕ) (b chosen : ℕ) → IsNaming (length takers) names → b < length takers → member left b ≡ 0 → IsClosed takers names b left → ((j : ℕ) → IsFound (length takers) b left j → may_have takers b (slice_index names j) ≡ 1 → slice_index names chosen ≤ slice_index names j) → (others : List ℕ) → IsNaming (length takers) others → IsAllowed takers others → ((k : ℕ) → k < b → slice_index others k ≡ slice_index names k) → slice_index names chosen ≤ slice_index others b
+pub least_chosen : (takers : List (List ℕ)) (names left : List ℕ) (b chosen : ℕ) → IsNaming (length takers) names → b < length takers
+    → member left b ≡ 0 → IsClosed takers names b left
+    → ((j : ℕ) → IsFound (length takers) b left j → may_have takers b (slice_index names j) ≡ 1
+    → slice_index names chosen ≤ slice_index names j) → (others : List ℕ) → IsNaming (length takers) others → IsAllowed takers others
+    → ((k : ℕ) → k < b → slice_index others k ≡ slice_index names k) → slice_index names chosen ≤ slice_index others b
 least_chosen takers names left b chosen naming inside taken closed least others other allowed same =
     let j : ℕ = holder takers names others b naming other same inside b in
     let here : slice_index names j ≡ slice_index others b = holds takers names others b naming other same inside b inside in
@@ -81,25 +87,37 @@ least_chosen takers names left b chosen naming inside taken closed least others 
     omega (arith, here, least j reached (ap (λ p. may_have takers b p) here ∙ allowed b inside))
 
 -- the block with the least PE, of one more block
-pub least_more : (takers : List (List ℕ)) (names left : List ℕ) (b j chosen next : ℕ) → ((k : ℕ) → k < j → IsFound (length takers) b left k → may_have takers b (slice_index names k) ≡ 1 → slice_index names chosen ≤ slice_index names k) → slice_index names next ≤ slice_index names chosen → (IsFound (length takers) b left j → may_have takers b (slice_index names j) ≡ 1 → slice_index names next ≤ slice_index names j) → (k : ℕ) → k < j + 1 → IsFound (length takers) b left k → may_have takers b (slice_index names k) ≡ 1 → slice_index names next ≤ slice_index names k
+pub least_more : (takers : List (List ℕ)) (names left : List ℕ) (b j chosen next : ℕ)
+    → ((k : ℕ) → k < j → IsFound (length takers) b left k → may_have takers b (slice_index names k) ≡ 1
+    → slice_index names chosen ≤ slice_index names k) → slice_index names next ≤ slice_index names chosen
+    → (IsFound (length takers) b left j → may_have takers b (slice_index names j) ≡ 1 → slice_index names next ≤ slice_index names j)
+    → (k : ℕ) → k < j + 1 → IsFound (length takers) b left k → may_have takers b (slice_index names k) ≡ 1 → slice_index names next ≤ slice_index names k
 least_more takers names left b j chosen next before less here k past found has =
     elim (cases_eq k j) [
-      | inl e ↦ subst (λ m. slice_index names next ≤ slice_index names m) (sym e) (here (subst (λ m. IsFound (length takers) b left m) e found) (subst (λ m. may_have takers b (slice_index names m) ≡ 1) e has))
+      | inl e ↦ subst (λ m. slice_index names next ≤ slice_index names m) (sym e)
+          (here (subst (λ m. IsFound (length takers) b left m) e found) (subst (λ m. may_have takers b (slice_index names m) ≡ 1) e has))
       | inr other ↦ omega (arith, less, before k (omega (arith, past, other)) found has)
     ]
 
 -- a block that may have no lesser PE of a later block has the least
-pub least_kept : (takers : List (List ℕ)) (names : List ℕ) (b : ℕ) → IsNaming (length takers) names → b < length takers → ((j : ℕ) → b < j → j < length takers → may_have takers b (slice_index names j) ≡ 1 → slice_index names b ≤ slice_index names j) → IsLeastAt takers names b
+pub least_kept : (takers : List (List ℕ)) (names : List ℕ) (b : ℕ) → IsNaming (length takers) names → b < length takers
+    → ((j : ℕ) → b < j → j < length takers → may_have takers b (slice_index names j) ≡ 1 → slice_index names b ≤ slice_index names j) → IsLeastAt takers names b
 least_kept takers names b naming inside none others other allowed same =
     let j : ℕ = holder takers names others b naming other same inside b in
     let here : slice_index names j ≡ slice_index others b = holds takers names others b naming other same inside b inside in
     let from : b ≤ j = not_before takers names others b naming other same inside b (omega arith) inside in
     elim (cases_eq j b) [
       | inl at ↦ omega (arith, here, ap (λ m. slice_index names m) at)
-      | inr after ↦ omega (arith, here, none j (omega (arith, from, after)) (holder_in takers names others b naming other same inside b inside) (ap (λ p. may_have takers b p) here ∙ allowed b inside))
+      | inr after ↦ omega (
+        arith,
+        here,
+        none j (omega (arith, from, after))
+            (holder_in takers names others b naming other same inside b inside) (ap (λ p. may_have takers b p) here ∙ allowed b inside),
+      )
     ]
 
 -- blocks before b have the least PEs as before, where they have the same
-pub least_before : (takers : List (List ℕ)) (names new : List ℕ) (b : ℕ) → ((k : ℕ) → k < b → slice_index new k ≡ slice_index names k) → ((k : ℕ) → k < b → IsLeastAt takers names k) → (k : ℕ) → k < b → IsLeastAt takers new k
+pub least_before : (takers : List (List ℕ)) (names new : List ℕ) (b : ℕ) → ((k : ℕ) → k < b → slice_index new k ≡ slice_index names k)
+    → ((k : ℕ) → k < b → IsLeastAt takers names k) → (k : ℕ) → k < b → IsLeastAt takers new k
 least_before takers names new b same least k before others other allowed agree =
     omega (arith, same k before, least k before others other allowed (λ i earlier. agree i earlier ∙ same i (omega arith)))

@@ -25,7 +25,8 @@ held n names p naming inside =
       | inr free ↦
           let one : ℕ → ℕ = changed (λ _. 0) p 1 in
           let left : total n (λ b. one (slice_index names b)) ≡ total n one = total_named n (λ b. slice_index names b) one naming.below naming.apart in
-          let none : total n (λ b. one (slice_index names b)) ≡ total n (λ _. 0) = total_same n (λ b. one (slice_index names b)) (λ _. 0) (λ b block. changed_apart (λ _. 0) p 1 (slice_index names b) (free b block)) in
+          let none : total n (λ b. one (slice_index names b)) ≡ total n (λ _. 0) = total_same n (λ b. one (slice_index names b)) (λ _. 0)
+          (λ b block. changed_apart (λ _. 0) p 1 (slice_index names b) (free b block)) in
           absurd (omega (arith, left, none, total_changed n (λ _. 0) p 1 inside))
     ]
 
@@ -72,13 +73,15 @@ total_taken n f g q inside one none same =
     omega (arith, other, total_changed n f q 0 inside, one)
 
 -- two blocks exchange their PEs
-pub exchanged : (n : ℕ) (names new : List ℕ) (i j : ℕ) → IsNaming n names → length new ≡ n → i < n → j < n → Swapped (λ k. slice_index names k) (λ k. slice_index new k) i j → IsNaming n new
+pub exchanged : (n : ℕ) (names new : List ℕ) (i j : ℕ) → IsNaming n names → length new ≡ n → i < n → j < n
+    → Swapped (λ k. slice_index names k) (λ k. slice_index new k) i j → IsNaming n new
 exchanged n names new i j naming counted first second swapped =
     record {
       counted = counted;
       below = λ b inside. omega (arith, naming.below (source b) (source_in b inside), from_source b);
       apart = λ a b before inside same.
-          let one : source a ≡ source b = same_block n names (source a) (source b) naming (source_in a (omega arith)) (source_in b inside) (sym (from_source a) ∙ same ∙ from_source b) in
+          let one : source a ≡ source b = same_block n names (source a) (source b) naming (source_in a (omega arith)) (source_in b inside)
+          (sym (from_source a) ∙ same ∙ from_source b) in
           absurd (omega (arith, before, source_apart a b one));
     }
   where

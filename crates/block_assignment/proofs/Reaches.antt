@@ -19,13 +19,16 @@ pub record IsSearching (takers : List (List ℕ)) (names : List ℕ) (b i : ℕ)
   pub reached : (j : ℕ) → b < j → IsFound (length takers) b left j → IsFound (length takers) b left (slice_index next j)
   pub allowed : (j : ℕ) → b < j → IsFound (length takers) b left j → may_have takers j (slice_index names (slice_index next j)) ≡ 1
   pub nearer : (j : ℕ) → b < j → IsFound (length takers) b left j → rank (slice_index next j) < rank j
-  pub closed : (k j : ℕ) → IsFound (length takers) b left k → member waiting k ≡ 0 → k ≢ i → b < j → j < length takers → may_have takers j (slice_index names k) ≡ 1 → member left j ≡ 0
+  pub closed : (k j : ℕ) → IsFound (length takers) b left k → member waiting k ≡ 0 → k ≢ i → b < j → j < length takers
+      → may_have takers j (slice_index names k) ≡ 1 → member left j ≡ 0
 
 -- what is left is not reached
 not_both : (set : List ℕ) (j k : ℕ) → member set j ≡ 1 → member set k ≡ 0 → k ≢ j
 not_both set j k one none same = absurd (omega (arith, one, none, ap (λ m. member set m) same))
 
-pub search_starts : (takers : List (List ℕ)) (names : List ℕ) (b : ℕ) (left waiting next : List ℕ) → b < length takers → ((j : ℕ) → member left j ≡ 1 → (b < j) × (j < length takers)) → ((j : ℕ) → b < j → j < length takers → member left j ≡ 1) → ((j : ℕ) → member waiting j ≡ 0) → IsSearching takers names b b left waiting next
+pub search_starts : (takers : List (List ℕ)) (names : List ℕ) (b : ℕ) (left waiting next : List ℕ) → b < length takers
+    → ((j : ℕ) → member left j ≡ 1 → (b < j) × (j < length takers)) → ((j : ℕ) → b < j → j < length takers → member left j ≡ 1)
+    → ((j : ℕ) → member waiting j ≡ 0) → IsSearching takers names b b left waiting next
 search_starts takers names b left waiting next inside later all none =
     record {
       rank = λ _. 0;
@@ -47,7 +50,10 @@ search_starts takers names b left waiting next inside later all none =
       closed = λ k j at _ other _ _ _. absurd (omega (arith, at.taken, all k (omega (arith, at.from, other)) at.inside));
     }
 
-pub search_joins : (takers : List (List ℕ)) (names : List ℕ) (b i j : ℕ) (left waiting next new_left new_waiting : List ℕ) → IsSearching takers names b i left waiting next → length next ≡ length takers → member left j ≡ 1 → may_have takers j (slice_index names i) ≡ 1 → member new_left j ≡ 0 → ((k : ℕ) → k ≢ j → member new_left k ≡ member left k) → member new_waiting j ≡ 1 → ((k : ℕ) → k ≢ j → member new_waiting k ≡ member waiting k) → IsSearching takers names b i new_left new_waiting (set next j i)
+pub search_joins : (takers : List (List ℕ)) (names : List ℕ) (b i j : ℕ) (left waiting next new_left new_waiting : List ℕ)
+    → IsSearching takers names b i left waiting next → length next ≡ length takers → member left j ≡ 1
+    → may_have takers j (slice_index names i) ≡ 1 → member new_left j ≡ 0 → ((k : ℕ) → k ≢ j → member new_left k ≡ member left k)
+    → member new_waiting j ≡ 1 → ((k : ℕ) → k ≢ j → member new_waiting k ≡ member waiting k) → IsSearching takers names b i new_left new_waiting (set next j i)
 search_joins takers names b i j left waiting next new_left new_waiting search counted left_here takes gone left_same opens waiting_same =
     record {
       rank = rank;
@@ -72,7 +78,13 @@ search_joins takers names b i j left waiting next new_left new_waiting search co
       ];
       nearer = λ k after at. elim (cases_eq k j) [
         | inl same ↦ omega (arith, ap rank (next_here k same), changed_here search.rank j search.top k same, kept i search.here, search.ranks i search.here)
-        | inr other ↦ omega (arith, ap rank (next_other k other), changed_apart search.rank j search.top k other, kept (slice_index next k) (search.reached k after (before k other at)), search.nearer k after (before k other at))
+        | inr other ↦ omega (
+          arith,
+          ap rank (next_other k other),
+          changed_apart search.rank j search.top k other,
+          kept (slice_index next k) (search.reached k after (before k other at)),
+          search.nearer k after (before k other at),
+        )
       ];
       closed = λ k m at shut other after inside has.
           let apart : k ≢ j = λ same. absurd (omega (arith, shut, opens, ap (λ x. member new_waiting x) same)) in
@@ -108,7 +120,12 @@ search_joins takers names b i j left waiting next new_left new_waiting search co
     kept k at = changed_apart search.rank j search.top k (apart k at)
 
 -- what joins is no longer left, and waits
-pub joins_less : (takers : List (List ℕ)) (names : List ℕ) (b i j : ℕ) (left waiting next new_left new_waiting : List ℕ) → IsSearching takers names b i left waiting next → member left j ≡ 1 → member new_left j ≡ 0 → ((k : ℕ) → k ≢ j → member new_left k ≡ member left k) → member new_waiting j ≡ 1 → ((k : ℕ) → k ≢ j → member new_waiting k ≡ member waiting k) → 2 * total (length takers) (member new_left) + total (length takers) (member new_waiting) < 2 * total (length takers) (member left) + total (length takers) (member waiting)
+pub joins_less : (takers : List (List ℕ)) (names : List ℕ) (b i j : ℕ) (left waiting next new_left new_waiting : List ℕ)
+    → IsSearching takers names b i left waiting next → member left j ≡ 1 → member new_left j ≡ 0
+    → ((k : ℕ) → k ≢ j → member new_left k ≡ member left k) → member new_waiting j ≡ 1
+    → ((k : ℕ) → k ≢ j → member new_waiting k ≡ member waiting k)
+    → 2 * total (length takers) (member new_left) + total (length takers) (member new_waiting) < 2 * total (length takers)
+    (member left) + total (length takers) (member waiting)
 joins_less takers names b i j left waiting next new_left new_waiting search left_here gone left_same opens waiting_same =
     let inside : j < length takers = (search.later j left_here).1 in
     let shut : member waiting j ≡ 0 = elim (member_or_not waiting j) [ inl out ↦ out | inr has ↦ absurd (omega (arith, left_here, (search.opened j has).taken)) ] in
@@ -118,7 +135,10 @@ joins_less takers names b i j left waiting next new_left new_waiting search left
       total_taken (length takers) (member new_waiting) (member waiting) j inside opens shut (λ k other. sym (waiting_same k other)),
     )
 
-pub search_moves : (takers : List (List ℕ)) (names : List ℕ) (b i j : ℕ) (left waiting next new_waiting : List ℕ) → IsSearching takers names b i left waiting next → ((k : ℕ) → k < length takers → member left k ≡ 1 → may_have takers k (slice_index names i) ≡ 0) → member waiting j ≡ 1 → ((k : ℕ) → k ≢ j → member new_waiting k ≡ member waiting k) → member new_waiting j ≡ 0 → IsSearching takers names b j left new_waiting next
+pub search_moves : (takers : List (List ℕ)) (names : List ℕ) (b i j : ℕ) (left waiting next new_waiting : List ℕ)
+    → IsSearching takers names b i left waiting next → ((k : ℕ) → k < length takers → member left k ≡ 1
+    → may_have takers k (slice_index names i) ≡ 0) → member waiting j ≡ 1 → ((k : ℕ) → k ≢ j → member new_waiting k ≡ member waiting k)
+    → member new_waiting j ≡ 0 → IsSearching takers names b j left new_waiting next
 search_moves takers names b i j left waiting next new_waiting search none waits waiting_same shut =
     record {
       rank = search.rank;
@@ -133,7 +153,10 @@ search_moves takers names b i j left waiting next new_waiting search none waits 
       closed = λ k m at out other after inside has. closed_at takers names b i left waiting next search none k m at (sym (waiting_same k other) ∙ out) after inside has;
     }
   where
-    closed_at : (takers : List (List ℕ)) (names : List ℕ) (b i : ℕ) (left waiting next : List ℕ) → IsSearching takers names b i left waiting next → ((k : ℕ) → k < length takers → member left k ≡ 1 → may_have takers k (slice_index names i) ≡ 0) → (k m : ℕ) → IsFound (length takers) b left k → member waiting k ≡ 0 → b < m → m < length takers → may_have takers m (slice_index names k) ≡ 1 → member left m ≡ 0
+    closed_at : (takers : List (List ℕ)) (names : List ℕ) (b i : ℕ) (left waiting next : List ℕ)
+        → IsSearching takers names b i left waiting next → ((k : ℕ) → k < length takers → member left k ≡ 1
+        → may_have takers k (slice_index names i) ≡ 0) → (k m : ℕ) → IsFound (length takers) b left k → member waiting k ≡ 0 → b < m
+        → m < length takers → may_have takers m (slice_index names k) ≡ 1 → member left m ≡ 0
     closed_at takers names b i left waiting next search none k m at out after inside has =
         elim (cases_eq k i) [
           | inl same ↦ elim (member_or_not left m) [

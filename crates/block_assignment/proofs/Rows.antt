@@ -35,7 +35,9 @@ abbrev pub HasRows : ℕ → List (ℕ × ℕ) → List ℕ → ℕ → ℕ → 
 HasRows most sizes cuts = HasRowsOf most (block_cost sizes cuts)
 
 -- one more row
-pub rows_more_of : (most : ℕ) (cost : ℕ → ℕ → ℕ) (blocks b : ℕ) (costs row : List ℕ) → ((p : ℕ) → p < blocks → cost b p ≤ most) → HasRowsOf most cost blocks b costs → length row ≡ blocks → ((p : ℕ) → p < blocks → slice_index row p ≡ cost b p) → HasRowsOf most cost blocks (b + 1) (costs ++ row)
+pub rows_more_of : (most : ℕ) (cost : ℕ → ℕ → ℕ) (blocks b : ℕ) (costs row : List ℕ) → ((p : ℕ) → p < blocks → cost b p ≤ most)
+    → HasRowsOf most cost blocks b costs → length row ≡ blocks → ((p : ℕ) → p < blocks → slice_index row p ≡ cost b p)
+    → HasRowsOf most cost blocks (b + 1) (costs ++ row)
 rows_more_of most cost blocks b costs row within rows counted exact =
     record {
       counted = omega (arith, rows.counted, length-append costs row);
@@ -47,19 +49,24 @@ rows_more_of most cost blocks b costs row within rows counted exact =
         | inr last ↦
             let e : k ≡ b = omega arith in
             let turned : b * blocks + p - b * blocks ≡ p = omega arith in
-            let read : slice_index (costs ++ row) (b * blocks + p) ≡ slice_index row (b * blocks + p - b * blocks) = get_or-append_right costs row (b * blocks) (b * blocks + p) 0 rows.counted (omega arith) in
+            let read : slice_index (costs ++ row) (b * blocks + p) ≡ slice_index row (b * blocks + p - b * blocks) = get_or-append_right
+            costs row (b * blocks) (b * blocks + p) 0 rows.counted (omega arith) in
             subst (λ n. slice_index (costs ++ row) (n * blocks + p) ≡ cost n p) (sym e) (read ∙ ap (λ n. slice_index row n) turned ∙ exact p inside)
       ];
     }
 
-pub rows_more : (most : ℕ) (sizes : List (ℕ × ℕ)) (cuts : List ℕ) (blocks b : ℕ) (costs row : List ℕ) → ((p : ℕ) → block_cost sizes cuts b p ≤ most) → HasRows most sizes cuts blocks b costs → length row ≡ blocks → ((p : ℕ) → p < blocks → slice_index row p ≡ block_cost sizes cuts b p) → HasRows most sizes cuts blocks (b + 1) (costs ++ row)
+pub rows_more : (most : ℕ) (sizes : List (ℕ × ℕ)) (cuts : List ℕ) (blocks b : ℕ) (costs row : List ℕ)
+    → ((p : ℕ) → block_cost sizes cuts b p ≤ most) → HasRows most sizes cuts blocks b costs → length row ≡ blocks
+    → ((p : ℕ) → p < blocks → slice_index row p ≡ block_cost sizes cuts b p) → HasRows most sizes cuts blocks (b + 1) (costs ++ row)
 rows_more most sizes cuts blocks b costs row within =
     rows_more_of most (block_cost sizes cuts) blocks b costs row (λ p _. within p)
 
 -- the rows of all blocks are a table
-pub table_of_rows : (most_blocks most : ℕ) (sizes : List (ℕ × ℕ)) (cuts : List ℕ) (blocks : ℕ) (costs : List ℕ) → 1 ≤ blocks → blocks ≤ most_blocks → HasRows most sizes cuts blocks blocks costs → IsWithin most_blocks most (record { blocks = blocks; costs = costs })
+pub table_of_rows : (most_blocks most : ℕ) (sizes : List (ℕ × ℕ)) (cuts : List ℕ) (blocks : ℕ) (costs : List ℕ) → 1 ≤ blocks
+    → blocks ≤ most_blocks → HasRows most sizes cuts blocks blocks costs → IsWithin most_blocks most (record { blocks = blocks; costs = costs })
 table_of_rows most_blocks most sizes cuts blocks costs some few rows = record { some_block = some; few_blocks = few; square = rows.counted; small = rows.small }
 
 -- and the table of these cuts
-pub exact_of_rows : (most : ℕ) (sizes : List (ℕ × ℕ)) (cuts : List ℕ) (costs : List ℕ) → HasRows most sizes cuts (length cuts - 1) (length cuts - 1) costs → IsTableOf sizes cuts (record { blocks = length cuts - 1; costs = costs })
+pub exact_of_rows : (most : ℕ) (sizes : List (ℕ × ℕ)) (cuts : List ℕ) (costs : List ℕ)
+    → HasRows most sizes cuts (length cuts - 1) (length cuts - 1) costs → IsTableOf sizes cuts (record { blocks = length cuts - 1; costs = costs })
 exact_of_rows most sizes cuts costs rows = record { counted = refl; exact = rows.exact }

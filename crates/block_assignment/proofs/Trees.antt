@@ -26,7 +26,8 @@ free_if_unheld s p matched none b named here =
     let same : slice_index_or s.holders p None ≡ Some b = subst (λ q. slice_index_or s.holders q None ≡ Some b) here known in
     cc
 
-pub grown_sized : (s : State) (rank distance from : List ℕ) → IsSized s → length rank ≡ s.table.blocks → length distance ≡ s.table.blocks → length from ≡ s.table.blocks → IsSized (grown s rank distance from)
+pub grown_sized : (s : State) (rank distance from : List ℕ) → IsSized s → length rank ≡ s.table.blocks → length distance ≡ s.table.blocks
+    → length from ≡ s.table.blocks → IsSized (grown s rank distance from)
 grown_sized s rank distance from sized ranks distances froms =
     record {
       is_table = sized.is_table;
@@ -47,20 +48,32 @@ grown_matched s rank distance from matched =
 pub none_scanned : (rank : List ℕ) → ((p : ℕ) → p < length rank → slice_index rank p ≡ 0) → unscanned rank ≡ length rank
 none_scanned [] none = refl
 none_scanned (r ∷ rank) none =
-    omega (arith, sum_by-cons (λ (n : ℕ). cond (n == 0) 1 0) r rank, ap {B = ℕ} (λ (t : Bool). cond t 1 0) (eq-eqb r 0 (none 0 (omega arith))), none_scanned rank (λ p inside. none (suc p) (omega (arith, inside))))
+    omega (
+      arith,
+      sum_by-cons (λ (n : ℕ). cond (n == 0) 1 0) r rank,
+      ap {B = ℕ} (λ (t : Bool). cond t 1 0) (eq-eqb r 0 (none 0 (omega arith))),
+      none_scanned rank (λ p inside. none (suc p) (omega (arith, inside))),
+    )
 
 pub one_scanned : (rank : List ℕ) (p next : ℕ) → p < length rank → slice_index rank p ≡ 0 → 0 < next → unscanned (set rank p next) + 1 ≡ unscanned rank
 one_scanned rank p next inside none some =
-    omega (arith, sum_by-set (λ (n : ℕ). cond (n == 0) 1 0) rank p next 0 inside, ap {B = ℕ} (λ (t : Bool). cond t 1 0) (eq-eqb (slice_index rank p) 0 none), ap {B = ℕ} (λ (t : Bool). cond t 1 0) (ne_eqb next 0 (λ e. absurd (omega (arith, e, some)))))
+    omega (
+      arith,
+      sum_by-set (λ (n : ℕ). cond (n == 0) 1 0) rank p next 0 inside,
+      ap {B = ℕ} (λ (t : Bool). cond t 1 0) (eq-eqb (slice_index rank p) 0 none),
+      ap {B = ℕ} (λ (t : Bool). cond t 1 0) (ne_eqb next 0 (λ e. absurd (omega (arith, e, some)))),
+    )
 
 -- ---- a tree of one block
 
 pub record StartsTree (s : State) (rank most old_from distance from : List ℕ) : Type 0 where
   pub unranked : (p : ℕ) → p < s.table.blocks → slice_index rank p ≡ 0
   pub far : (p : ℕ) → p < s.table.blocks → slice_index most p ≡ 2 ^ 64 - 1
-  pub relaxed : (p : ℕ) → p < s.table.blocks → IsRelaxed 0 (cost_at s.table s.named p) (slice_index s.price s.named) (slice_index s.discount p) s.named (slice_index most p) (slice_index old_from p) (slice_index distance p) (slice_index from p)
+  pub relaxed : (p : ℕ) → p < s.table.blocks → IsRelaxed 0 (cost_at s.table s.named p) (slice_index s.price s.named)
+      (slice_index s.discount p) s.named (slice_index most p) (slice_index old_from p) (slice_index distance p) (slice_index from p)
 
-pub started_tree : (s : State) (rank most old_from distance from : List ℕ) → IsSized s → IsMatched s → s.named < s.table.blocks → StartsTree s rank most old_from distance from → IsTree 1 (grown s rank distance from)
+pub started_tree : (s : State) (rank most old_from distance from : List ℕ) → IsSized s → IsMatched s → s.named < s.table.blocks
+    → StartsTree s rank most old_from distance from → IsTree 1 (grown s rank distance from)
 started_tree s rank most old_from distance from sized matched unnamed starts_tree =
     record {
       some = omega arith;
@@ -72,10 +85,18 @@ started_tree s rank most old_from distance from sized matched unnamed starts_tre
       earlier = λ p inside scanned named. absurd (omega (arith, scanned, starts_tree.unranked p inside));
     }
   where
-    by_root : (p : ℕ) → p < s.table.blocks → (slice_index distance p + slice_index s.price s.named ≡ 0 + cost_at s.table s.named p + slice_index s.discount p) × (slice_index from p ≡ s.named)
+    by_root : (p : ℕ) → p < s.table.blocks → (slice_index distance p + slice_index s.price s.named ≡ 0 + cost_at s.table s.named
+        p + slice_index s.discount p) × (slice_index from p ≡ s.named)
     by_root p inside =
         elim (starts_tree.relaxed p inside).which [
-          | inl kept ↦ absurd (omega (arith, kept.0, starts_tree.far p inside, (starts_tree.relaxed p inside).for_block, cost_within s.table s.named p sized.is_table unnamed inside, discount_small s sized.is_table matched unnamed p inside))
+          | inl kept ↦ absurd (omega (
+            arith,
+            kept.0,
+            starts_tree.far p inside,
+            (starts_tree.relaxed p inside).for_block,
+            cost_within s.table s.named p sized.is_table unnamed inside,
+            discount_small s sized.is_table matched unnamed p inside,
+          ))
           | inr less ↦ (less.1, less.2)
         ]
 
@@ -86,10 +107,12 @@ started_tree s rank most old_from distance from sized matched unnamed starts_tre
       exact = subst (λ b. slice_index distance p + slice_index s.price b ≡ 0 + cost_at s.table b p + slice_index s.discount p) (sym (by_root p inside).1) (by_root p inside).0;
     }
 
-    least : (b far p : ℕ) → IsAt (grown s rank distance from) b far → p < s.table.blocks → slice_index distance p + slice_index s.price b ≤ far + cost_at s.table b p + slice_index s.discount p
+    least : (b far p : ℕ) → IsAt (grown s rank distance from) b far → p < s.table.blocks
+        → slice_index distance p + slice_index s.price b ≤ far + cost_at s.table b p + slice_index s.discount p
     least b far p at inside =
         elim at [
-          | inl root ↦ subst (λ k. slice_index distance p + slice_index s.price k ≤ far + cost_at s.table k p + slice_index s.discount p) (sym root.0) (omega (arith, (by_root p inside).0))
+          | inl root ↦ subst (λ k. slice_index distance p + slice_index s.price k ≤ far + cost_at s.table k p + slice_index s.discount p)
+              (sym root.0) (omega (arith, (by_root p inside).0))
           | inr joined ↦ absurd (omega (arith, joined.1, starts_tree.unranked (slice_index s.names b) (matched.below b joined.0)))
         ]
 
@@ -102,14 +125,18 @@ pub record Joins (s : State) (b pe : ℕ) : Type 0 where
 
 abbrev pub Relaxed : State → ℕ → List ℕ → ℕ → List ℕ → List ℕ → Type 0
 Relaxed s far rank b distance from =
-    (p : ℕ) → p < s.table.blocks → slice_index rank p ≡ 0 → IsRelaxed far (cost_at s.table b p) (slice_index s.price b) (slice_index s.discount p) b (slice_index s.distance p) (slice_index s.from p) (slice_index distance p) (slice_index from p)
+    (p : ℕ) → p < s.table.blocks → slice_index rank p ≡ 0
+    → IsRelaxed far (cost_at s.table b p) (slice_index s.price b) (slice_index s.discount p) b (slice_index s.distance p)
+    (slice_index s.from p) (slice_index distance p) (slice_index from p)
 
 -- what was scanned stays as it is
 pub record Kept (s : State) (rank distance from : List ℕ) : Type 0 where
   pub distances : (p : ℕ) → 0 < slice_index rank p → slice_index distance p ≡ slice_index s.distance p
   pub froms : (p : ℕ) → 0 < slice_index rank p → slice_index from p ≡ slice_index s.from p
 
-pub grown_tree : (next : ℕ) (s : State) (b pe : ℕ) (distance from : List ℕ) → IsSized s → IsMatched s → IsTree next s → Joins s b pe → Relaxed s (slice_index s.distance pe) (set s.rank pe next) b distance from → Kept s (set s.rank pe next) distance from → IsTree (next + 1) (grown s (set s.rank pe next) distance from)
+pub grown_tree : (next : ℕ) (s : State) (b pe : ℕ) (distance from : List ℕ) → IsSized s → IsMatched s → IsTree next s → Joins s b pe
+    → Relaxed s (slice_index s.distance pe) (set s.rank pe next) b distance from → Kept s (set s.rank pe next) distance from
+    → IsTree (next + 1) (grown s (set s.rank pe next) distance from)
 grown_tree next s b pe distance from sized matched tree joins relaxed kept =
     record {
       some = omega arith;
@@ -214,7 +241,8 @@ grown_tree next s b pe distance from sized matched tree joins relaxed kept =
         as_before far_same from_same = record {
           far = old.far;
           joined = subst (λ k. IsAt (grown s (set s.rank pe next) distance from) k old.far) (sym from_same) (at_before (slice_index s.from p) old.far old.joined);
-          exact = subst (λ k. slice_index distance p + slice_index s.price k ≡ old.far + cost_at s.table k p + slice_index s.discount p) (sym from_same) (omega (arith, far_same, old.exact));
+          exact = subst (λ k. slice_index distance p + slice_index s.price k ≡ old.far + cost_at s.table k p + slice_index s.discount p)
+              (sym from_same) (omega (arith, far_same, old.exact));
         }
 
     no_farther : (p : ℕ) → p < s.table.blocks → slice_index distance p ≤ slice_index s.distance p
@@ -232,11 +260,13 @@ grown_tree next s b pe distance from sized matched tree joins relaxed kept =
           | inr other ↦ tree.nearer p pe inside joins.nearest.inside (omega (arith, scanned, rank_other p other)) joins.nearest.apart
         ]
 
-    least : (k far p : ℕ) → IsAt (grown s (set s.rank pe next) distance from) k far → p < s.table.blocks → slice_index distance p + slice_index s.price k ≤ far + cost_at s.table k p + slice_index s.discount p
+    least : (k far p : ℕ) → IsAt (grown s (set s.rank pe next) distance from) k far → p < s.table.blocks
+        → slice_index distance p + slice_index s.price k ≤ far + cost_at s.table k p + slice_index s.discount p
     least k far p at inside =
         elim (at_one k far at) [
           | inl before ↦ omega (arith, no_farther p inside, tree.least k far p before inside)
-          | inr joined ↦ subst (λ n. slice_index distance p + slice_index s.price n ≤ far + cost_at s.table n p + slice_index s.discount p) (sym joined.0) (omega (arith, joined.1, by_block))
+          | inr joined ↦ subst (λ n. slice_index distance p + slice_index s.price n ≤ far + cost_at s.table n p + slice_index s.discount p)
+              (sym joined.0) (omega (arith, joined.1, by_block))
         ]
       where
         by_block : slice_index distance p + slice_index s.price b ≤ slice_index s.distance pe + cost_at s.table b p + slice_index s.discount p
@@ -246,14 +276,16 @@ grown_tree next s b pe distance from sized matched tree joins relaxed kept =
               | inr not_yet ↦ (relaxed p inside (omega arith)).for_block
             ]
 
-    nearer : (p q : ℕ) → p < s.table.blocks → q < s.table.blocks → 0 < slice_index (set s.rank pe next) p → slice_index (set s.rank pe next) q ≡ 0 → slice_index distance p ≤ slice_index distance q
+    nearer : (p q : ℕ) → p < s.table.blocks → q < s.table.blocks → 0 < slice_index (set s.rank pe next) p
+        → slice_index (set s.rank pe next) q ≡ 0 → slice_index distance p ≤ slice_index distance q
     nearer p q inside other scanned not_yet =
         elim (relaxed q other not_yet).which [
           | inl same ↦ omega (arith, kept.distances p scanned, same.0, up_to_here p inside scanned, joins.nearest.least q other (not_before q not_yet))
           | inr less ↦ omega (arith, kept.distances p scanned, up_to_here p inside scanned, less.1, matched.low b q (omega (arith, block.0, joins.inside)) other)
         ]
 
-    earlier : (p : ℕ) → p < s.table.blocks → 0 < slice_index (set s.rank pe next) p → slice_index from p < s.named → slice_index (set s.rank pe next) (slice_index s.names (slice_index from p)) < slice_index (set s.rank pe next) p
+    earlier : (p : ℕ) → p < s.table.blocks → 0 < slice_index (set s.rank pe next) p → slice_index from p < s.named
+        → slice_index (set s.rank pe next) (slice_index s.names (slice_index from p)) < slice_index (set s.rank pe next) p
     earlier p inside scanned named =
         let same : slice_index from p ≡ slice_index s.from p = kept.froms p scanned in
         subst (λ f. slice_index (set s.rank pe next) (slice_index s.names f) < slice_index (set s.rank pe next) p) (sym same) (before (omega (arith, same, named)))

@@ -4,7 +4,8 @@ use Rattle.std.proofs.lemmas.Bool.{cases_lt}
 use Rattle.std.proofs.lemmas.List.{get_or-set_same, get_or-set_other, get_or-take, length-take-le}
 use Rattle.block_assignment.specs.Search.{IsUnscanned}
 
-pub all_listed : (rank pes : List ℕ) (end : ℕ) → ((p : ℕ) → p < end → slice_index rank p ≡ 0) → length pes ≡ end → ((p : ℕ) → p < end → slice_index pes p ≡ p) → IsUnscanned rank pes end
+pub all_listed : (rank pes : List ℕ) (end : ℕ) → ((p : ℕ) → p < end → slice_index rank p ≡ 0) → length pes ≡ end
+    → ((p : ℕ) → p < end → slice_index pes p ≡ p) → IsUnscanned rank pes end
 all_listed rank pes end none counted each =
     record {
       below = λ i inside. omega (arith, inside, counted, each i (omega (arith, inside, counted)));
@@ -21,7 +22,9 @@ pub record IsWithout (old pes : List ℕ) (place : ℕ) : Type 0 where
   pub behind : (i : ℕ) → place ≤ i → i < length pes → slice_index pes i ≡ slice_index old (i + 1)
 
 -- what stood at a place of the first entries of a list is taken out
-pub taken_out : (old new : List ℕ) (count place : ℕ) → place < count → count ≤ length old → length new ≡ length old → ((i : ℕ) → i < place → slice_index new i ≡ slice_index old i) → ((i : ℕ) → place ≤ i → i + 1 < count → slice_index new i ≡ slice_index old (i + 1)) → IsWithout (take count old) (take (count - 1) new) place
+pub taken_out : (old new : List ℕ) (count place : ℕ) → place < count → count ≤ length old → length new ≡ length old
+    → ((i : ℕ) → i < place → slice_index new i ≡ slice_index old i)
+    → ((i : ℕ) → place ≤ i → i + 1 < count → slice_index new i ≡ slice_index old (i + 1)) → IsWithout (take count old) (take (count - 1) new) place
 taken_out old new count place inside within same before behind =
     let long : length (take count old) ≡ count = length-take-le count old within in
     let short : length (take (count - 1) new) ≡ count - 1 = length-take-le (count - 1) new (omega (arith, within, same)) in
@@ -29,7 +32,8 @@ taken_out old new count place inside within same before behind =
       inside = omega (arith, inside, long);
       fewer = omega (arith, inside, long, short);
       before = λ i earlier. get_or-take (count - 1) new i 0 (omega (arith, earlier, inside)) ∙ before i earlier ∙ sym (get_or-take count old i 0 (omega (arith, earlier, inside)));
-      behind = λ i later within. get_or-take (count - 1) new i 0 (omega (arith, within, short)) ∙ behind i later (omega (arith, within, short)) ∙ sym (get_or-take count old (i + 1) 0 (omega (arith, within, short)));
+      behind = λ i later within. get_or-take (count - 1) new i 0 (omega (arith, within, short))
+          ∙ behind i later (omega (arith, within, short)) ∙ sym (get_or-take count old (i + 1) 0 (omega (arith, within, short)));
     }
 
 -- where an entry stood
@@ -50,14 +54,19 @@ stands_at old pes place without j inside other =
   where
     moved : place < j → (i : ℕ) × (i < length pes) × (slice_index pes i ≡ slice_index old j)
     moved past =
-        let same : j - 1 + 1 ≡ j = omega (arith, past) in
-        (j - 1, omega (arith, past, inside, without.fewer), without.behind (j - 1) (omega (arith, past)) (omega (arith, past, inside, without.fewer)) ∙ ap (λ k. slice_index old k) same)
+        let same : j - 1 + 1 ≡ j = omega (arith, past) in (
+          j - 1,
+          omega (arith, past, inside, without.fewer),
+          without.behind (j - 1) (omega (arith, past)) (omega (arith, past, inside, without.fewer)) ∙ ap (λ k. slice_index old k) same,
+        )
 
-pub one_less_listed : (rank old pes : List ℕ) (end place pe next : ℕ) → IsUnscanned rank old end → IsWithout old pes place → slice_index old place ≡ pe → pe < length rank → 0 < next → IsUnscanned (set rank pe next) pes end
+pub one_less_listed : (rank old pes : List ℕ) (end place pe next : ℕ) → IsUnscanned rank old end → IsWithout old pes place
+    → slice_index old place ≡ pe → pe < length rank → 0 < next → IsUnscanned (set rank pe next) pes end
 one_less_listed rank old pes end place pe next listed without here in_rank some =
     record {
       below = λ i inside. (let at = stood_at old pes place without i inside in omega (arith, at.3, listed.below at.0 at.1));
-      apart = λ i inside. (let at = stood_at old pes place without i inside in get_or-set_other rank pe (slice_index pes i) next 0 (apart_from at.0 at.1 at.2 (slice_index pes i) at.3) ∙ ap (λ p. slice_index rank p) at.3 ∙ listed.apart at.0 at.1);
+      apart = λ i inside. (let at = stood_at old pes place without i inside in get_or-set_other rank pe (slice_index pes i) next 0
+          (apart_from at.0 at.1 at.2 (slice_index pes i) at.3) ∙ ap (λ p. slice_index rank p) at.3 ∙ listed.apart at.0 at.1);
       ascending = ascending;
       each = each;
     }
@@ -71,10 +80,25 @@ one_less_listed rank old pes end place pe next listed without here in_rank some 
 
     ascending : (i j : ℕ) → i < j → j < length pes → slice_index pes i < slice_index pes j
     ascending i j before inside = elim (cases_lt j place) [
-      | inl earlier ↦ omega (arith, without.before i (omega (arith, before, earlier)), without.before j earlier, listed.ascending i j before (omega (arith, earlier, without.inside)))
+      | inl earlier ↦ omega (
+        arith,
+        without.before i (omega (arith, before, earlier)),
+        without.before j earlier,
+        listed.ascending i j before (omega (arith, earlier, without.inside)),
+      )
       | inr later ↦ elim (cases_lt i place) [
-        | inl first ↦ omega (arith, without.before i first, without.behind j later inside, listed.ascending i (j + 1) (omega (arith, before)) (omega (arith, inside, without.fewer)))
-        | inr second ↦ omega (arith, without.behind i second (omega (arith, before, inside)), without.behind j later inside, listed.ascending (i + 1) (j + 1) (omega (arith, before)) (omega (arith, inside, without.fewer)))
+        | inl first ↦ omega (
+          arith,
+          without.before i first,
+          without.behind j later inside,
+          listed.ascending i (j + 1) (omega (arith, before)) (omega (arith, inside, without.fewer)),
+        )
+        | inr second ↦ omega (
+          arith,
+          without.behind i second (omega (arith, before, inside)),
+          without.behind j later inside,
+          listed.ascending (i + 1) (j + 1) (omega (arith, before)) (omega (arith, inside, without.fewer)),
+        )
       ]
     ]
 

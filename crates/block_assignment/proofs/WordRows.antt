@@ -30,10 +30,12 @@ row_inside width count p inside = omega (arith, mul-le-mul_right width inside)
 -- and so many
 pub row_counted : (width count : ℕ) (words : List ℕ) (p : ℕ) → AreRows width count words → p < count → length (slice_index_or (rows width count words) p []) ≡ width
 row_counted width count words p flat inside =
-    ap length (row_is width count words p inside) ∙ length-take-le width (drop (p * width) words) (omega (arith, length-drop (p * width) words, flat.counted, row_inside width count p inside))
+    ap length (row_is width count words p inside) ∙ length-take-le width (drop (p * width) words)
+    (omega (arith, length-drop (p * width) words, flat.counted, row_inside width count p inside))
 
 -- one word of a set
-pub word_of_row : (width count : ℕ) (words : List ℕ) (p i : ℕ) → p < count → i < width → slice_index (slice_index_or (rows width count words) p []) i ≡ slice_index words (p * width + i)
+pub word_of_row : (width count : ℕ) (words : List ℕ) (p i : ℕ) → p < count → i < width
+    → slice_index (slice_index_or (rows width count words) p []) i ≡ slice_index words (p * width + i)
 word_of_row width count words p i inside within =
     ap (λ row. slice_index row i) (row_is width count words p inside) ∙ get_or-take width (drop (p * width) words) i 0 within ∙ get_or-drop (p * width) words i 0
 
@@ -57,16 +59,23 @@ take_written (suc width) i x [] inside = refl
 take_written (suc width) zero x (word ∷ words) inside = refl
 take_written (suc width) (suc i) x (word ∷ words) inside = ap (λ rest. word ∷ rest) (take_written width i x words (omega (arith, inside)))
 
-rows_written : (width count : ℕ) (words : List ℕ) (p i x : ℕ) → p < count → i < width → rows width count (set words (p * width + i) x) ≡ set (rows width count words) p (set (slice_index_or (rows width count words) p []) i x)
+rows_written : (width count : ℕ) (words : List ℕ) (p i x : ℕ) → p < count → i < width
+    → rows width count (set words (p * width + i) x) ≡ set (rows width count words) p (set (slice_index_or (rows width count words) p []) i x)
 rows_written width zero words p i x inside within = absurd (omega (arith, inside))
 rows_written width (suc count) words zero i x inside within =
     let place : 0 * width + i ≡ i = omega arith in
-    ap (λ n. rows width (suc count) (set words n x)) place ∙ ap (λ row. row ∷ rows width count (drop width (set words i x))) (take_written width i x words within) ∙ ap (λ rest. set (take width words) i x ∷ rows width count rest) (drop-set-lt width words i x within)
+    ap (λ n. rows width (suc count) (set words n x)) place
+    ∙ ap (λ row. row ∷ rows width count (drop width (set words i x))) (take_written width i x words within)
+    ∙ ap (λ rest. set (take width words) i x ∷ rows width count rest) (drop-set-lt width words i x within)
 rows_written width (suc count) words (suc p) i x inside within =
     let place : suc p * width + i ≡ width + (p * width + i) = omega arith in
-    let first : take width (set words (suc p * width + i) x) ≡ take width words = ap (λ n. take width (set words n x)) place ∙ take-set-le width words (width + (p * width + i)) x (omega arith) in
-    let rest : drop width (set words (suc p * width + i) x) ≡ set (drop width words) (p * width + i) x = ap (λ n. drop width (set words n x)) place ∙ drop-set-add width words (p * width + i) x in
-    ap (λ row. row ∷ rows width count (drop width (set words (suc p * width + i) x))) first ∙ ap (λ others. take width words ∷ rows width count others) rest ∙ ap (λ others. take width words ∷ others) (rows_written width count (drop width words) p i x (omega (arith, inside)) within)
+    let first : take width (set words (suc p * width + i) x) ≡ take width words = ap (λ n. take width (set words n x)) place
+    ∙ take-set-le width words (width + (p * width + i)) x (omega arith) in
+    let rest : drop width (set words (suc p * width + i) x) ≡ set (drop width words) (p * width + i) x = ap
+    (λ n. drop width (set words n x)) place ∙ drop-set-add width words (p * width + i) x in
+    ap (λ row. row ∷ rows width count (drop width (set words (suc p * width + i) x))) first
+    ∙ ap (λ others. take width words ∷ rows width count others) rest
+    ∙ ap (λ others. take width words ∷ others) (rows_written width count (drop width words) p i x (omega (arith, inside)) within)
 
 -- the set of PE p has block b too
 pub record IsJoined (old : List (List ℕ)) (p b : ℕ) (new : List (List ℕ)) : Type 0 where
@@ -75,7 +84,9 @@ pub record IsJoined (old : List (List ℕ)) (p b : ℕ) (new : List (List ℕ)) 
   pub here : member now b ≡ 1
   pub others : (k : ℕ) → k ≢ b → member now k ≡ member (slice_index_or old p []) k
 
-pub joined : (width count : ℕ) (words next : List ℕ) (p b : ℕ) → AreRows width count words → p < count → b < count → next ≡ set words (p * width + b / 64) (bit_or (slice_index words (p * width + b / 64)) (1 * 2 ^ (b % 64) % 2 ^ 64)) → IsJoined (rows width count words) p b (rows width count next)
+pub joined : (width count : ℕ) (words next : List ℕ) (p b : ℕ) → AreRows width count words → p < count → b < count
+    → next ≡ set words (p * width + b / 64) (bit_or (slice_index words (p * width + b / 64)) (1 * 2 ^ (b % 64) % 2 ^ 64))
+    → IsJoined (rows width count words) p b (rows width count next)
 joined width count words next p b flat inside block written =
     let row : List ℕ = slice_index_or (rows width count words) p [] in
     let word : ℕ = bit_or (slice_index words (p * width + b / 64)) (1 * 2 ^ (b % 64) % 2 ^ 64) in
@@ -86,5 +97,6 @@ joined width count words next p b flat inside block written =
       now = set row (b / 64) word;
       put = ap (rows width count) written ∙ rows_written width count words p (b / 64) word inside within;
       here = written_here row b word in_row ∙ bit_at_set_same w64 (slice_index words (p * width + b / 64)) (b % 64) (omega arith);
-      others = λ k other. written_others row b word k in_row other (λ i low apart. bit_at_set_other w64 (slice_index words (p * width + b / 64)) (b % 64) (omega arith) i apart ∙ ap (λ x. bit_at x i) (sym read));
+      others = λ k other. written_others row b word k in_row other
+          (λ i low apart. bit_at_set_other w64 (slice_index words (p * width + b / 64)) (b % 64) (omega arith) i apart ∙ ap (λ x. bit_at x i) (sym read));
     }

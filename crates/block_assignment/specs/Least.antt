@@ -37,7 +37,8 @@ IsAllowed takers names = (b : ℕ) → b < length takers → may_have takers b (
 -- no allowed naming that gives the blocks before b the same PEs gives b a lesser one
 abbrev pub IsLeastAt : List (List ℕ) → List ℕ → ℕ → Type 0
 IsLeastAt takers names b =
-    (others : List ℕ) → IsNaming (length takers) others → IsAllowed takers others → ((k : ℕ) → k < b → slice_index others k ≡ slice_index names k) → slice_index names b ≤ slice_index others b
+    (others : List ℕ) → IsNaming (length takers) others → IsAllowed takers others
+    → ((k : ℕ) → k < b → slice_index others k ≡ slice_index names k) → slice_index names b ≤ slice_index others b
 
 -- The search from block b found block j: it is b or a later block, and no longer left.
 pub record IsFound (blocks b : ℕ) (left : List ℕ) (j : ℕ) : Type 0 where

@@ -76,15 +76,18 @@ pub record IsTree (next : ℕ) (s : State) : Type 0 where
   pub reached : (p : ℕ) → p < s.table.blocks → IsReached s p
   pub least : (b far p : ℕ) → IsAt s b far → p < s.table.blocks → slice_index s.distance p + slice_index s.price b ≤ far + cost_at s.table b p + slice_index s.discount p
   pub nearer : (p q : ℕ) → p < s.table.blocks → q < s.table.blocks → 0 < slice_index s.rank p → slice_index s.rank q ≡ 0 → slice_index s.distance p ≤ slice_index s.distance q
-  pub earlier : (p : ℕ) → p < s.table.blocks → 0 < slice_index s.rank p → slice_index s.from p < s.named → slice_index s.rank (slice_index s.names (slice_index s.from p)) < slice_index s.rank p
+  pub earlier : (p : ℕ) → p < s.table.blocks → 0 < slice_index s.rank p → slice_index s.from p < s.named
+      → slice_index s.rank (slice_index s.names (slice_index s.from p)) < slice_index s.rank p
 
 -- The block before each scanned PE has reduced cost 0 on that PE, and is the root or holds a PE that was scanned before
 -- it.
 pub record IsPath (s : State) : Type 0 where
   pub joined : (p : ℕ) → p < s.table.blocks → 0 < slice_index s.rank p → slice_index s.from p ≤ s.named
-  pub reduced_zero : (p : ℕ) → p < s.table.blocks → 0 < slice_index s.rank p → slice_index s.price (slice_index s.from p) ≡ cost_at s.table (slice_index s.from p) p + slice_index s.discount p
+  pub reduced_zero : (p : ℕ) → p < s.table.blocks → 0 < slice_index s.rank p
+      → slice_index s.price (slice_index s.from p) ≡ cost_at s.table (slice_index s.from p) p + slice_index s.discount p
   pub scanned : (p : ℕ) → p < s.table.blocks → 0 < slice_index s.rank p → slice_index s.from p < s.named → 0 < slice_index s.rank (slice_index s.names (slice_index s.from p))
-  pub earlier : (p : ℕ) → p < s.table.blocks → 0 < slice_index s.rank p → slice_index s.from p < s.named → slice_index s.rank (slice_index s.names (slice_index s.from p)) < slice_index s.rank p
+  pub earlier : (p : ℕ) → p < s.table.blocks → 0 < slice_index s.rank p → slice_index s.from p < s.named
+      → slice_index s.rank (slice_index s.names (slice_index s.from p)) < slice_index s.rank p
 
 -- no price and no discount is above the greatest cost
 pub record IsSmall (s : State) : Type 0 where

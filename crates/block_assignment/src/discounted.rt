@@ -69,7 +69,8 @@ pub(crate) fn settle(start: &[u64], price: &mut [u64], discount: &mut [u64])
     requires some { 0 < length discount.old }
     requires counted { length start.now ≡ length discount.old }
     requires small { (p : ℕ) → p < length discount.old → slice_index start.now p + slice_index discount.old p < 2 ^ 64 }
-    requires high { (b : ℕ) → b < length price.old → (p : ℕ) × (p < length discount.old) × (slice_index start.now p + slice_index discount.old p ≤ slice_index price.old b) }
+    requires high { (b : ℕ) → b < length price.old
+        → (p : ℕ) × (p < length discount.old) × (slice_index start.now p + slice_index discount.old p ≤ slice_index price.old b) }
     ensures settled { IsSettled start.now price.old discount.old price.new discount.new }
 {
     add_all(start, discount);

@@ -69,7 +69,8 @@ module _ {C : Type 0} (count : ℕ) where
   whole ends left = all_reopened count ends left
 
   -- no PE is opened again yet
-  pub reopens_none : (states ends all : List (PeView C)) (left queues : List (List Parcel)) → states ≡ [] → ends ≡ all → left ≡ queues → states ++ whole ends left ≡ whole all queues
+  pub reopens_none : (states ends all : List (PeView C)) (left queues : List (List Parcel)) → states ≡ [] → ends ≡ all → left ≡ queues
+      → states ++ whole ends left ≡ whole all queues
   reopens_none states ends all left queues s e l =
       ap (λ (v : List (PeView C)). v ++ whole ends left) s ∙ (ap (λ (v : List (PeView C)). whole v left) e ∙ ap (whole all) l)
 
@@ -85,7 +86,9 @@ module _ {C : Type 0} (count : ℕ) where
       let a : more ++ whole others queues ≡ (states ++ opened ∷ []) ++ whole others queues = ap (λ (v : List (PeView C)). v ++ whole others queues) m in
       let b = joined_one states (whole others queues) opened in
       let c : states ++ opened ∷ whole others queues ≡ states ++ reopened count pe queue ∷ whole others queues = ap (λ (v : PeView C). states ++ v ∷ whole others queues) o in
-      let d : states ++ whole (pe ∷ others) (queue ∷ queues) ≡ states ++ whole ends left = ap (λ (v : List (PeView C)). states ++ whole v (queue ∷ queues)) (sym e) ∙ ap (λ (v : List (List Parcel)). states ++ whole ends v) (sym l) in
+      let d : states ++ whole (pe ∷ others) (queue ∷ queues) ≡ states
+      ++ whole ends left = ap (λ (v : List (PeView C)). states ++ whole v (queue ∷ queues)) (sym e)
+      ∙ ap (λ (v : List (List Parcel)). states ++ whole ends v) (sym l) in
       a ∙ (b ∙ (c ∙ (d ∙ is)))
 
   -- all are

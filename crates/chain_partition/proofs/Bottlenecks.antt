@@ -39,7 +39,8 @@ greedy_at_least xs p bottleneck ends least greedy =
     ]
 
 -- one below the least peak the greedy ends are the least fence for it
-pub greedy_below_least : (xs : List ℕ) (p bottleneck : ℕ) (ends : List ℕ) → IsLeastPeak xs 0 p bottleneck → bottleneck ≢ 0 → IsGreedy xs p (bottleneck - 1) ends → IsLeastFence xs p bottleneck ends
+pub greedy_below_least : (xs : List ℕ) (p bottleneck : ℕ) (ends : List ℕ) → IsLeastPeak xs 0 p bottleneck → bottleneck ≢ 0
+    → IsGreedy xs p (bottleneck - 1) ends → IsLeastFence xs p bottleneck ends
 greedy_below_least xs p bottleneck ends least positive greedy =
     let e : bottleneck - 1 + 1 ≡ bottleneck = omega arith in
     elim (cases_eq (slice_index ends p) (length xs)) [
@@ -49,7 +50,8 @@ greedy_below_least xs p bottleneck ends least positive greedy =
       | inr short ↦ subst (λ b. IsLeastFence xs p b ends) e (greedy_short xs p (bottleneck - 1) ends greedy short).1
     ]
 
-floor_holds : {A : Type 0} (xs : List ℕ) (p bottleneck : ℕ) (floor : Floor A) → MatchFloor floor (bottleneck ≡ 0) (λ stops. (bottleneck ≢ 0) × IsLeastFence xs p bottleneck stops) → HoldsFor xs p bottleneck floor
+floor_holds : {A : Type 0} (xs : List ℕ) (p bottleneck : ℕ) (floor : Floor A)
+    → MatchFloor floor (bottleneck ≡ 0) (λ stops. (bottleneck ≢ 0) × IsLeastFence xs p bottleneck stops) → HoldsFor xs p bottleneck floor
 floor_holds xs p bottleneck Zero h = h
 floor_holds xs p bottleneck (Fence stops) h = h.1.fence
 
@@ -63,7 +65,8 @@ certified_from_chosen xs p d h =
     }
 
 -- the greatest end of a block: the first candidate from the last element down that fits
-end_below : (xs : List ℕ) (first limit k : ℕ) → first ≤ k → k ≤ length xs → ((other : ℕ) → other ≤ length xs → load xs first other ≤ limit → other ≤ k) → (end : ℕ) × IsGreatestEnd xs first limit end
+end_below : (xs : List ℕ) (first limit k : ℕ) → first ≤ k → k ≤ length xs
+    → ((other : ℕ) → other ≤ length xs → load xs first other ≤ limit → other ≤ k) → (end : ℕ) × IsGreatestEnd xs first limit end
 end_below xs first limit zero onward inside tried =
     let e : first ≡ 0 = omega arith in (
       0,
@@ -96,7 +99,8 @@ some_ends xs limit (suc k) =
     (next.0, rw (← add-one k) (ends_more xs k limit before.0 next.0 before.1 next.1))
 
 -- i ranges of a fence above an even share and the greatest load have more load than i shares
-fence_weight : (xs stops : List ℕ) (p share greatest : ℕ) → All (λ w. w ≤ greatest) xs → IsFence xs p (share + greatest + 1) stops → (i : ℕ) → i ≤ p → i * (share + 1) ≤ load xs 0 (slice_index stops i)
+fence_weight : (xs stops : List ℕ) (p share greatest : ℕ) → All (λ w. w ≤ greatest) xs → IsFence xs p (share + greatest + 1) stops → (i : ℕ)
+    → i ≤ p → i * (share + 1) ≤ load xs 0 (slice_index stops i)
 fence_weight xs stops p share greatest small fence zero inside = omega arith
 fence_weight xs stops p share greatest small fence (suc i) inside =
     let before : i * (share + 1) ≤ load xs 0 (slice_index stops i) = fence_weight xs stops p share greatest small fence i (omega arith) in
@@ -104,7 +108,8 @@ fence_weight xs stops p share greatest small fence (suc i) inside =
     let stays : slice_index stops (i + 1) ≤ slice_index stops p = fence.ordered (i + 1) p 0 (omega arith) (omega (arith, fence.counted)) in
     let heavy : share + greatest + 1 ≤ load xs (slice_index stops i) (slice_index stops (i + 1) + 1) = heavy_at xs p (share + greatest + 1) stops i fence.heavy (omega arith) in
     let last : get_or xs (slice_index stops (i + 1)) 0 ≤ greatest = small (slice_index stops (i + 1)) 0 (omega (arith, fence.ends)) in
-    let one : load xs (slice_index stops i) (slice_index stops (i + 1) + 1) ≡ load xs (slice_index stops i) (slice_index stops (i + 1)) + get_or xs (slice_index stops (i + 1)) 0 = load_more xs _ _ 0 rises (omega (arith, fence.ends)) in
+    let one : load xs (slice_index stops i) (slice_index stops (i + 1) + 1) ≡ load xs (slice_index stops i)
+    (slice_index stops (i + 1)) + get_or xs (slice_index stops (i + 1)) 0 = load_more xs _ _ 0 rises (omega (arith, fence.ends)) in
     let whole = load_after xs 0 (slice_index stops (i + 1)) (omega arith) in
     let front = load_after xs 0 (slice_index stops i) (omega arith) in
     let block = load_after xs (slice_index stops i) (slice_index stops (i + 1)) rises in
@@ -177,8 +182,10 @@ behind_cut xs p i cuts division within (suc k) inside =
     elim (behind_cut xs p i cuts division within k (omega arith)) [
       | inl before ↦ elim (cases_lt i (slice_index cuts (suc k))) [
         | inl here ↦
-            let block : load xs (slice_index cuts k) (slice_index cuts (suc k)) ≤ peak xs cuts = rw (← add-one k) (block_load-le-peak xs cuts k (omega (arith, division.counted))) in
-            let one : load xs i (i + 1) ≤ load xs (slice_index cuts k) (slice_index cuts (suc k)) = load_wider xs i (i + 1) (slice_index cuts k) (slice_index cuts (suc k)) before (omega arith) (omega arith) in
+            let block : load xs (slice_index cuts k) (slice_index cuts (suc k)) ≤ peak xs cuts = rw (← add-one k)
+            (block_load-le-peak xs cuts k (omega (arith, division.counted))) in
+            let one : load xs i (i + 1) ≤ load xs (slice_index cuts k) (slice_index cuts (suc k)) = load_wider xs i (i + 1)
+            (slice_index cuts k) (slice_index cuts (suc k)) before (omega arith) (omega arith) in
             inr (omega (arith, block, one, load_more xs i i 0 (omega arith) within, load_nothing xs i))
         | inr behind ↦ inl behind
       ]
@@ -220,9 +227,16 @@ share_below total p limit positive within =
     ]
 
 -- a search begins with limits that enclose the least bottleneck
-pub opening_encloses : (xs : List ℕ) (p greatest total : ℕ) → 0 < p → All (λ w. w ≤ greatest) xs → ((limit : ℕ) → All (λ w. w ≤ limit) xs → greatest ≤ limit) → total ≡ load xs 0 (length xs) → Enclose xs p (max greatest (total / p + min 1 (total % p))) (total / p + greatest)
+pub opening_encloses : (xs : List ℕ) (p greatest total : ℕ) → 0 < p → All (λ w. w ≤ greatest) xs
+    → ((limit : ℕ) → All (λ w. w ≤ limit) xs → greatest ≤ limit) → total ≡ load xs 0 (length xs)
+    → Enclose xs p (max greatest (total / p + min 1 (total % p))) (total / p + greatest)
 opening_encloses xs p greatest total positive above least whole =
     record {
-      stops = λ limit below fit. absurd (omega (arith, below, least limit (each_fits xs p limit fit), share_below total p limit positive (omega (arith, whole, total_fits xs p limit fit))));
+      stops = λ limit below fit. absurd (omega (
+        arith,
+        below,
+        least limit (each_fits xs p limit fit),
+        share_below total p limit positive (omega (arith, whole, total_fits xs p limit fit)),
+      ));
       fits = rw whole (even_share xs p greatest positive above);
     }

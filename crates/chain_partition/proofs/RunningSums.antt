@@ -36,12 +36,14 @@ load_by_sample xs samples end h inside =
     omega (arith, h.summed.each (end / 16) (omega arith), load_split xs (end / 16 * 16) end (omega arith))
 
 -- the sum that is kept before an element, by that before an earlier one
-pub sample_from : (xs samples : List ℕ) (first group before : ℕ) → IsSampled xs samples → before ≡ load xs 0 first → first ≤ group * 16 → group * 16 ≤ length xs → slice_index samples group ≡ before + load xs first (group * 16)
+pub sample_from : (xs samples : List ℕ) (first group before : ℕ) → IsSampled xs samples → before ≡ load xs 0 first → first ≤ group * 16
+    → group * 16 ≤ length xs → slice_index samples group ≡ before + load xs first (group * 16)
 sample_from xs samples first group before h until onward inside =
     omega (arith, h.summed.each group (omega arith), load_split xs first (group * 16) onward)
 
 -- one more sample
-pub samples_more : (xs samples : List ℕ) (n total : ℕ) → AreSamples xs n samples → total ≡ slice_index samples n + load xs (n * 16) (n * 16 + 16) → AreSamples xs (n + 1) (samples ++ total ∷ [])
+pub samples_more : (xs samples : List ℕ) (n total : ℕ) → AreSamples xs n samples
+    → total ≡ slice_index samples n + load xs (n * 16) (n * 16 + 16) → AreSamples xs (n + 1) (samples ++ total ∷ [])
 samples_more xs samples n total h last =
     record {
       counted = omega (arith, length-append samples (total ∷ []), h.counted);
@@ -75,7 +77,8 @@ sampled_none old xs =
     sample_zero : (xs : List ℕ) (k : ℕ) → k ≡ 0 → slice_index (0 ∷ []) k ≡ load xs 0 (k * 16)
     sample_zero xs k e = rw e (sym (load_nothing xs 0))
 
-pub sampled_more : (old xs : List ℕ) (n before group : ℕ) (list : List ℕ) → SamplesSince old xs n before list → group ≡ load xs (n * 16) (n * 16 + 16) → SamplesSince old xs (n + 1) (before + group) (list ++ (before + group) ∷ [])
+pub sampled_more : (old xs : List ℕ) (n before group : ℕ) (list : List ℕ) → SamplesSince old xs n before list
+    → group ≡ load xs (n * 16) (n * 16 + 16) → SamplesSince old xs (n + 1) (before + group) (list ++ (before + group) ∷ [])
 sampled_more old xs n before group list h weighs =
     record {
       samples = h.samples ++ (before + group) ∷ [];
@@ -85,7 +88,8 @@ sampled_more old xs n before group list h weighs =
     }
 
 -- an end that fits, behind which the next does not or there is none
-pub greatest_between : (xs : List ℕ) (first limit fits beyond : ℕ) → first ≤ fits → fits + 1 ≡ beyond → beyond ≤ length xs + 1 → load xs first fits ≤ limit → (beyond ≤ length xs → limit < load xs first beyond) → IsGreatestEnd xs first limit fits
+pub greatest_between : (xs : List ℕ) (first limit fits beyond : ℕ) → first ≤ fits → fits + 1 ≡ beyond → beyond ≤ length xs + 1
+    → load xs first fits ≤ limit → (beyond ≤ length xs → limit < load xs first beyond) → IsGreatestEnd xs first limit fits
 greatest_between xs first limit fits beyond onward next inside light heavy =
     record {
       inside = omega arith;

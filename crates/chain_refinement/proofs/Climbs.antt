@@ -19,7 +19,8 @@ height_rises (step ∷ steps) x y onward =
     rises_by_case (nat_le step.0 x) (nat_le step.0 y) step.1 (height steps x) (height steps y) reached (height_rises steps x y onward)
 
 -- what is left to climb from a step on: the step and what is left behind it, or nothing where the step is behind the place
-step_taken : (steps : List (ℕ × ℕ)) (next x : ℕ) (d : ℕ × ℕ) → next < length steps → (get_or steps next d).0 ≤ x → height (drop next steps) x ≡ (get_or steps next d).1 + height (drop (next + 1) steps) x
+step_taken : (steps : List (ℕ × ℕ)) (next x : ℕ) (d : ℕ × ℕ) → next < length steps → (get_or steps next d).0 ≤ x
+    → height (drop next steps) x ≡ (get_or steps next d).1 + height (drop (next + 1) steps) x
 step_taken steps next x d inside reached =
     let test : nat_le (get_or steps next d).0 x ≡ true = le-leb (get_or steps next d).0 x reached in
     rw (add-one, drop-cons steps next d inside, test) refl
@@ -34,7 +35,8 @@ pub all_taken : (steps : List (ℕ × ℕ)) (next x : ℕ) → length steps ≤ 
 all_taken steps next x ended = ap (λ left. height left x) (drop_of_length-le steps ended)
 
 -- the climb of one more step
-pub climbed_one : (steps : List (ℕ × ℕ)) (place next reached : ℕ) (d : ℕ × ℕ) → IsClimbed steps place next reached → next < length steps → (get_or steps next d).0 ≤ place → (get_or steps next d).1 < 2 ^ 64 → IsClimbed steps place (next + 1) (reached + (get_or steps next d).1)
+pub climbed_one : (steps : List (ℕ × ℕ)) (place next reached : ℕ) (d : ℕ × ℕ) → IsClimbed steps place next reached → next < length steps
+    → (get_or steps next d).0 ≤ place → (get_or steps next d).1 < 2 ^ 64 → IsClimbed steps place (next + 1) (reached + (get_or steps next d).1)
 climbed_one steps place next reached d climb inside taken small =
     record {
       inside = omega arith;
@@ -43,7 +45,8 @@ climbed_one steps place next reached d climb inside taken small =
     }
 
 -- where the next step is behind the place, or there is none, the climb is at the height of the place
-pub climbed_all : (steps : List (ℕ × ℕ)) (place next reached : ℕ) (d : ℕ × ℕ) → IsClimbed steps place next reached → (next < length steps → place < (get_or steps next d).0) → reached ≡ height steps place
+pub climbed_all : (steps : List (ℕ × ℕ)) (place next reached : ℕ) (d : ℕ × ℕ) → IsClimbed steps place next reached
+    → (next < length steps → place < (get_or steps next d).0) → reached ≡ height steps place
 climbed_all steps place next reached d climb behind =
     elim (cases_lt next (length steps)) [
       | inl inside ↦ omega (arith, climb.left place (omega arith), step_behind steps next place d inside (behind inside))

@@ -17,9 +17,11 @@ covers names n held =
     list_any_at (eqb q) names found.0 q found.1 (eq-eqb q _ (sym found.2)))
 
 -- there are no more different numbers below a bound than the bound
-pub few : (names : List ℕ) (n : ℕ) → ((b : ℕ) → b < length names → slice_index names b < n) → ((a b : ℕ) → a < b → b < length names → slice_index names a ≢ slice_index names b) → length names ≤ n
+pub few : (names : List ℕ) (n : ℕ) → ((b : ℕ) → b < length names → slice_index names b < n)
+    → ((a b : ℕ) → a < b → b < length names → slice_index names a ≢ slice_index names b) → length names ≤ n
 few names n below apart =
-    let pairs : AllPairs (λ x y. x ≢ y) names = λ i j d before inside same. apart i j before inside (get_or_default names i 0 d (omega arith) ∙ same ∙ get_or_default names j d 0 inside) in
+    let pairs : AllPairs (λ x y. x ≢ y) names = λ i j d before inside same. apart i j before inside
+    (get_or_default names i 0 d (omega arith) ∙ same ∙ get_or_default names j d 0 inside) in
     length-le_from_distinct_below names n (IsDistinct-from_AllPairs Decides-eqb names pairs) (λ q found.
     let at = Any-from_list_any (eqb q) names found in
     let same : q ≡ at.1 = eqb-true q at.1 at.4 in
@@ -34,7 +36,8 @@ held n names p naming inside =
           (at.0, omega (arith, at.2, naming.counted), get_or_default names at.0 0 at.1 at.2 ∙ at.3 ∙ sym (eqb-true p at.1 at.4))
       | inr is_new ↦
           let counted = length_push names p in
-          let new : (b : ℕ) → b < length names → slice_index names b ≢ p = λ b below same. absurd (both_ways (list_any (eqb p) names) is_new (list_any_at (eqb p) names b 0 below (eq-eqb p (slice_index names b) (sym same)))) in
+          let new : (b : ℕ) → b < length names → slice_index names b ≢ p = λ b below same. absurd
+          (both_ways (list_any (eqb p) names) is_new (list_any_at (eqb p) names b 0 below (eq-eqb p (slice_index names b) (sym same)))) in
           let old_is : (b : ℕ) → b < length names → slice_index (names ++ p ∷ []) b ≡ slice_index names b = λ b below. get_or_append_left names (p ∷ []) 0 b below in
           let new_is : (b : ℕ) → b ≡ length names → slice_index (names ++ p ∷ []) b ≡ p = λ b last. get_or_push names p 0 b (sym last) in
           let more : length (names ++ p ∷ []) ≤ n = few (names ++ p ∷ []) n

@@ -30,7 +30,8 @@ pub record AreRightBefore {A : Type 0} (loads : List ℕ) (sizes : List (ℕ × 
   pub gentle : 29 < n → AreGentle (claim_of loads sizes r) (pes - 1)
 
 -- so none of the flaws with a lower number applies
-nothing_before : {A : Type 0} (loads : List ℕ) (sizes : List (ℕ × ℕ)) (pes : ℕ) (r : Refinement A) (n : ℕ) → AreRightBefore loads sizes pes r n → n ≤ 30 → (other : RefinementFlaw) → refinement_flaw_number other < n → ¬ (HasRefinementFlaw loads sizes pes r other)
+nothing_before : {A : Type 0} (loads : List ℕ) (sizes : List (ℕ × ℕ)) (pes : ℕ) (r : Refinement A) (n : ℕ)
+    → AreRightBefore loads sizes pes r n → n ≤ 30 → (other : RefinementFlaw) → refinement_flaw_number other < n → ¬ (HasRefinementFlaw loads sizes pes r other)
 nothing_before loads sizes pes r n right few (Least flaw) h flawed = flawless loads pes r.least right.least flaw flawed
 nothing_before loads sizes pes r n right few PeCount h (inl none) = absurd (omega (arith, none, right.some_pe h))
 nothing_before loads sizes pes r n right few PeCount h (inr many) = absurd (omega (arith, many, right.few_pes h))
@@ -49,7 +50,8 @@ nothing_before loads sizes pes r n right few (Steep b x) h (inside, (y, before, 
 nothing_before loads sizes pes r n right few HeightLow h flawed = absurd (omega (arith, h, few))
 
 -- a flaw that names no place is the first where none of a lower number applies
-first_by_number : (applies : RefinementFlaw → Type 0) (flaw : RefinementFlaw) → refinement_flaw_place flaw ≡ (0, 0) → applies flaw → ((other : RefinementFlaw) → refinement_flaw_number other < refinement_flaw_number flaw → ¬ (applies other)) → IsFirstRefinementFlaw applies flaw
+first_by_number : (applies : RefinementFlaw → Type 0) (flaw : RefinementFlaw) → refinement_flaw_place flaw ≡ (0, 0) → applies flaw
+    → ((other : RefinementFlaw) → refinement_flaw_number other < refinement_flaw_number flaw → ¬ (applies other)) → IsFirstRefinementFlaw applies flaw
 first_by_number applies flaw e flawed lower =
     record {
       applies_itself = flawed;
@@ -62,7 +64,8 @@ first_by_number applies flaw e flawed lower =
     not_before place (inr tied) = absurd (omega (arith, tied.1))
 
 -- the first flaw of the division is the first of all
-pub least_is_first : {A : Type 0} (loads : List ℕ) (sizes : List (ℕ × ℕ)) (pes : ℕ) (r : Refinement A) (flaw : Flaw) → IsFirst (HasFlaw loads pes r.least) flaw → IsFirstRefinementFlaw (HasRefinementFlaw loads sizes pes r) (Least flaw)
+pub least_is_first : {A : Type 0} (loads : List ℕ) (sizes : List (ℕ × ℕ)) (pes : ℕ) (r : Refinement A) (flaw : Flaw)
+    → IsFirst (HasFlaw loads pes r.least) flaw → IsFirstRefinementFlaw (HasRefinementFlaw loads sizes pes r) (Least flaw)
 least_is_first {A} loads sizes pes r flaw first =
     record { applies_itself = first.applies_itself; no_lower_number = lower; no_lower_place = earlier }
   where
@@ -70,12 +73,14 @@ least_is_first {A} loads sizes pes r flaw first =
     lower (Least other) h flawed = first.no_lower_number other h flawed
     lower _ h flawed = absurd (omega (arith, h, division_flaw flaw))
 
-    earlier : (other : RefinementFlaw) → refinement_flaw_number other ≡ flaw_number flaw → IsBefore (refinement_flaw_place other) (flaw_place flaw) → ¬ (HasRefinementFlaw loads sizes pes r other)
+    earlier : (other : RefinementFlaw) → refinement_flaw_number other ≡ flaw_number flaw
+        → IsBefore (refinement_flaw_place other) (flaw_place flaw) → ¬ (HasRefinementFlaw loads sizes pes r other)
     earlier (Least other) same before flawed = first.no_lower_place other same before flawed
     earlier _ same before flawed = absurd (omega (arith, same, division_flaw flaw))
 
 -- each flaw of the order is the first, where all that is looked at before it is right
-pub pe_count_is_first : {A : Type 0} (loads : List ℕ) (sizes : List (ℕ × ℕ)) (pes : ℕ) (r : Refinement A) → IsCertified loads pes r.least → (pes ≡ 0) ⊎ (PES < pes) → IsFirstRefinementFlaw (HasRefinementFlaw loads sizes pes r) PeCount
+pub pe_count_is_first : {A : Type 0} (loads : List ℕ) (sizes : List (ℕ × ℕ)) (pes : ℕ) (r : Refinement A) → IsCertified loads pes r.least
+    → (pes ≡ 0) ⊎ (PES < pes) → IsFirstRefinementFlaw (HasRefinementFlaw loads sizes pes r) PeCount
 pe_count_is_first loads sizes pes r least wrong =
     first_by_number (HasRefinementFlaw loads sizes pes r) PeCount refl wrong (nothing_before loads sizes pes r 20 (record {
       least = least;
@@ -92,7 +97,9 @@ pe_count_is_first loads sizes pes r least wrong =
       gentle = λ h. absurd (omega (arith, h));
     }) (omega arith))
 
-right_to_names : {A : Type 0} (loads : List ℕ) (sizes : List (ℕ × ℕ)) (pes : ℕ) (r : Refinement A) (n : ℕ) → n ≤ 23 → IsCertified loads pes r.least → 0 < pes → pes ≤ PES → (21 < n → length r.order ≡ pes) → (22 < n → (b : ℕ) → b < length r.order → slice_index r.order b < pes) → AreRightBefore loads sizes pes r n
+right_to_names : {A : Type 0} (loads : List ℕ) (sizes : List (ℕ × ℕ)) (pes : ℕ) (r : Refinement A) (n : ℕ) → n ≤ 23
+    → IsCertified loads pes r.least → 0 < pes → pes ≤ PES → (21 < n → length r.order ≡ pes)
+    → (22 < n → (b : ℕ) → b < length r.order → slice_index r.order b < pes) → AreRightBefore loads sizes pes r n
 right_to_names loads sizes pes r n few least some_pe few_pes named below =
     record {
       least = least;
@@ -109,22 +116,29 @@ right_to_names loads sizes pes r n few least some_pe few_pes named below =
       gentle = λ h. absurd (omega (arith, h));
     }
 
-pub name_count_is_first : {A : Type 0} (loads : List ℕ) (sizes : List (ℕ × ℕ)) (pes : ℕ) (r : Refinement A) → IsCertified loads pes r.least → 0 < pes → pes ≤ PES → length r.order ≢ pes → IsFirstRefinementFlaw (HasRefinementFlaw loads sizes pes r) NameCount
+pub name_count_is_first : {A : Type 0} (loads : List ℕ) (sizes : List (ℕ × ℕ)) (pes : ℕ) (r : Refinement A) → IsCertified loads pes r.least
+    → 0 < pes → pes ≤ PES → length r.order ≢ pes → IsFirstRefinementFlaw (HasRefinementFlaw loads sizes pes r) NameCount
 name_count_is_first loads sizes pes r least some few wrong =
     let right = right_to_names loads sizes pes r 21 (omega arith) least some few (λ h. absurd (omega (arith, h))) (λ h. absurd (omega (arith, h))) in
     first_by_number (HasRefinementFlaw loads sizes pes r) NameCount refl wrong (nothing_before loads sizes pes r 21 right (omega arith))
 
-pub name_range_is_first : {A : Type 0} (loads : List ℕ) (sizes : List (ℕ × ℕ)) (pes : ℕ) (r : Refinement A) → IsCertified loads pes r.least → 0 < pes → pes ≤ PES → length r.order ≡ pes → (b : ℕ) × (b < length r.order) × (pes ≤ slice_index r.order b) → IsFirstRefinementFlaw (HasRefinementFlaw loads sizes pes r) NameRange
+pub name_range_is_first : {A : Type 0} (loads : List ℕ) (sizes : List (ℕ × ℕ)) (pes : ℕ) (r : Refinement A) → IsCertified loads pes r.least
+    → 0 < pes → pes ≤ PES → length r.order ≡ pes → (b : ℕ) × (b < length r.order) × (pes ≤ slice_index r.order b)
+    → IsFirstRefinementFlaw (HasRefinementFlaw loads sizes pes r) NameRange
 name_range_is_first loads sizes pes r least some few named wrong =
     let right = right_to_names loads sizes pes r 22 (omega arith) least some few (λ _. named) (λ h. absurd (omega (arith, h))) in
     first_by_number (HasRefinementFlaw loads sizes pes r) NameRange refl wrong (nothing_before loads sizes pes r 22 right (omega arith))
 
-pub name_twice_is_first : {A : Type 0} (loads : List ℕ) (sizes : List (ℕ × ℕ)) (pes : ℕ) (r : Refinement A) → IsCertified loads pes r.least → 0 < pes → pes ≤ PES → length r.order ≡ pes → ((b : ℕ) → b < length r.order → slice_index r.order b < pes) → Repeats r.order → IsFirstRefinementFlaw (HasRefinementFlaw loads sizes pes r) NameTwice
+pub name_twice_is_first : {A : Type 0} (loads : List ℕ) (sizes : List (ℕ × ℕ)) (pes : ℕ) (r : Refinement A) → IsCertified loads pes r.least
+    → 0 < pes → pes ≤ PES → length r.order ≡ pes → ((b : ℕ) → b < length r.order → slice_index r.order b < pes) → Repeats r.order
+    → IsFirstRefinementFlaw (HasRefinementFlaw loads sizes pes r) NameTwice
 name_twice_is_first loads sizes pes r least some few named below wrong =
     let right = right_to_names loads sizes pes r 23 (omega arith) least some few (λ _. named) (λ _. below) in
     first_by_number (HasRefinementFlaw loads sizes pes r) NameTwice refl wrong (nothing_before loads sizes pes r 23 right (omega arith))
 
-right_to_cuts : {A : Type 0} (loads : List ℕ) (sizes : List (ℕ × ℕ)) (pes : ℕ) (r : Refinement A) (n : ℕ) → n ≤ 26 → IsCertified loads pes r.least → AreOrdered pes r.order → (24 < n → length r.cuts ≡ pes + 1) → (25 < n → IsDivision 0 (length loads) pes r.cuts) → AreRightBefore loads sizes pes r n
+right_to_cuts : {A : Type 0} (loads : List ℕ) (sizes : List (ℕ × ℕ)) (pes : ℕ) (r : Refinement A) (n : ℕ) → n ≤ 26
+    → IsCertified loads pes r.least → AreOrdered pes r.order → (24 < n → length r.cuts ≡ pes + 1)
+    → (25 < n → IsDivision 0 (length loads) pes r.cuts) → AreRightBefore loads sizes pes r n
 right_to_cuts loads sizes pes r n few least order cut divides =
     record {
       least = least;
@@ -142,17 +156,22 @@ right_to_cuts loads sizes pes r n few least order cut divides =
     }
 
 -- each flaw of the cuts
-pub cut_count_is_first : {A : Type 0} (loads : List ℕ) (sizes : List (ℕ × ℕ)) (pes : ℕ) (r : Refinement A) → IsCertified loads pes r.least → AreOrdered pes r.order → length r.cuts ≢ pes + 1 → IsFirstRefinementFlaw (HasRefinementFlaw loads sizes pes r) CutCount
+pub cut_count_is_first : {A : Type 0} (loads : List ℕ) (sizes : List (ℕ × ℕ)) (pes : ℕ) (r : Refinement A) → IsCertified loads pes r.least
+    → AreOrdered pes r.order → length r.cuts ≢ pes + 1 → IsFirstRefinementFlaw (HasRefinementFlaw loads sizes pes r) CutCount
 cut_count_is_first loads sizes pes r least order wrong =
     let right = right_to_cuts loads sizes pes r 24 (omega arith) least order (λ h. absurd (omega (arith, h))) (λ h. absurd (omega (arith, h))) in
     first_by_number (HasRefinementFlaw loads sizes pes r) CutCount refl wrong (nothing_before loads sizes pes r 24 right (omega arith))
 
-pub no_division_is_first : {A : Type 0} (loads : List ℕ) (sizes : List (ℕ × ℕ)) (pes : ℕ) (r : Refinement A) → IsCertified loads pes r.least → AreOrdered pes r.order → length r.cuts ≡ pes + 1 → ¬ (IsDivision 0 (length loads) pes r.cuts) → IsFirstRefinementFlaw (HasRefinementFlaw loads sizes pes r) NoDivision
+pub no_division_is_first : {A : Type 0} (loads : List ℕ) (sizes : List (ℕ × ℕ)) (pes : ℕ) (r : Refinement A) → IsCertified loads pes r.least
+    → AreOrdered pes r.order → length r.cuts ≡ pes + 1 → ¬ (IsDivision 0 (length loads) pes r.cuts)
+    → IsFirstRefinementFlaw (HasRefinementFlaw loads sizes pes r) NoDivision
 no_division_is_first loads sizes pes r least order cut wrong =
     let right = right_to_cuts loads sizes pes r 25 (omega arith) least order (λ _. cut) (λ h. absurd (omega (arith, h))) in
     first_by_number (HasRefinementFlaw loads sizes pes r) NoDivision refl wrong (nothing_before loads sizes pes r 25 right (omega arith))
 
-pub heavy_is_first : {A : Type 0} (loads : List ℕ) (sizes : List (ℕ × ℕ)) (pes : ℕ) (r : Refinement A) (b : ℕ) → IsCertified loads pes r.least → AreOrdered pes r.order → IsDivision 0 (length loads) pes r.cuts → IsFirstHeavy loads pes (refined_limit r) r.cuts b → IsFirstRefinementFlaw (HasRefinementFlaw loads sizes pes r) (Heavy b)
+pub heavy_is_first : {A : Type 0} (loads : List ℕ) (sizes : List (ℕ × ℕ)) (pes : ℕ) (r : Refinement A) (b : ℕ)
+    → IsCertified loads pes r.least → AreOrdered pes r.order → IsDivision 0 (length loads) pes r.cuts
+    → IsFirstHeavy loads pes (refined_limit r) r.cuts b → IsFirstRefinementFlaw (HasRefinementFlaw loads sizes pes r) (Heavy b)
 heavy_is_first {A} loads sizes pes r b least order divides first =
     let right = right_to_cuts loads sizes pes r 26 (omega arith) least order (λ _. divides.counted) (λ _. divides) in
     record {
@@ -167,7 +186,10 @@ heavy_is_first {A} loads sizes pes r b least order divides first =
     earlier (Least flaw) same before flawed = absurd (omega (arith, same, division_flaw flaw))
     earlier _ same before flawed = absurd (omega (arith, same))
 
-right_to_heights : {A : Type 0} (loads : List ℕ) (sizes : List (ℕ × ℕ)) (pes : ℕ) (r : Refinement A) (n : ℕ) → n ≤ 30 → IsCertified loads pes r.least → AreOrdered pes r.order → AreWithin loads r.order (refined_limit r) r.cuts → (27 < n → length r.heights ≡ pes) → (28 < n → height_at r.heights 0 0 ≡ 0) → (29 < n → AreGentle (claim_of loads sizes r) (pes - 1)) → AreRightBefore loads sizes pes r n
+right_to_heights : {A : Type 0} (loads : List ℕ) (sizes : List (ℕ × ℕ)) (pes : ℕ) (r : Refinement A) (n : ℕ) → n ≤ 30
+    → IsCertified loads pes r.least → AreOrdered pes r.order → AreWithin loads r.order (refined_limit r) r.cuts
+    → (27 < n → length r.heights ≡ pes) → (28 < n → height_at r.heights 0 0 ≡ 0) → (29 < n → AreGentle (claim_of loads sizes r) (pes - 1))
+    → AreRightBefore loads sizes pes r n
 right_to_heights loads sizes pes r n few least order within counted starts gentle =
     let divides : IsDivision 0 (length loads) pes r.cuts = subst (λ blocks. IsDivision 0 (length loads) blocks r.cuts) order.naming.counted within.divides in
     record {
@@ -186,17 +208,24 @@ right_to_heights loads sizes pes r n few least order within counted starts gentl
     }
 
 -- each flaw of the heights
-pub height_count_is_first : {A : Type 0} (loads : List ℕ) (sizes : List (ℕ × ℕ)) (pes : ℕ) (r : Refinement A) → IsCertified loads pes r.least → AreOrdered pes r.order → AreWithin loads r.order (refined_limit r) r.cuts → length r.heights ≢ pes → IsFirstRefinementFlaw (HasRefinementFlaw loads sizes pes r) HeightCount
+pub height_count_is_first : {A : Type 0} (loads : List ℕ) (sizes : List (ℕ × ℕ)) (pes : ℕ) (r : Refinement A)
+    → IsCertified loads pes r.least → AreOrdered pes r.order → AreWithin loads r.order (refined_limit r) r.cuts → length r.heights ≢ pes
+    → IsFirstRefinementFlaw (HasRefinementFlaw loads sizes pes r) HeightCount
 height_count_is_first loads sizes pes r least order within wrong =
-    let right = right_to_heights loads sizes pes r 27 (omega arith) least order within (λ h. absurd (omega (arith, h))) (λ h. absurd (omega (arith, h))) (λ h. absurd (omega (arith, h))) in
+    let right = right_to_heights loads sizes pes r 27 (omega arith) least order within (λ h. absurd (omega (arith, h)))
+    (λ h. absurd (omega (arith, h))) (λ h. absurd (omega (arith, h))) in
     first_by_number (HasRefinementFlaw loads sizes pes r) HeightCount refl wrong (nothing_before loads sizes pes r 27 right (omega arith))
 
-pub height_start_is_first : {A : Type 0} (loads : List ℕ) (sizes : List (ℕ × ℕ)) (pes : ℕ) (r : Refinement A) → IsCertified loads pes r.least → AreOrdered pes r.order → AreWithin loads r.order (refined_limit r) r.cuts → length r.heights ≡ pes → height_at r.heights 0 0 ≢ 0 → IsFirstRefinementFlaw (HasRefinementFlaw loads sizes pes r) HeightStart
+pub height_start_is_first : {A : Type 0} (loads : List ℕ) (sizes : List (ℕ × ℕ)) (pes : ℕ) (r : Refinement A)
+    → IsCertified loads pes r.least → AreOrdered pes r.order → AreWithin loads r.order (refined_limit r) r.cuts → length r.heights ≡ pes
+    → height_at r.heights 0 0 ≢ 0 → IsFirstRefinementFlaw (HasRefinementFlaw loads sizes pes r) HeightStart
 height_start_is_first loads sizes pes r least order within counted wrong =
     let right = right_to_heights loads sizes pes r 28 (omega arith) least order within (λ _. counted) (λ h. absurd (omega (arith, h))) (λ h. absurd (omega (arith, h))) in
     first_by_number (HasRefinementFlaw loads sizes pes r) HeightStart refl wrong (nothing_before loads sizes pes r 28 right (omega arith))
 
-pub steep_is_first : {A : Type 0} (loads : List ℕ) (sizes : List (ℕ × ℕ)) (pes : ℕ) (r : Refinement A) (b x : ℕ) → IsCertified loads pes r.least → AreOrdered pes r.order → AreWithin loads r.order (refined_limit r) r.cuts → length r.heights ≡ pes → height_at r.heights 0 0 ≡ 0 → IsFirstSteep (claim_of loads sizes r) (b, x) → IsFirstRefinementFlaw (HasRefinementFlaw loads sizes pes r) (Steep b x)
+pub steep_is_first : {A : Type 0} (loads : List ℕ) (sizes : List (ℕ × ℕ)) (pes : ℕ) (r : Refinement A) (b x : ℕ)
+    → IsCertified loads pes r.least → AreOrdered pes r.order → AreWithin loads r.order (refined_limit r) r.cuts → length r.heights ≡ pes
+    → height_at r.heights 0 0 ≡ 0 → IsFirstSteep (claim_of loads sizes r) (b, x) → IsFirstRefinementFlaw (HasRefinementFlaw loads sizes pes r) (Steep b x)
 steep_is_first {A} loads sizes pes r b x least order within counted starts first =
     let right = right_to_heights loads sizes pes r 29 (omega arith) least order within (λ _. counted) (λ _. starts) (λ h. absurd (omega (arith, h))) in
     record {
@@ -209,19 +238,24 @@ steep_is_first {A} loads sizes pes r b x least order within counted starts first
     earlier (Steep a z) same (inl lower) (inside, (y, before, stays, light, high)) =
         absurd (omega (arith, high, first.earlier_blocks a lower z (omega (arith, stays)) stays y before light))
     earlier (Steep a z) same (inr tied) (inside, (y, before, stays, light, high)) =
-        let gentle = subst (λ c. height_at r.heights (c + 1) z ≤ height_at r.heights c y + cut_cost sizes r.order c z) (sym tied.0) (first.earlier_places z tied.1 stays y before light) in
+        let gentle = subst (λ c. height_at r.heights (c + 1) z ≤ height_at r.heights c y + cut_cost sizes r.order c z) (sym tied.0)
+        (first.earlier_places z tied.1 stays y before light) in
         absurd (omega (arith, high, gentle))
     earlier (Least flaw) same before flawed = absurd (omega (arith, same, division_flaw flaw))
     earlier _ same before flawed = absurd (omega (arith, same))
 
-pub height_low_is_first : {A : Type 0} (loads : List ℕ) (sizes : List (ℕ × ℕ)) (pes : ℕ) (r : Refinement A) → IsCertified loads pes r.least → AreOrdered pes r.order → AreWithin loads r.order (refined_limit r) r.cuts → length r.heights ≡ pes → height_at r.heights 0 0 ≡ 0 → AreGentle (claim_of loads sizes r) (length r.order - 1) → EndsLow loads sizes r.order (refined_limit r) r.cuts r.heights → IsFirstRefinementFlaw (HasRefinementFlaw loads sizes pes r) HeightLow
+pub height_low_is_first : {A : Type 0} (loads : List ℕ) (sizes : List (ℕ × ℕ)) (pes : ℕ) (r : Refinement A) → IsCertified loads pes r.least
+    → AreOrdered pes r.order → AreWithin loads r.order (refined_limit r) r.cuts → length r.heights ≡ pes → height_at r.heights 0 0 ≡ 0
+    → AreGentle (claim_of loads sizes r) (length r.order - 1) → EndsLow loads sizes r.order (refined_limit r) r.cuts r.heights
+    → IsFirstRefinementFlaw (HasRefinementFlaw loads sizes pes r) HeightLow
 height_low_is_first loads sizes pes r least order within counted starts gentle wrong =
     let all : AreGentle (claim_of loads sizes r) (pes - 1) = subst (λ n. AreGentle (claim_of loads sizes r) (n - 1)) order.naming.counted gentle in
     let right = right_to_heights loads sizes pes r 30 (omega arith) least order within (λ _. counted) (λ _. starts) (λ _. all) in
     first_by_number (HasRefinementFlaw loads sizes pes r) HeightLow refl wrong (nothing_before loads sizes pes r 30 right (omega arith))
 
 -- a refinement that is right has no flaw
-pub right_is_flawless : {A : Type 0} (loads : List ℕ) (sizes : List (ℕ × ℕ)) (pes : ℕ) (r : Refinement A) → IsRefinement loads sizes pes r → (flaw : RefinementFlaw) → ¬ (HasRefinementFlaw loads sizes pes r flaw)
+pub right_is_flawless : {A : Type 0} (loads : List ℕ) (sizes : List (ℕ × ℕ)) (pes : ℕ) (r : Refinement A) → IsRefinement loads sizes pes r
+    → (flaw : RefinementFlaw) → ¬ (HasRefinementFlaw loads sizes pes r flaw)
 right_is_flawless {A} loads sizes pes r right flaw =
     none flaw
   where
@@ -230,7 +264,9 @@ right_is_flawless {A} loads sizes pes r right flaw =
 
     before : AreRightBefore loads sizes pes r 30
     before =
-        right_to_heights loads sizes pes r 30 (omega arith) right.least order right.proved.within (λ _. right.proved.counted ∙ right.order.counted) (λ _. right.proved.bound.starts) (λ _ b inside x _ within y early light. right.proved.bound.rises b x y (omega (arith, right.order.counted)) early within light)
+        right_to_heights loads sizes pes r 30 (omega arith) right.least order right.proved.within
+        (λ _. right.proved.counted ∙ right.order.counted) (λ _. right.proved.bound.starts)
+        (λ _ b inside x _ within y early light. right.proved.bound.rises b x y (omega (arith, right.order.counted)) early within light)
 
     none : (flaw : RefinementFlaw) → ¬ (HasRefinementFlaw loads sizes pes r flaw)
     none HeightLow (y, inside, light, low) = absurd (omega (arith, low, right.proved.bound.ends y inside light))

@@ -25,7 +25,9 @@ next_held_fits sizes pe i d measured inside =
     omega (arith, held_few sizes pe measured, sum_by_more_le (λ size. held_bytes size pe) sizes i d inside)
 
 -- what a cut costs behind an element, by what it costs before it
-pub cost_moves_on : (sizes : List (ℕ × ℕ)) (from to x : ℕ) (d : ℕ × ℕ) → x < length sizes → held_from sizes from (x + 1) + held_before sizes to (x + 1) + held_bytes (get_or sizes x d) from ≡ held_from sizes from x + held_before sizes to x + held_bytes (get_or sizes x d) to
+pub cost_moves_on : (sizes : List (ℕ × ℕ)) (from to x : ℕ) (d : ℕ × ℕ) → x < length sizes
+    → held_from sizes from (x + 1) + held_before sizes to (x + 1) + held_bytes (get_or sizes x d) from ≡ held_from sizes from
+    x + held_before sizes to x + held_bytes (get_or sizes x d) to
 cost_moves_on sizes from to x d inside =
     let joins = sum_by_more (λ size. held_bytes size to) sizes x d inside in
     let leaves = sum_by-drop_more (λ size. held_bytes size from) sizes x d inside in

@@ -42,7 +42,8 @@ listed_none sizes pes end names starts h =
     }
 
 -- a PE that is listed already
-pub listed_skip : (sizes : List (ℕ × ℕ)) (pes end busy pe : ℕ) (names starts : List ℕ) → AreListed sizes pes end busy pe names starts → Contains names pe → AreListed sizes pes end busy (pe + 1) names starts
+pub listed_skip : (sizes : List (ℕ × ℕ)) (pes end busy pe : ℕ) (names starts : List ℕ) → AreListed sizes pes end busy pe names starts
+    → Contains names pe → AreListed sizes pes end busy (pe + 1) names starts
 listed_skip sizes pes end busy pe names starts h found =
     record {
       counted = h.counted;
@@ -75,26 +76,33 @@ end_added starts b end =
     ]
 
 -- a PE that is not listed yet
-pub listed_push : (sizes : List (ℕ × ℕ)) (pes end busy pe : ℕ) (names starts : List ℕ) → AreListed sizes pes end busy pe names starts → pe < pes → (Contains names pe → ⊥) → AreListed sizes pes end busy (pe + 1) (names ++ pe ∷ []) (starts ++ end ∷ [])
+pub listed_push : (sizes : List (ℕ × ℕ)) (pes end busy pe : ℕ) (names starts : List ℕ) → AreListed sizes pes end busy pe names starts
+    → pe < pes → (Contains names pe → ⊥) → AreListed sizes pes end busy (pe + 1) (names ++ pe ∷ []) (starts ++ end ∷ [])
 listed_push sizes pes end busy pe names starts h inside_pes new =
     let counted = length_push names pe in
     let old_name : (b : ℕ) → b < length names → slice_index (names ++ pe ∷ []) b ≡ slice_index names b = λ b inside. get_or_append_left names (pe ∷ []) 0 b inside in
     let new_name : (b : ℕ) → b ≡ length names → slice_index (names ++ pe ∷ []) b ≡ pe = λ b last. get_or_push names pe 0 b (sym last) in
-    let old_start : (b : ℕ) → b < busy → slice_index (starts ++ end ∷ []) b ≡ slice_index starts b = λ b inside. get_or_append_left starts (end ∷ []) 0 b (omega (arith, h.counted, h.few)) in
+    let old_start : (b : ℕ) → b < busy → slice_index (starts ++ end ∷ []) b ≡ slice_index starts b = λ b inside. get_or_append_left starts
+    (end ∷ []) 0 b (omega (arith, h.counted, h.few)) in
     record {
       counted = omega (arith, counted, length_push starts end, h.counted);
       few = omega (arith, counted, h.few);
       first = end_added starts 0 end ∙ h.first;
       rises = λ b inside. omega (arith, old_start b inside, end_added starts (b + 1) end, h.rises b inside);
       ends = λ b behind. end_added starts b end ∙ h.ends b behind;
-      stands = λ b i inside low high. h.stands b i inside (omega (arith, low, old_start b inside)) (omega (arith, high, end_added starts (b + 1) end)) ∙ sym (old_name b (omega (arith, h.few)));
+      stands = λ b i inside low high. h.stands b i inside (omega (arith, low, old_start b inside))
+          (omega (arith, high, end_added starts (b + 1) end)) ∙ sym (old_name b (omega (arith, h.few)));
       below = λ b inside. elim (cases_lt b (length names)) [
         | inl old ↦ omega (arith, old_name b old, h.below b old)
         | inr last ↦ omega (arith, new_name b (omega (arith, counted)), inside_pes)
       ];
       apart = λ a b before inside. elim (cases_lt b (length names)) [
         | inl old ↦ λ same. h.apart a b before old (sym (old_name a (omega arith)) ∙ same ∙ old_name b old)
-        | inr last ↦ λ same. new (a, omega (arith, counted), get_or_default names a pe 0 (omega (arith, counted)) ∙ sym (old_name a (omega (arith, counted))) ∙ same ∙ new_name b (omega (arith, counted)))
+        | inr last ↦ λ same. new (
+          a,
+          omega (arith, counted),
+          get_or_default names a pe 0 (omega (arith, counted)) ∙ sym (old_name a (omega (arith, counted))) ∙ same ∙ new_name b (omega (arith, counted)),
+        )
       ];
       idle_below = λ b behind inside. elim (cases_lt b (length names)) [
         | inl old ↦ omega (arith, old_name b old, h.idle_below b behind old)
@@ -113,7 +121,8 @@ listed_push sizes pes end busy pe names starts h inside_pes new =
     }
 
 -- each PE is listed
-pub listed_all : (sizes : List (ℕ × ℕ)) (pes end busy : ℕ) (names starts : List ℕ) → AreListed sizes pes end busy pes names starts → end ≡ length sizes → IsPresentOrder sizes pes names (starts ++ end ∷ [])
+pub listed_all : (sizes : List (ℕ × ℕ)) (pes end busy : ℕ) (names starts : List ℕ) → AreListed sizes pes end busy pes names starts
+    → end ≡ length sizes → IsPresentOrder sizes pes names (starts ++ end ∷ [])
 listed_all sizes pes end busy names starts h whole =
     record {
       naming = record { counted = counted; below = λ b inside. h.below b (omega (arith, counted)); apart = λ a b before inside. h.apart a b before (omega (arith, counted)) };
@@ -130,13 +139,25 @@ listed_all sizes pes end busy names starts h whole =
           ends = cut (length names) (omega (arith, h.counted)) ∙ get_or_past starts (length names) end (omega (arith, h.counted)) ∙ whole;
         };
         stands = λ b i inside low high. elim (cases_lt b busy) [
-          | inl inner ↦ h.stands b i inner (omega (arith, low, cut b (omega (arith, h.counted)), get_or_default starts b end 0 (omega (arith, h.counted)))) (omega (arith, high, cut (b + 1) (omega (arith, h.counted))))
+          | inl inner ↦ h.stands b i inner (omega (
+            arith,
+            low,
+            cut b (omega (arith, h.counted)),
+            get_or_default starts b end 0 (omega (arith, h.counted)),
+          )) (omega (arith, high, cut (b + 1) (omega (arith, h.counted))))
           | inr idle ↦ absurd (omega (arith, low, high, cut b (omega (arith, h.counted)), cut (b + 1) (omega (arith, h.counted)), h.ends b idle, h.ends (b + 1) (omega arith)))
         ];
       };
       idle_last = λ b inside same. elim (cases_lt b busy) [
         | inl inner ↦ absurd (busy_apart b inner same)
-        | inr idle ↦ omega (arith, counted, cut (b + 1) (omega (arith, counted, h.counted)), cut (b + 1 + 1) (omega (arith, counted, h.counted)), h.ends (b + 1) (omega arith), h.ends (b + 1 + 1) (omega arith))
+        | inr idle ↦ omega (
+          arith,
+          counted,
+          cut (b + 1) (omega (arith, counted, h.counted)),
+          cut (b + 1 + 1) (omega (arith, counted, h.counted)),
+          h.ends (b + 1) (omega arith),
+          h.ends (b + 1 + 1) (omega arith),
+        )
       ];
       idle_rise = λ b inside same. elim (cases_lt b busy) [
         | inl inner ↦ absurd (busy_apart b inner same)
@@ -151,7 +172,13 @@ listed_all sizes pes end busy names starts h whole =
     cut b inside = get_or_default (starts ++ end ∷ []) b 0 end (omega (arith, length_push starts end)) ∙ end_added starts b end
 
     busy_rises : (b : ℕ) → b < busy → slice_index (starts ++ end ∷ []) b < slice_index (starts ++ end ∷ []) (b + 1)
-    busy_rises b inner = omega (arith, cut b (omega (arith, h.counted, h.few)), cut (b + 1) (omega (arith, h.counted, h.few)), get_or_default starts b end 0 (omega (arith, h.counted, h.few)), h.rises b inner)
+    busy_rises b inner = omega (
+      arith,
+      cut b (omega (arith, h.counted, h.few)),
+      cut (b + 1) (omega (arith, h.counted, h.few)),
+      get_or_default starts b end 0 (omega (arith, h.counted, h.few)),
+      h.rises b inner,
+    )
 
     busy_apart : (b : ℕ) → b < busy → slice_index (starts ++ end ∷ []) b ≡ slice_index (starts ++ end ∷ []) (b + 1) → ⊥
     busy_apart b inner same = omega (arith, busy_rises b inner, same)

@@ -30,20 +30,24 @@ before_rises sizes pe x y onward within =
     subst (λ n. held_before sizes pe x ≤ held_before sizes pe n) (omega arith) (before_rises_by sizes pe x (y - x) (omega arith))
 
 -- and as many, where no element between them is on the PE
-none_between_by : (sizes : List (ℕ × ℕ)) (pe x more : ℕ) → x + more ≤ length sizes → ((i : ℕ) → x ≤ i → i < x + more → place_of sizes i ≢ pe) → held_before sizes pe x ≡ held_before sizes pe (x + more)
+none_between_by : (sizes : List (ℕ × ℕ)) (pe x more : ℕ) → x + more ≤ length sizes
+    → ((i : ℕ) → x ≤ i → i < x + more → place_of sizes i ≢ pe) → held_before sizes pe x ≡ held_before sizes pe (x + more)
 none_between_by sizes pe x zero within none = ap (held_before sizes pe) (sym (add-zero x))
 none_between_by sizes pe x (suc more) within none =
     let before : held_before sizes pe x ≡ held_before sizes pe (x + more) = none_between_by sizes pe x more (omega arith) (λ i low high. none i low (omega arith)) in
-    let nothing : held_bytes (slice_index_or sizes (x + more) (0, 0)) pe ≡ 0 = held_elsewhere (slice_index_or sizes (x + more) (0, 0)) pe (none (x + more) (omega arith) (omega arith)) in
+    let nothing : held_bytes (slice_index_or sizes (x + more) (0, 0)) pe ≡ 0 = held_elsewhere (slice_index_or sizes (x + more) (0, 0)) pe
+    (none (x + more) (omega arith) (omega arith)) in
     let there : held_before sizes pe x ≡ held_before sizes pe (x + more + 1) = omega (arith, before, nothing, held_with_next sizes pe (x + more) (omega arith)) in
     subst (λ n. held_before sizes pe x ≡ held_before sizes pe n) (omega arith) there
 
-pub none_between : (sizes : List (ℕ × ℕ)) (pe x y : ℕ) → x ≤ y → y ≤ length sizes → ((i : ℕ) → x ≤ i → i < y → place_of sizes i ≢ pe) → held_before sizes pe x ≡ held_before sizes pe y
+pub none_between : (sizes : List (ℕ × ℕ)) (pe x y : ℕ) → x ≤ y → y ≤ length sizes → ((i : ℕ) → x ≤ i → i < y → place_of sizes i ≢ pe)
+    → held_before sizes pe x ≡ held_before sizes pe y
 none_between sizes pe x y onward within none =
     subst (λ n. held_before sizes pe x ≡ held_before sizes pe n) (omega arith) (none_between_by sizes pe x (y - x) (omega arith) (λ i low high. none i low (omega arith)))
 
 -- up to the present cut a later cut costs no more
-pub cost_falls : (sizes : List (ℕ × ℕ)) (names present : List ℕ) (b x y : ℕ) → AreApartAt sizes names present b → x ≤ y → y ≤ slice_index present (b + 1) → slice_index present (b + 1) ≤ length sizes → cut_cost sizes names b y ≤ cut_cost sizes names b x
+pub cost_falls : (sizes : List (ℕ × ℕ)) (names present : List ℕ) (b x y : ℕ) → AreApartAt sizes names present b → x ≤ y
+    → y ≤ slice_index present (b + 1) → slice_index present (b + 1) ≤ length sizes → cut_cost sizes names b y ≤ cut_cost sizes names b x
 cost_falls sizes names present b x y apart onward before within =
     let from : ℕ = slice_index names b in
     let to : ℕ = slice_index names (b + 1) in
@@ -57,7 +61,8 @@ cost_falls sizes names present b x y apart onward before within =
     )
 
 -- and behind it no less
-pub cost_rises : (sizes : List (ℕ × ℕ)) (names present : List ℕ) (b x y : ℕ) → AreApartAt sizes names present b → slice_index present (b + 1) ≤ x → x ≤ y → y ≤ length sizes → cut_cost sizes names b x ≤ cut_cost sizes names b y
+pub cost_rises : (sizes : List (ℕ × ℕ)) (names present : List ℕ) (b x y : ℕ) → AreApartAt sizes names present b
+    → slice_index present (b + 1) ≤ x → x ≤ y → y ≤ length sizes → cut_cost sizes names b x ≤ cut_cost sizes names b y
 cost_rises sizes names present b x y apart behind onward within =
     let from : ℕ = slice_index names b in
     let to : ℕ = slice_index names (b + 1) in
@@ -77,7 +82,8 @@ none_before : (sizes : List (ℕ × ℕ)) (pe : ℕ) → held_before sizes pe 0 
 none_before sizes pe = refl
 
 -- before the present cut it costs the bytes between the two that are on the PE of the block before it
-pub cost_before : (sizes : List (ℕ × ℕ)) (names present : List ℕ) (b x cut : ℕ) → AreApartAt sizes names present b → slice_index present (b + 1) ≡ cut → x ≤ cut → cut ≤ length sizes → held (slice_range sizes x cut) (slice_index names b) ≡ cut_cost sizes names b x
+pub cost_before : (sizes : List (ℕ × ℕ)) (names present : List ℕ) (b x cut : ℕ) → AreApartAt sizes names present b
+    → slice_index present (b + 1) ≡ cut → x ≤ cut → cut ≤ length sizes → held (slice_range sizes x cut) (slice_index names b) ≡ cut_cost sizes names b x
 cost_before sizes names present b x cut apart same before within =
     let from : ℕ = slice_index names b in
     let to : ℕ = slice_index names (b + 1) in
@@ -94,7 +100,8 @@ cost_before sizes names present b x cut apart same before within =
     )
 
 -- and behind it the bytes between the two that are on the PE of the next block
-pub cost_behind : (sizes : List (ℕ × ℕ)) (names present : List ℕ) (b x cut : ℕ) → AreApartAt sizes names present b → slice_index present (b + 1) ≡ cut → cut ≤ x → x ≤ length sizes → held (slice_range sizes cut x) (slice_index names (b + 1)) ≡ cut_cost sizes names b x
+pub cost_behind : (sizes : List (ℕ × ℕ)) (names present : List ℕ) (b x cut : ℕ) → AreApartAt sizes names present b
+    → slice_index present (b + 1) ≡ cut → cut ≤ x → x ≤ length sizes → held (slice_range sizes cut x) (slice_index names (b + 1)) ≡ cut_cost sizes names b x
 cost_behind sizes names present b x cut apart same behind within =
     let from : ℕ = slice_index names b in
     let to : ℕ = slice_index names (b + 1) in
@@ -111,7 +118,8 @@ cost_behind sizes names present b x cut apart same behind within =
     )
 
 -- the block that contains an element
-pub block_around : (cuts : List ℕ) (blocks i : ℕ) → slice_index cuts 0 ≤ i → i < slice_index cuts blocks → (b : ℕ) × (b < blocks) × (slice_index cuts b ≤ i) × (i < slice_index cuts (b + 1))
+pub block_around : (cuts : List ℕ) (blocks i : ℕ) → slice_index cuts 0 ≤ i → i < slice_index cuts blocks → (b : ℕ) × (b < blocks)
+    × (slice_index cuts b ≤ i) × (i < slice_index cuts (b + 1))
 block_around cuts zero i from to = absurd (omega arith)
 block_around cuts (suc blocks) i from to =
     elim (cases_lt i (slice_index cuts blocks)) [
@@ -122,7 +130,8 @@ block_around cuts (suc blocks) i from to =
     ]
 
 -- where elements are in the order of different names, they are apart at each cut
-pub apart_from_order : (sizes : List (ℕ × ℕ)) (names present : List ℕ) (b : ℕ) → IsNaming (length names) names → StandInOrder sizes names present → b + 1 < length names → AreApartAt sizes names present b
+pub apart_from_order : (sizes : List (ℕ × ℕ)) (names present : List ℕ) (b : ℕ) → IsNaming (length names) names
+    → StandInOrder sizes names present → b + 1 < length names → AreApartAt sizes names present b
 apart_from_order sizes names present b naming order inside =
     record {
       before = λ i early within here.

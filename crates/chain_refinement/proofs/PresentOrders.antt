@@ -39,10 +39,12 @@ no_order_past sizes pes i inside past names present naming standing =
     absurd (omega (arith, past, standing.stands at.0 i at.1 at.2 at.3, naming.below at.0 (omega (arith, at.1, naming.counted))))
 
 -- where an element is between two of another PE, there is no order
-pub no_order_apart : (sizes : List (ℕ × ℕ)) (pes i j k : ℕ) → i ≤ j → j ≤ k → k < length sizes → place_of sizes i ≡ place_of sizes k → place_of sizes j ≢ place_of sizes k → HasNoOrder sizes pes
+pub no_order_apart : (sizes : List (ℕ × ℕ)) (pes i j k : ℕ) → i ≤ j → j ≤ k → k < length sizes → place_of sizes i ≡ place_of sizes k
+    → place_of sizes j ≢ place_of sizes k → HasNoOrder sizes pes
 no_order_apart sizes pes i j k first second inside same other names present naming standing =
     let one = block_at (length sizes) (length names) present i standing.divides (omega arith) in
     let last = block_at (length sizes) (length names) present k standing.divides inside in
-    let block : one.0 ≡ last.0 = same_block pes names one.0 last.0 naming (omega (arith, one.1, naming.counted)) (omega (arith, last.1, naming.counted)) (sym (standing.stands one.0 i one.1 one.2 one.3) ∙ same ∙ standing.stands last.0 k last.1 last.2 last.3) in
+    let block : one.0 ≡ last.0 = same_block pes names one.0 last.0 naming (omega (arith, one.1, naming.counted))
+    (omega (arith, last.1, naming.counted)) (sym (standing.stands one.0 i one.1 one.2 one.3) ∙ same ∙ standing.stands last.0 k last.1 last.2 last.3) in
     let begins : slice_index present one.0 ≡ slice_index present last.0 = ap (λ b. slice_index present b) block in
     absurd (other (standing.stands last.0 j last.1 (omega (arith, begins, one.2)) (omega (arith, last.3)) ∙ sym (standing.stands last.0 k last.1 last.2 last.3)))

@@ -21,7 +21,8 @@ runs_none sizes pes =
     }
 
 -- one more element of the last run
-pub runs_same : (sizes : List (ℕ × ℕ)) (pes end : ℕ) (names starts : List ℕ) → AreRuns sizes pes end names starts → 0 < length names → place_of sizes end ≡ slice_index names (length names - 1) → AreRuns sizes pes (end + 1) names starts
+pub runs_same : (sizes : List (ℕ × ℕ)) (pes end : ℕ) (names starts : List ℕ) → AreRuns sizes pes end names starts → 0 < length names
+    → place_of sizes end ≡ slice_index names (length names - 1) → AreRuns sizes pes (end + 1) names starts
 runs_same sizes pes end names starts h some here =
     record {
       counted = h.counted;
@@ -37,7 +38,13 @@ runs_same sizes pes end names starts h some here =
               let b_is : length names - 1 ≡ b = omega arith in
               ap (λ k. place_of sizes k) new ∙ here ∙ ap (λ k. slice_index names k) b_is
           | inr old ↦
-              h.stands b i inside low (omega (arith, old, high, get_or_past starts (b + 1) end (omega (arith, h.counted)), get_or_past starts (b + 1) (end + 1) (omega (arith, h.counted))))
+              h.stands b i inside low (omega (
+                arith,
+                old,
+                high,
+                get_or_past starts (b + 1) end (omega (arith, h.counted)),
+                get_or_past starts (b + 1) (end + 1) (omega (arith, h.counted)),
+              ))
         ]
       ];
       below = h.below;
@@ -53,14 +60,17 @@ end_pushed starts b end inside =
     ]
 
 -- one more element, which begins a run
-pub runs_push : (sizes : List (ℕ × ℕ)) (pes end : ℕ) (names starts : List ℕ) (place : ℕ) → AreRuns sizes pes end names starts → place_of sizes end ≡ place → place < pes → ¬ (Contains names place) → AreRuns sizes pes (end + 1) (names ++ place ∷ []) (starts ++ end ∷ [])
+pub runs_push : (sizes : List (ℕ × ℕ)) (pes end : ℕ) (names starts : List ℕ) (place : ℕ) → AreRuns sizes pes end names starts
+    → place_of sizes end ≡ place → place < pes → ¬ (Contains names place) → AreRuns sizes pes (end + 1) (names ++ place ∷ []) (starts ++ end ∷ [])
 runs_push sizes pes end names starts place h here below new =
     let counted = length_push names place in
     let old_name : (b : ℕ) → b < length names → slice_index (names ++ place ∷ []) b ≡ slice_index names b = λ b inside. get_or_append_left names (place ∷ []) 0 b inside in
     let new_name : (b : ℕ) → b ≡ length names → slice_index (names ++ place ∷ []) b ≡ place = λ b last. get_or_push names place 0 b (sym last) in
-    let old_start : (b : ℕ) → b < length names → slice_index (starts ++ end ∷ []) b ≡ slice_index starts b = λ b inside. get_or_append_left starts (end ∷ []) 0 b (omega (arith, h.counted)) in
+    let old_start : (b : ℕ) → b < length names → slice_index (starts ++ end ∷ []) b ≡ slice_index starts b = λ b inside. get_or_append_left
+    starts (end ∷ []) 0 b (omega (arith, h.counted)) in
     let new_start : (b : ℕ) → b ≡ length names → slice_index (starts ++ end ∷ []) b ≡ end = λ b last. get_or_push starts end 0 b (omega (arith, h.counted, last)) in
-    let new_end : (b : ℕ) → b ≡ length names → slice_index_or (starts ++ end ∷ []) (b + 1) (end + 1) ≡ end + 1 = λ b last. get_or_past (starts ++ end ∷ []) (b + 1) (end + 1) (omega (arith, h.counted, last, length_push starts end)) in
+    let new_end : (b : ℕ) → b ≡ length names → slice_index_or (starts ++ end ∷ []) (b + 1) (end + 1) ≡ end + 1 = λ b last. get_or_past
+    (starts ++ end ∷ []) (b + 1) (end + 1) (omega (arith, h.counted, last, length_push starts end)) in
     record {
       counted = omega (arith, counted, length_push starts end, h.counted);
       first = first;
@@ -80,7 +90,11 @@ runs_push sizes pes end names starts place h here below new =
       ];
       apart = λ a b before inside. elim (cases_lt b (length names)) [
         | inl old ↦ λ same. h.apart a b before old (sym (old_name a (omega arith)) ∙ same ∙ old_name b old)
-        | inr last ↦ λ same. new (a, omega (arith, counted), get_or_default names a place 0 (omega (arith, counted)) ∙ sym (old_name a (omega (arith, counted))) ∙ same ∙ new_name b (omega (arith, counted)))
+        | inr last ↦ λ same. new (
+          a,
+          omega (arith, counted),
+          get_or_default names a place 0 (omega (arith, counted)) ∙ sym (old_name a (omega (arith, counted))) ∙ same ∙ new_name b (omega (arith, counted)),
+        )
       ];
     }
   where
@@ -91,16 +105,23 @@ runs_push sizes pes end names starts place h here below new =
     ]
 
 -- a run begins before the end; at most this number of runs are behind it
-start_before : (sizes : List (ℕ × ℕ)) (pes end : ℕ) (names starts : List ℕ) (left b : ℕ) → AreRuns sizes pes end names starts → length names ≤ b + left → b < length names → slice_index starts b < end
+start_before : (sizes : List (ℕ × ℕ)) (pes end : ℕ) (names starts : List ℕ) (left b : ℕ) → AreRuns sizes pes end names starts
+    → length names ≤ b + left → b < length names → slice_index starts b < end
 start_before sizes pes end names starts zero b h few inside = absurd (omega arith)
 start_before sizes pes end names starts (suc left) b h few inside =
     elim (cases_lt (b + 1) (length names)) [
-      | inl inner ↦ omega (arith, h.rises b inside, get_or_default starts (b + 1) end 0 (omega (arith, h.counted)), start_before sizes pes end names starts left (b + 1) h (omega arith) inner)
+      | inl inner ↦ omega (
+        arith,
+        h.rises b inside,
+        get_or_default starts (b + 1) end 0 (omega (arith, h.counted)),
+        start_before sizes pes end names starts left (b + 1) h (omega arith) inner,
+      )
       | inr last ↦ omega (arith, h.rises b inside, get_or_past starts (b + 1) end (omega (arith, h.counted)))
     ]
 
 -- where a PE has a second run, there is no order
-pub no_order_twice : (sizes : List (ℕ × ℕ)) (pes end : ℕ) (names starts : List ℕ) → AreRuns sizes pes end names starts → end < length sizes → (IsLast names (place_of sizes end) → ⊥) → Contains names (place_of sizes end) → HasNoOrder sizes pes
+pub no_order_twice : (sizes : List (ℕ × ℕ)) (pes end : ℕ) (names starts : List ℕ) → AreRuns sizes pes end names starts → end < length sizes
+    → (IsLast names (place_of sizes end) → ⊥) → Contains names (place_of sizes end) → HasNoOrder sizes pes
 no_order_twice sizes pes end names starts h inside other found =
     let place : ℕ = place_of sizes end in
     let b : ℕ = found.0 in

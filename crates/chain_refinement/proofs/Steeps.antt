@@ -28,14 +28,16 @@ pub gentle_at_first : (claim : Claimed) (b : ℕ) (place : Place) → IsPlace cl
 gentle_at_first claim b place here low x first _ =
     subst (IsGentle claim b) (omega arith) (gentle_here claim b 0 place here low)
 
-pub gentle_so_far : (claim : Claimed) (b x : ℕ) (place : Place) → IsPlace claim b x place → place.high.height ≤ place.low.height + place.cost → AllGentle claim b x → AllGentle claim b (x + 1)
+pub gentle_so_far : (claim : Claimed) (b x : ℕ) (place : Place) → IsPlace claim b x place
+    → place.high.height ≤ place.low.height + place.cost → AllGentle claim b x → AllGentle claim b (x + 1)
 gentle_so_far claim b x place here low before z inside within =
     elim (cases_lt z x) [
       | inl earlier ↦ before z earlier within
       | inr last ↦ subst (IsGentle claim b) (omega arith) (gentle_here claim b x place here low)
     ]
 
-pub rises_here : (claim : Claimed) (b x : ℕ) (place : Place) → IsPlace claim b x place → x ≤ length claim.loads → place.low.height + place.cost < place.high.height → RisesAt claim b x
+pub rises_here : (claim : Claimed) (b x : ℕ) (place : Place) → IsPlace claim b x place → x ≤ length claim.loads
+    → place.low.height + place.cost < place.high.height → RisesAt claim b x
 rises_here claim b x place here within high = (
   place.window.start,
   here.window.start_is.inside,

@@ -38,7 +38,8 @@ pub record IsSliding (loads : List ℕ) (end limit start weight : ℕ) : Type 0 
   pub wider : (other : ℕ) → other ≤ end → load loads other end ≤ limit → start ≤ other
 
 -- the next element goes in
-pub element_in : (loads : List ℕ) (element limit start weight d : ℕ) → IsWindow loads element limit start weight → element < length loads → IsSliding loads (element + 1) limit start (weight + get_or loads element d)
+pub element_in : (loads : List ℕ) (element limit start weight d : ℕ) → IsWindow loads element limit start weight → element < length loads
+    → IsSliding loads (element + 1) limit start (weight + get_or loads element d)
 element_in loads element limit start weight d window inside =
     record {
       inside = omega (arith, window.start_is.inside);
@@ -51,7 +52,8 @@ element_in loads element limit start weight d window inside =
     }
 
 -- and where it makes the range too heavy, the first one goes out
-pub element_out : (loads : List ℕ) (end limit start weight d : ℕ) → IsSliding loads end limit start weight → end ≤ length loads → limit < weight → (get_or loads start d ≤ weight) × (start < end) × IsSliding loads end limit (start + 1) (weight - get_or loads start d)
+pub element_out : (loads : List ℕ) (end limit start weight d : ℕ) → IsSliding loads end limit start weight → end ≤ length loads
+    → limit < weight → (get_or loads start d ≤ weight) × (start < end) × IsSliding loads end limit (start + 1) (weight - get_or loads start d)
 element_out loads end limit start weight d sliding within heavy =
     let some : start < end = elim (cases_lt start end) [
       | inl before ↦ before
@@ -102,7 +104,8 @@ window_fits loads start end d measured onward inside =
     )
 
 -- a later window begins no earlier
-pub never_back : (loads : List ℕ) (element limit start weight start₂ weight₂ : ℕ) → IsWindow loads element limit start weight → IsWindow loads (element + 1) limit start₂ weight₂ → start ≤ start₂
+pub never_back : (loads : List ℕ) (element limit start weight start₂ weight₂ : ℕ) → IsWindow loads element limit start weight
+    → IsWindow loads (element + 1) limit start₂ weight₂ → start ≤ start₂
 never_back loads element limit start weight start₂ weight₂ window next =
     elim (cases_lt element start₂) [
       | inl behind ↦ omega (arith, behind, window.start_is.inside)

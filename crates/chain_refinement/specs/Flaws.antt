@@ -62,4 +62,5 @@ refinement_flaw_place _ = (0, 0)
 pub record IsFirstRefinementFlaw (applies : RefinementFlaw → Type 0) (flaw : RefinementFlaw) : Type 0 where
   pub applies_itself : applies flaw
   pub no_lower_number : (other : RefinementFlaw) → refinement_flaw_number other < refinement_flaw_number flaw → ¬ (applies other)
-  pub no_lower_place : (other : RefinementFlaw) → refinement_flaw_number other ≡ refinement_flaw_number flaw → IsBefore (refinement_flaw_place other) (refinement_flaw_place flaw) → ¬ (applies other)
+  pub no_lower_place : (other : RefinementFlaw) → refinement_flaw_number other ≡ refinement_flaw_number flaw
+      → IsBefore (refinement_flaw_place other) (refinement_flaw_place flaw) → ¬ (applies other)

@@ -92,4 +92,6 @@ LiesBetween one middle other = ((one ≤ middle) × (middle ≤ other)) ⊎ ((ot
 -- have the same cuts behind cut b, this one is between their cut b and the present one. So there is one such list.
 pub record AreNearest (loads : List ℕ) (sizes : List (ℕ × ℕ)) (names present : List ℕ) (limit : ℕ) (cuts : List ℕ) : Type 0 where
   pub fewest : AreFewest loads sizes names limit cuts
-  pub nearest : (others : List ℕ) (b : ℕ) → AreFewest loads sizes names limit others → b < length names → ((k : ℕ) → b < k → k ≤ length names → slice_index others k ≡ slice_index cuts k) → LiesBetween (slice_index present b) (slice_index cuts b) (slice_index others b)
+  pub nearest : (others : List ℕ) (b : ℕ) → AreFewest loads sizes names limit others → b < length names
+      → ((k : ℕ) → b < k → k ≤ length names → slice_index others k ≡ slice_index cuts k)
+      → LiesBetween (slice_index present b) (slice_index cuts b) (slice_index others b)

@@ -37,7 +37,8 @@ history_ran {C} step pack opened el pe done h may =
     }
 
 -- as an element opens
-pub history_opening : {C : Type 0} (step : Step C) (pack : C → List ℕ) (opened : List C) (index : ℕ) (chare : C) → slice_get opened index ≡ Some chare → IsHistory step pack opened (opening_element index chare)
+pub history_opening : {C : Type 0} (step : Step C) (pack : C → List ℕ) (opened : List C) (index : ℕ) (chare : C)
+    → slice_get opened index ≡ Some chare → IsHistory step pack opened (opening_element index chare)
 history_opening step pack opened index chare at =
     record { opening = chare; opens = at; entries = []; is_lived = refl; is_journal = refl; in_order = in_order_opening index chare }
 
@@ -55,7 +56,8 @@ pub same_value : {C : Type 0} {x y : C} {m n : ℕ} → ◌≡◌ {A = Result (C
 same_value {C} {x} {y} {m} {n} h = let e : ◌≡◌ {A = C × ℕ} (x, m) (y, n) = cc in ap (λ (v : C × ℕ). v.0) e
 
 -- what bytes of a packed element unpack to is the chare that was packed
-pub history_unpacked : {C : Type 0} (step : Step C) (fits counted : C → Type 0) (pack : C → List ℕ) (unpack : List ℕ → Result (C × ℕ) PupError) (opened : List C) (p : PackedView) (chare : C) (k : ℕ)
+pub history_unpacked : {C : Type 0} (step : Step C) (fits counted : C → Type 0) (pack : C → List ℕ)
+    (unpack : List ℕ → Result (C × ℕ) PupError) (opened : List C) (p : PackedView) (chare : C) (k : ℕ)
     → ((s : C) (rest : List ℕ) → fits s → counted s → length (pack s) ≤ STATE_BYTES → unpack (pack s ++ rest) ≡ Ok (s, length (pack s)))
     → ((s : C) → fits s → counted s × (length (pack s) ≤ STATE_BYTES))
     → IsPackedHistory step fits pack opened p

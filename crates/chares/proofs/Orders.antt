@@ -35,7 +35,8 @@ range_more a (suc n) =
     ap (range_with_len a) q ∙ ap (λ v. a ∷ v) k
 
 -- as an element opens
-pub in_order_opening : {C : Type 0} (index : ℕ) (chare : C) → IsInOrder (opening_element index chare).journal (opening_element index chare).progress (opening_element index chare).marks
+pub in_order_opening : {C : Type 0} (index : ℕ) (chare : C)
+    → IsInOrder (opening_element index chare).journal (opening_element index chare).progress (opening_element index chare).marks
 in_order_opening index chare = record { first = tt; fresh = λ h. (refl, refl); stops = refl; resumed = refl }
 
 -- the same of an element that has started
@@ -84,7 +85,8 @@ going_some journal p marks h none =
     ends_with (range_with_len 0 p.round) (0 + p.round) (sym (ap resumptions none) ∙ h.resumed ∙ range_more 0 p.round)
 
 -- a letter
-pub going_letter : (journal : List Done) (p : Progress) (marks : List Mark) (l : LetterView) (units : ℕ) → IsGoing journal p marks → IsGoing (journal ++ Letter l ∷ []) (charged p units) (marks ++ [])
+pub going_letter : (journal : List Done) (p : Progress) (marks : List Mark) (l : LetterView) (units : ℕ) → IsGoing journal p marks
+    → IsGoing (journal ++ Letter l ∷ []) (charged p units) (marks ++ [])
 going_letter journal p marks l units h =
     record {
       first = first_stays journal (Letter l) (going_some journal p marks h) h.first;
@@ -94,7 +96,8 @@ going_letter journal p marks l units h =
     }
 
 -- the start
-pub going_start : (journal : List Done) (p : Progress) (marks : List Mark) (pe units : ℕ) → IsInOrder journal p marks → p.started ≡ false → IsGoing (journal ++ Resumption 0 ∷ []) (charged (begun p 0) units) (marks ++ Resumed 0 pe ∷ [])
+pub going_start : (journal : List Done) (p : Progress) (marks : List Mark) (pe units : ℕ) → IsInOrder journal p marks → p.started ≡ false
+    → IsGoing (journal ++ Resumption 0 ∷ []) (charged (begun p 0) units) (marks ++ Resumed 0 pe ∷ [])
 going_start journal p marks pe units h s =
     let none : resumptions journal ≡ [] = h.resumed ∙ when_false p.started (range_with_len 0 (p.round + 1)) [] s in
     let bare : map stop_of marks ≡ [] = h.stops ∙ when_false p.started (stops_until p.round ++ waiting p) [] s in
@@ -108,15 +111,18 @@ going_start journal p marks pe units h s =
 stops_more : (r : ℕ) → (stops_until r ++ AtSync (r + 1) ∷ []) ++ Resumes (r + 1) ∷ [] ≡ stops_until (r + 1) ++ []
 stops_more r =
     let e : stops_until (suc r) ≡ stops_until (r + 1) = ap stops_until (let k : suc r ≡ r + 1 = omega arith in k) in
-    let f : stops_until r ++ AtSync (r + 1) ∷ Resumes (r + 1) ∷ [] ≡ stops_until (suc r) = ap (λ (v : ℕ). stops_until r ++ AtSync v ∷ Resumes v ∷ []) (let k : r + 1 ≡ suc r = omega arith in k) in
+    let f : stops_until r ++ AtSync (r + 1) ∷ Resumes (r + 1) ∷ [] ≡ stops_until (suc r) = ap
+    (λ (v : ℕ). stops_until r ++ AtSync v ∷ Resumes v ∷ []) (let k : r + 1 ≡ suc r = omega arith in k) in
     append_assoc (stops_until r) (AtSync (r + 1) ∷ []) (Resumes (r + 1) ∷ []) ∙ (f ∙ (e ∙ sym (append-nil (stops_until (r + 1)))))
 
 -- the resumption for the round for which it waits
 pub going_resumption : (journal : List Done) (p : Progress) (marks : List Mark) (pe units : ℕ) → IsGoing journal p marks → p.synced ≡ true
     → IsGoing (journal ++ Resumption (p.round + 1) ∷ []) (charged (begun p (p.round + 1)) units) (marks ++ Resumed (p.round + 1) pe ∷ [])
 going_resumption journal p marks pe units h s =
-    let waits : map stop_of marks ≡ stops_until p.round ++ AtSync (p.round + 1) ∷ [] = h.stops ∙ ap (λ (v : List Stop). stops_until p.round ++ v) (when_true p.synced (AtSync (p.round + 1) ∷ []) [] s) in
-    let more : range_with_len 0 ((p.round + 1) + 1) ≡ range_with_len 0 (p.round + 1) ++ (p.round + 1) ∷ [] = range_more 0 (p.round + 1) ∙ ap (λ (v : ℕ). range_with_len 0 (p.round + 1) ++ v ∷ []) (zero-add (p.round + 1)) in
+    let waits : map stop_of marks ≡ stops_until p.round ++ AtSync (p.round + 1) ∷ [] = h.stops
+    ∙ ap (λ (v : List Stop). stops_until p.round ++ v) (when_true p.synced (AtSync (p.round + 1) ∷ []) [] s) in
+    let more : range_with_len 0 ((p.round + 1) + 1) ≡ range_with_len 0 (p.round + 1) ++ (p.round + 1) ∷ [] = range_more 0 (p.round + 1)
+    ∙ ap (λ (v : ℕ). range_with_len 0 (p.round + 1) ++ v ∷ []) (zero-add (p.round + 1)) in
     record {
       first = first_stays journal (Resumption (p.round + 1)) (going_some journal p marks h) h.first;
       started = refl;
@@ -136,11 +142,14 @@ begins_to_wait p e h = by e.finished p.finished p.synced e.at_sync h
     by false d true false h = cc
 
 -- what the effect means
-pub going_ended : (journal : List Done) (p : Progress) (marks : List Mark) (index bytes pe : ℕ) (e : Ending) → IsGoing journal p marks → (e ≡ Syncs → p.synced ≡ false) → IsGoing journal (ended p e) (marks ++ synced_mark (note_at p index bytes pe e))
+pub going_ended : (journal : List Done) (p : Progress) (marks : List Mark) (index bytes pe : ℕ) (e : Ending) → IsGoing journal p marks
+    → (e ≡ Syncs → p.synced ≡ false) → IsGoing journal (ended p e) (marks ++ synced_mark (note_at p index bytes pe e))
 going_ended journal p marks index bytes pe Runs h k = record { first = h.first; started = h.started; stops = ap (map stop_of) (append-nil marks) ∙ h.stops; resumed = h.resumed }
-going_ended journal p marks index bytes pe Finishes h k = record { first = h.first; started = h.started; stops = ap (map stop_of) (append-nil marks) ∙ h.stops; resumed = h.resumed }
+going_ended journal p marks index bytes pe Finishes h k = record
+    { first = h.first; started = h.started; stops = ap (map stop_of) (append-nil marks) ∙ h.stops; resumed = h.resumed }
 going_ended journal p marks index bytes pe Syncs h k =
-    let bare : map stop_of marks ≡ stops_until p.round = h.stops ∙ (ap (λ (v : List Stop). stops_until p.round ++ v) (when_false p.synced (AtSync (p.round + 1) ∷ []) [] (k refl)) ∙ append-nil (stops_until p.round)) in
+    let bare : map stop_of marks ≡ stops_until p.round = h.stops
+    ∙ (ap (λ (v : List Stop). stops_until p.round ++ v) (when_false p.synced (AtSync (p.round + 1) ∷ []) [] (k refl)) ∙ append-nil (stops_until p.round)) in
     record {
       first = h.first;
       started = h.started;
@@ -148,10 +157,12 @@ going_ended journal p marks index bytes pe Syncs h k =
       resumed = h.resumed;
     }
 
-in_order_ended : (journal : List Done) (p : Progress) (marks first : List Mark) (index bytes pe : ℕ) (e : Effect) → IsGoing journal p (marks ++ first) → IsInOrder journal (ended p (ending p e)) (marks ++ (first ++ synced_mark (note_at p index bytes pe (ending p e))))
+in_order_ended : (journal : List Done) (p : Progress) (marks first : List Mark) (index bytes pe : ℕ) (e : Effect)
+    → IsGoing journal p (marks ++ first) → IsInOrder journal (ended p (ending p e)) (marks ++ (first ++ synced_mark (note_at p index bytes pe (ending p e))))
 in_order_ended journal p marks first index bytes pe e h =
     subst (λ (v : List Mark). IsInOrder journal (ended p (ending p e)) v) (append_assoc marks first (synced_mark (note_at p index bytes pe (ending p e))))
-    (in_order_of journal (ended p (ending p e)) ((marks ++ first) ++ synced_mark (note_at p index bytes pe (ending p e))) (going_ended journal p (marks ++ first) index bytes pe (ending p e) h (begins_to_wait p e)))
+    (in_order_of journal (ended p (ending p e)) ((marks ++ first) ++ synced_mark (note_at p index bytes pe (ending p e)))
+    (going_ended journal p (marks ++ first) index bytes pe (ending p e) h (begins_to_wait p e)))
 
 -- what waits has started
 pub waits_started : (journal : List Done) (p : Progress) (marks : List Mark) → IsInOrder journal p marks → p.synced ≡ true → p.started ≡ true
@@ -165,14 +176,16 @@ module _ {C : Type 0} (step : Step C) (pack : C → List ℕ) (el : ElementView 
   abbrev RanInOrder : Done → Type 0
   RanInOrder done = IsInOrder (ran step pack el n pe done).journal (ran step pack el n pe done).progress (ran step pack el n pe done).marks
 
-  resumption_in_order : (round : ℕ) → IsInOrder el.journal el.progress el.marks → ((el.progress.started ≡ false) × (round ≡ 0)) ⊎ ((el.progress.synced ≡ true) × (round ≡ el.progress.round + 1)) → RanInOrder (Resumption round)
+  resumption_in_order : (round : ℕ) → IsInOrder el.journal el.progress el.marks
+      → ((el.progress.started ≡ false) × (round ≡ 0)) ⊎ ((el.progress.synced ≡ true) × (round ≡ el.progress.round + 1)) → RanInOrder (Resumption round)
   resumption_in_order round h (inl k) =
       subst (λ (v : ℕ). RanInOrder (Resumption v)) (sym k.1)
       (in_order_ended (el.journal ++ Resumption 0 ∷ []) _ el.marks (Resumed 0 pe ∷ []) el.index _ pe (outcome_of step pack el n (Resumption 0)).effect
       (going_start el.journal el.progress el.marks pe (outcome_of step pack el n (Resumption 0)).effect.units h k.0))
   resumption_in_order round h (inr k) =
       subst (λ (v : ℕ). RanInOrder (Resumption v)) (sym k.1)
-      (in_order_ended (el.journal ++ Resumption (el.progress.round + 1) ∷ []) _ el.marks (Resumed (el.progress.round + 1) pe ∷ []) el.index _ pe (outcome_of step pack el n (Resumption (el.progress.round + 1))).effect
+      (in_order_ended (el.journal ++ Resumption (el.progress.round + 1) ∷ []) _ el.marks (Resumed (el.progress.round + 1) pe ∷ []) el.index
+      _ pe (outcome_of step pack el n (Resumption (el.progress.round + 1))).effect
       (going_resumption el.journal el.progress el.marks pe (outcome_of step pack el n (Resumption (el.progress.round + 1))).effect.units
       (going_of el.journal el.progress el.marks h (waits_started el.journal el.progress el.marks h k.0)) k.0))
 

@@ -13,7 +13,8 @@ rewound_trace true rs more posts = rw append_assoc (take-append_seam rs (more ++
 rewound_trace false rs more posts = take-length rs
 
 -- a handler that was refused leaves what was there before it and before its trace entry
-pub all_rewound : {P : Type 0} (now s t r : Posting P) (rep : TraceEntry) (out : List (ℕ × List ℕ)) (k w d : ℕ) → s ≡ with_entry now rep → t ≡ posted s out → k ≡ now.count → w ≡ length now.outbox → d ≡ length now.trace
+pub all_rewound : {P : Type 0} (now s t r : Posting P) (rep : TraceEntry) (out : List (ℕ × List ℕ)) (k w d : ℕ) → s ≡ with_entry now rep
+    → t ≡ posted s out → k ≡ now.count → w ≡ length now.outbox → d ≡ length now.trace
     → r ≡ record t { count = k; outbox = take w t.outbox; trace = take d t.trace }
     → r ≡ now
 all_rewound {P} now s t r rep out k w d logged post count waiting trace e =

@@ -53,7 +53,8 @@ same_parts el now chare journal marks c j m e =
     ∙ e
 
 -- a handler's answer, and what it means for the element
-pub record Ran {C : Type 0} (step : Step C) (pack : C → List ℕ) (el : ElementView C) (n pe : ℕ) (done : Done) (entry : Entry (List ℕ)) (chare : C) (effect : Effect) (work : Progress) (end : Ending) (note : Option Note) : Type 0 where
+pub record Ran {C : Type 0} (step : Step C) (pack : C → List ℕ) (el : ElementView C) (n pe : ℕ) (done : Done) (entry : Entry (List ℕ))
+    (chare : C) (effect : Effect) (work : Progress) (end : Ending) (note : Option Note) : Type 0 where
   pub input_is : entry ≡ input_of done
   pub state_is : chare ≡ (step el.chare el.index n entry).state
   pub effect_is : effect ≡ (step el.chare el.index n entry).effect
@@ -61,7 +62,8 @@ pub record Ran {C : Type 0} (step : Step C) (pack : C → List ℕ) (el : Elemen
   pub end_is : end ≡ ending work effect
   pub note_is : note ≡ note_at work el.index (length (pack chare)) pe end
 
-module _ {C : Type 0} (step : Step C) (pack : C → List ℕ) (el now : ElementView C) (n m pe : ℕ) (done : Done) (entry : Entry (List ℕ)) (chare : C) (effect : Effect) (work : Progress) (end : Ending) (note : Option Note)
+module _ {C : Type 0} (step : Step C) (pack : C → List ℕ) (el now : ElementView C) (n m pe : ℕ) (done : Done) (entry : Entry (List ℕ))
+    (chare : C) (effect : Effect) (work : Progress) (end : Ending) (note : Option Note)
     (same : el ≡ now) (all : n ≡ m) (x : Ran step pack el n pe done entry chare effect work end note) where
   pub note_after : note ≡ note_of step pack now m pe done
   note_after = cc
@@ -72,7 +74,8 @@ module _ {C : Type 0} (step : Step C) (pack : C → List ℕ) (el now : ElementV
   element_after journal progress marks j p k = cc
 
 -- what is posted, and why a handler is refused, as the call's own array and posting have it
-module _ {C : Type 0} {P : Type 0} (el now : ElementView C) (n m : ℕ) (s before : Posting P) (entry : Entry (List ℕ)) (rep : TraceEntry) (same : el ≡ now) (all : n ≡ m) (logged : s ≡ with_entry before rep) where
+module _ {C : Type 0} {P : Type 0} (el now : ElementView C) (n m : ℕ) (s before : Posting P) (entry : Entry (List ℕ)) (rep : TraceEntry)
+    (same : el ≡ now) (all : n ≡ m) (logged : s ≡ with_entry before rep) where
   pub refused_after : (refuses : C → ℕ → ℕ → ℕ → Entry (List ℕ) → SendError → Type 0) (error : SendError)
       → (error ≢ OutOfMemory → refuses el.chare el.index n s.count entry error) → error ≢ OutOfMemory → refuses now.chare now.index m before.count entry error
   refused_after refuses error h k =
@@ -80,7 +83,8 @@ module _ {C : Type 0} {P : Type 0} (el now : ElementView C) (n m : ℕ) (s befor
       (subst (λ (v : ℕ). refuses el.chare el.index v before.count entry error) all
       (subst (λ (v : Posting P). refuses el.chare el.index n v.count entry error) logged (h k)))
 
-  pub sends_after : (step : Step C) (t : Posting P) → t ≡ posted s (step el.chare el.index n entry).sends → t ≡ posted (with_entry before rep) (step now.chare now.index m entry).sends
+  pub sends_after : (step : Step C) (t : Posting P) → t ≡ posted s (step el.chare el.index n entry).sends
+      → t ≡ posted (with_entry before rep) (step now.chare now.index m entry).sends
   sends_after step t h =
       h
       ∙ ap (λ v. posted v (step el.chare el.index n entry).sends) logged

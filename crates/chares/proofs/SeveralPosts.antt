@@ -29,8 +29,11 @@ posted_twice {P} p xs ys =
     let all = posted p (xs ++ ys) in
     let count : (p.count + length xs) + length ys ≡ p.count + length (xs ++ ys) = grind (arith, length-append) in
     ap (λ v. record q { count = v }) count
-    ∙ ap (λ v. record q { count = all.count; outbox = v }) (append_assoc p.outbox (letters_of p.me p.count xs) (letters_of p.me (p.count + length xs) ys) ∙ ap (λ v. p.outbox ++ v) (sym (letters_on {P = P} p.me p.count xs ys)))
-    ∙ ap (λ v. record all { trace = v }) (traced_on p.tracing p.trace (posts_of p.me p.count xs) (posts_of p.me (p.count + length xs) ys) ∙ ap (traced p.tracing p.trace) (sym (posts_on p.me p.count xs ys)))
+    ∙ ap (λ v. record q { count = all.count; outbox = v })
+    (append_assoc p.outbox (letters_of p.me p.count xs) (letters_of p.me (p.count + length xs) ys)
+    ∙ ap (λ v. p.outbox ++ v) (sym (letters_on {P = P} p.me p.count xs ys)))
+    ∙ ap (λ v. record all { trace = v }) (traced_on p.tracing p.trace (posts_of p.me p.count xs) (posts_of p.me (p.count + length xs) ys)
+    ∙ ap (traced p.tracing p.trace) (sym (posts_on p.me p.count xs ys)))
 
 pub posted_both : {P : Type 0} (p q r : Posting P) (xs ys : List (ℕ × List ℕ)) → q ≡ posted p xs → r ≡ posted q ys → r ≡ posted p (xs ++ ys)
 posted_both p q r xs ys first second = second ∙ ap (λ v. posted v ys) first ∙ posted_twice p xs ys

@@ -79,7 +79,16 @@ impl<P, A: Allocator> Model for Sends<P, A> {
 
     ghost Value = { Posting P };
 
-    ghost view = { λ s. record { me = s.me; n = s.n; longest = s.longest; count = s.count; outbox = s.outbox.items; spare = s.spare; tracing = s.tracing; trace = s.trace.items } };
+    ghost view = { λ s. record {
+      me = s.me;
+      n = s.n;
+      longest = s.longest;
+      count = s.count;
+      outbox = s.outbox.items;
+      spare = s.spare;
+      tracing = s.tracing;
+      trace = s.trace.items;
+    } };
 
     ghost invariant = { λ s. (s.count ≤ LETTERS) × (s.spare ≡ true → deque_len s.outbox < deque_capacity s.outbox) };
 }

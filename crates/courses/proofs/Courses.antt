@@ -15,8 +15,12 @@ module _ {C A : Type 0} (step : Step C) (pack : C → List ℕ) (unpack : List �
   pub leads_more : (w v next : WorldView C A) (steps : List Made) (event : Event) (entries : List TraceEntry)
       → Leads step pack unpack w steps v → IsEnabled step pack unpack v event → Happens step pack unpack v event (next, entries)
       → Leads step pack unpack w (steps ++ (event, entries) ∷ []) next
-  leads_more w v next [] event entries led may did =
-      (next, subst (λ (u : WorldView C A). IsEnabled step pack unpack u event) led may, subst (λ (u : WorldView C A). Happens step pack unpack u event (next, entries)) led did, refl)
+  leads_more w v next [] event entries led may did = (
+    next,
+    subst (λ (u : WorldView C A). IsEnabled step pack unpack u event) led may,
+    subst (λ (u : WorldView C A). Happens step pack unpack u event (next, entries)) led did,
+    refl,
+  )
   leads_more w v next (made ∷ steps) event entries (mid, enabled, happened, rest) may did =
       (mid, enabled, happened, leads_more mid v next steps event entries rest may did)
 

@@ -79,7 +79,8 @@ module _ {C A : Type 0} (step : Step C) (pack : C → List ℕ) (unpack : List �
   -- where the element does not stand on it
   pub elsewhere : (p e : ℕ) (pe : PeView C) → slice_get w.pes p ≡ Some pe → found e pe.room ≡ None → NoneEnabled step pack unpack w (events_for p e)
   elsewhere p e pe at none = (
-    λ h. neither (found e pe.room) none (from _ (found e pe.room) (from _ (start_event step pack pe e) (from _ (local_step step pack unpack (Start p e) (local_view w pe)) (from_this _ (slice_get w.pes p) pe at h)))),
+    λ h. neither (found e pe.room) none (from _ (found e pe.room)
+        (from _ (start_event step pack pe e) (from _ (local_step step pack unpack (Start p e) (local_view w pe)) (from_this _ (slice_get w.pes p) pe at h)))),
     (
       λ h. neither (found e pe.room) none (from _ (found e pe.room) (from _ (due pe w.board e) (from _ (depart_event step pack p pe w.words w.board e)
           (from _ (local_step step pack unpack (Depart p e) (local_view w pe)) (from_this _ (slice_get w.pes p) pe at h))))),
@@ -131,7 +132,8 @@ module _ {C A : Type 0} (step : Step C) (pack : C → List ℕ) (unpack : List �
     idle (Resume p e) = at (Resume p e) p refl
 
 -- where the last event that was tried is the decision
-module _ {C A : Type 0} (step : Step C) (pack : C → List ℕ) (unpack : List ℕ → Result (C × ℕ) PupError) (before mid after : CourseView C A) (unchanged : mid ≡ before) (each : (q : ℕ) → q < length before.world.pes → IsQuiet step pack unpack before.world q) where
+module _ {C A : Type 0} (step : Step C) (pack : C → List ℕ) (unpack : List ℕ → Result (C × ℕ) PupError) (before mid after : CourseView C A)
+    (unchanged : mid ≡ before) (each : (q : ℕ) → q < length before.world.pes → IsQuiet step pack unpack before.world q) where
   pub last_tried : (taken : Bool)
       → MatchBool taken (TakesStep step pack unpack mid Decide after) (¬ (IsEnabled step pack unpack mid.world Decide) × (after ≡ mid))
       → MatchBool taken (TakesSome step pack unpack before after) (IsIdle step pack unpack before.world × (after ≡ before))

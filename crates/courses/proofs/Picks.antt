@@ -65,5 +65,6 @@ module _ {C A : Type 0} (step : Step C) (pack : C → List ℕ) (unpack : List �
       → MatchBool taken (TakesStep step pack unpack before event after) (¬ (IsEnabled step pack unpack before.world event) × (after ≡ before))
       → Picks step pack unpack w (take (i + 1) events) after.steps after.world
   picks_next w before after events i event taken within is picks did =
-      subst (λ (es : List Event). Picks step pack unpack w es after.steps after.world) (sym (take_more events i event within ∙ ap (λ (e : Event). take i events ++ e ∷ []) (sym is)))
+      subst (λ (es : List Event). Picks step pack unpack w es after.steps after.world)
+      (sym (take_more events i event within ∙ ap (λ (e : Event). take i events ++ e ∷ []) (sym is)))
       (picks_more w before after (take i events) event taken picks did)

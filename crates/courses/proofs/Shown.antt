@@ -114,4 +114,5 @@ module _ {C A : Type 0} (step : Step C) (pack : C → List ℕ) (unpack : List �
   -- so has the step of the world, where there is such a PE
   pub enabled_shows : (w : WorldView C A) (event : Event) (p : ℕ) → is_silent event ≡ false → Shows (enabled step pack unpack w event p)
   enabled_shows w event p loud =
-      bind_shows _ (λ (pe : PeView C). then_shows (with_local w p) (local_step step pack unpack event (local_view w pe)) (local_shows event (local_view w pe) loud)) (slice_get w.pes p)
+      bind_shows _ (λ (pe : PeView C). then_shows (with_local w p) (local_step step pack unpack event (local_view w pe))
+      (local_shows event (local_view w pe) loud)) (slice_get w.pes p)

@@ -41,7 +41,8 @@ module _ {C A : Type 0} (step : Step C) (pack : C → List ℕ) (unpack : List �
   counted_at w event p = by (slice_get w.pes p)
     where
       by : (o : Option (PeView C))
-          → length (or_nothing w (option_and_then (λ (pe : PeView C). option_and_then (λ (after : LocalView C A × List TraceEntry). Some (with_local w p after.0, after.1)) (local_step step pack unpack event (local_view w pe))) o)).0.pes
+          → length (or_nothing w (option_and_then (λ (pe : PeView C). option_and_then
+          (λ (after : LocalView C A × List TraceEntry). Some (with_local w p after.0, after.1)) (local_step step pack unpack event (local_view w pe))) o)).0.pes
           ≡ length w.pes
       by None = refl
       by (Some pe) = counted_local w p (local_step step pack unpack event (local_view w pe))
@@ -49,7 +50,8 @@ module _ {C A : Type 0} (step : Step C) (pack : C → List ℕ) (unpack : List �
   counted_after : (w : WorldView C A) (event : Event) (next : After C A) → Happens step pack unpack w event next → length next.0.pes ≡ length w.pes
   counted_after w event next did = by (pe_of event) did
     where
-      by : (o : Option ℕ) → MatchOption o (MayDecide w.board next.0.board next.1 × (next.0 ≡ record w { board = next.0.board })) (λ p. next ≡ or_nothing w (enabled step pack unpack w event p))
+      by : (o : Option ℕ) → MatchOption o (MayDecide w.board next.0.board next.1 × (next.0 ≡ record w { board = next.0.board }))
+          (λ p. next ≡ or_nothing w (enabled step pack unpack w event p))
           → length next.0.pes ≡ length w.pes
       by None d = ap (λ (v : WorldView C A). length v.pes) d.1
       by (Some p) e = ap (λ (v : After C A). length v.0.pes) e ∙ counted_at w event p

@@ -71,7 +71,8 @@ same_words xs ys a b len fits fits' same = same_pieces word (λ n. n < 2 ^ 32) s
 pub same_prices : (xs ys : List ℤ) (a b : List ℕ) → length xs ≡ length ys → ArePrices xs → ArePrices ys → flat_map price xs ++ a ≡ flat_map price ys ++ b → (xs ≡ ys) × (a ≡ b)
 same_prices xs ys a b len fits fits' same = same_pieces price (FitsSigned w64) same_price xs ys a b len fits fits' same
 
-pub same_moves : (xs ys : List (ℕ × ℕ × ℕ)) (a b : List ℕ) → length xs ≡ length ys → All FitsMove xs → All FitsMove ys → flat_map move_text xs ++ a ≡ flat_map move_text ys ++ b → (xs ≡ ys) × (a ≡ b)
+pub same_moves : (xs ys : List (ℕ × ℕ × ℕ)) (a b : List ℕ) → length xs ≡ length ys → All FitsMove xs → All FitsMove ys
+    → flat_map move_text xs ++ a ≡ flat_map move_text ys ++ b → (xs ≡ ys) × (a ≡ b)
 same_moves xs ys a b len fits fits' same = same_pieces move_text FitsMove same_move xs ys a b len fits fits' same
 
 -- the numbers of elements fit their fields, and there are as many loads as sizes
@@ -111,7 +112,8 @@ same_element w spells load load' size size' a b fits fits' same =
     (first, rw (bytes, place) refl, rest)
 
 -- the same number of elements, one after another
-pub same_elements : (w : Width) (spells : Spells w) (loads loads' : List ℕ) (sizes sizes' : List (ℕ × ℕ)) (a b : List ℕ) → length loads ≡ length loads' → AreSpelled w loads sizes → AreSpelled w loads' sizes'
+pub same_elements : (w : Width) (spells : Spells w) (loads loads' : List ℕ) (sizes sizes' : List (ℕ × ℕ)) (a b : List ℕ)
+    → length loads ≡ length loads' → AreSpelled w loads sizes → AreSpelled w loads' sizes'
     → elements_text w loads sizes ++ a ≡ elements_text w loads' sizes' ++ b → (loads ≡ loads') × (sizes ≡ sizes') × (a ≡ b)
 unfolding elements_text
 same_elements w spells [] [] [] [] a b len is is' same = (refl, refl, same)
@@ -125,6 +127,8 @@ same_elements w spells (load ∷ loads) (load' ∷ loads') (size ∷ sizes) (siz
     let front = elements_text w loads sizes in
     let front' = elements_text w loads' sizes' in
     let apart = sym (append_assoc (element_text w load size) front a) ∙ same ∙ append_assoc (element_text w load' size') front' b in
-    let (first, pair, behind) = same_element w spells load load' size size' (front ++ a) (front' ++ b) (spelled_head w load loads size sizes is) (spelled_head w load' loads' size' sizes' is') apart in
-    let (others, pairs, rest) = same_elements w spells loads loads' sizes sizes' a b (omega arith) (spelled_tail w load loads size sizes is) (spelled_tail w load' loads' size' sizes' is') behind in
+    let (first, pair, behind) = same_element w spells load load' size size' (front ++ a) (front' ++ b)
+    (spelled_head w load loads size sizes is) (spelled_head w load' loads' size' sizes' is') apart in
+    let (others, pairs, rest) = same_elements w spells loads loads' sizes sizes' a b (omega arith) (spelled_tail w load loads size sizes is)
+    (spelled_tail w load' loads' size' sizes' is') behind in
     (rw (first, others) refl, rw (pair, pairs) refl, rest)

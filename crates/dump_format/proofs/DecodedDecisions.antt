@@ -56,9 +56,12 @@ read_named count target text are whole =
     let tail : moved.rest ≡ word (length list.moves) ++ flat_map move_text list.moves =
     n.spelled ∙ ap (λ (rest : List ℕ). word n.number ++ rest) list.spelled ∙ ap (λ (k : ℕ). word k ++ flat_map move_text list.moves) (sym list.counted)
     in
-    let behind_v : vs.rest ≡ long moved.number ++ (word (length list.moves) ++ flat_map move_text list.moves) = moved.spelled ∙ ap (λ (rest : List ℕ). long moved.number ++ rest) tail in
-    let behind_u = vs.spelled ∙ ap (λ (front : List ℕ). front ++ vs.rest) (prices_spelled vs.numbers vs.fit) ∙ ap (λ (rest : List ℕ). flat_map price (prices_of vs.numbers) ++ rest) behind_v in
-    let behind = us.spelled ∙ ap (λ (front : List ℕ). front ++ us.rest) (prices_spelled us.numbers us.fit) ∙ ap (λ (rest : List ℕ). flat_map price (prices_of us.numbers) ++ rest) behind_u in
+    let behind_v : vs.rest ≡ long moved.number ++ (word (length list.moves) ++ flat_map move_text list.moves) = moved.spelled
+    ∙ ap (λ (rest : List ℕ). long moved.number ++ rest) tail in
+    let behind_u = vs.spelled ∙ ap (λ (front : List ℕ). front ++ vs.rest) (prices_spelled vs.numbers vs.fit)
+    ∙ ap (λ (rest : List ℕ). flat_map price (prices_of vs.numbers) ++ rest) behind_v in
+    let behind = us.spelled ∙ ap (λ (front : List ℕ). front ++ us.rest) (prices_spelled us.numbers us.fit)
+    ∙ ap (λ (rest : List ℕ). flat_map price (prices_of us.numbers) ++ rest) behind_u in
     record {
       naming = names.numbers;
       u = prices_of us.numbers;
@@ -113,7 +116,9 @@ pub read_decision : {A : Type 0} (count : ℕ) (text : List ℕ) → AreBytes te
 read_decision {A} count text are whole =
     let target = front w32 reads_word _ _ text are whole in
     let bottleneck = front w64 reads_long _ _ target.rest target.bytes target.whole in
-    let cuts = read_numbers w32 reads_word (target.number + 1) (Field w32 (λ kind. unless (nat_le kind 1) BadFloor) (λ kind. after_floor count target.number kind)) bottleneck.rest bottleneck.bytes bottleneck.whole in
+    let cuts = read_numbers w32 reads_word (target.number + 1)
+    (Field w32 (λ kind. unless (nat_le kind 1) BadFloor) (λ kind. after_floor count target.number kind)) bottleneck.rest
+    bottleneck.bytes bottleneck.whole in
     let kind = front w32 reads_word (λ kind. unless (nat_le kind 1) BadFloor) (λ kind. after_floor count target.number kind) cuts.rest cuts.bytes cuts.whole in
     let small : kind.number ≤ 1 = leb-true kind.number 1 (kept_rule (nat_le kind.number 1) BadFloor kind.kept) in
     let floored : Floored A count target.number kind.number kind.rest = read_floor count target.number kind.number kind.rest small kind.bytes kind.whole in
@@ -167,7 +172,8 @@ pub record Ended (A : Type 0) (count : ℕ) (text : List ℕ) : Type 0 where
   pub fields : MayFit recorded
   pub spelled : text ≡ ending_text recorded
 
-by_flag : {A : Type 0} (count flag : ℕ) (text rest : List ℕ) → flag ≤ 1 → AreBytes rest → text ≡ word flag ++ rest → judge (if flag == 0 then End else decision count) rest ≡ Whole → Ended A count text
+by_flag : {A : Type 0} (count flag : ℕ) (text rest : List ℕ) → flag ≤ 1 → AreBytes rest → text ≡ word flag ++ rest
+    → judge (if flag == 0 then End else decision count) rest ≡ Whole → Ended A count text
 by_flag count zero text rest few are spelled whole =
     record { recorded = None; is = tt; fields = tt; spelled = spelled ∙ ap (λ (rest : List ℕ). word 0 ++ rest) (at_end rest whole) }
 by_flag {A} count (suc zero) text rest few are spelled whole =

@@ -83,16 +83,19 @@ read_lbd2 {A} text rest are spelled whole =
     let s = b.snapshot in
     let e : Ended A (length s.loads) b.rest = read_ending (length s.loads) b.rest b.bytes b.whole in
     let d : Dumped A = record { snapshot = s; recorded = e.recorded } in
-    let all : text ≡ lbd2_text d = spelled ∙ ap (λ (rest : List ℕ). magic_2 ++ rest) (b.spelled ∙ ap (λ (rest : List ℕ). head_text s ++ (elements_text w64 s.loads s.sizes ++ rest)) e.spelled) in
+    let all : text ≡ lbd2_text d = spelled ∙ ap (λ (rest : List ℕ). magic_2 ++ rest)
+    (b.spelled ∙ ap (λ (rest : List ℕ). head_text s ++ (elements_text w64 s.loads s.sizes ++ rest)) e.spelled) in
     (d, inr (record { dump = record { snapshot = b.is; step = b.step; recorded = e.is; fields = e.fields }; spelled = all }))
 
 -- which format it is, by the fourth byte
 by_format : {A : Type 0} (text rest : List ℕ) (byte : ℕ) → AreBytes rest → text ≡ 76 ∷ 66 ∷ 68 ∷ byte ∷ rest → (byte ≡ 49) ⊎ (byte ≡ 50)
     → judge (if byte == 49 then body w32 (λ _. End) else body w64 ending) rest ≡ Whole → IsDumpText A text
 by_format text rest byte are spelled (inl one) whole =
-    read_lbd1 text rest are (spelled ∙ ap (λ (b : ℕ). 76 ∷ 66 ∷ 68 ∷ b ∷ rest) one) (subst (λ (b : ℕ). judge (if b == 49 then body w32 (λ _. End) else body w64 ending) rest ≡ Whole) one whole)
+    read_lbd1 text rest are (spelled ∙ ap (λ (b : ℕ). 76 ∷ 66 ∷ 68 ∷ b ∷ rest) one)
+    (subst (λ (b : ℕ). judge (if b == 49 then body w32 (λ _. End) else body w64 ending) rest ≡ Whole) one whole)
 by_format text rest byte are spelled (inr two) whole =
-    read_lbd2 text rest are (spelled ∙ ap (λ (b : ℕ). 76 ∷ 66 ∷ 68 ∷ b ∷ rest) two) (subst (λ (b : ℕ). judge (if b == 49 then body w32 (λ _. End) else body w64 ending) rest ≡ Whole) two whole)
+    read_lbd2 text rest are (spelled ∙ ap (λ (b : ℕ). 76 ∷ 66 ∷ 68 ∷ b ∷ rest) two)
+    (subst (λ (b : ℕ). judge (if b == 49 then body w32 (λ _. End) else body w64 ending) rest ≡ Whole) two whole)
 
 format_of : (byte : ℕ) → unless ((byte == 49) || (byte == 50)) Magic ≡ None → (byte ≡ 49) ⊎ (byte ≡ 50)
 format_of byte kept =

@@ -28,7 +28,8 @@ pub record Front (w : Width) (fault : ℕ → Option DumpError) (next : ℕ → 
   pub bytes : AreBytes rest
   pub whole : judge (next number) rest ≡ Whole
 
-pub front : (w : Width) (reads : Reads w) (fault : ℕ → Option DumpError) (next : ℕ → Layout) (text : List ℕ) → AreBytes text → judge (Field w fault next) text ≡ Whole → Front w fault next text
+pub front : (w : Width) (reads : Reads w) (fault : ℕ → Option DumpError) (next : ℕ → Layout) (text : List ℕ) → AreBytes text
+    → judge (Field w fault next) text ≡ Whole → Front w fault next text
 front w reads fault next text are whole =
     elim (cases_lt (length text) (byte_len w)) [
       | inl short ↦ absurd (let h = field_short w fault next text short in cc)
@@ -81,7 +82,8 @@ read_numbers w reads (suc count) next text are whole =
       numbers = first.number ∷ others.numbers;
       rest = others.rest;
       counted = ap suc others.counted;
-      spelled = first.spelled ∙ ap (λ (rest : List ℕ). to_be_bytes w first.number ++ rest) others.spelled ∙ sym (append_assoc (to_be_bytes w first.number) (flat_map (to_be_bytes w) others.numbers) others.rest);
+      spelled = first.spelled ∙ ap (λ (rest : List ℕ). to_be_bytes w first.number ++ rest) others.spelled
+          ∙ sym (append_assoc (to_be_bytes w first.number) (flat_map (to_be_bytes w) others.numbers) others.rest);
       fit = All-cons (λ (n : ℕ). n < 2 ^ bits w) first.number others.numbers first.fits others.fit;
       bytes = others.bytes;
       whole = others.whole;
@@ -156,7 +158,8 @@ record OneElement (w : Width) (procs : ℕ) (next : Layout) (text : List ℕ) : 
   bytes : AreBytes rest
   whole : judge next rest ≡ Whole
 
-read_element : (w : Width) (reads : Reads w) (procs i : ℕ) (next : Layout) (text : List ℕ) → AreBytes text → judge (element w procs i next) text ≡ Whole → OneElement w procs next text
+read_element : (w : Width) (reads : Reads w) (procs i : ℕ) (next : Layout) (text : List ℕ) → AreBytes text
+    → judge (element w procs i next) text ≡ Whole → OneElement w procs next text
 read_element w reads procs i next text are whole =
     let load = front w reads _ _ text are whole in
     let size = front w32 reads_word _ _ load.rest load.bytes load.whole in
@@ -177,7 +180,8 @@ read_element w reads procs i next text are whole =
       whole = place.whole;
     }
 
-pub read_elements : (w : Width) (reads : Reads w) (procs i count : ℕ) (next : Layout) (text : List ℕ) → AreBytes text → judge (elements w procs i count next) text ≡ Whole → Elements w procs count next text
+pub read_elements : (w : Width) (reads : Reads w) (procs i count : ℕ) (next : Layout) (text : List ℕ) → AreBytes text
+    → judge (elements w procs i count next) text ≡ Whole → Elements w procs count next text
 unfolding elements elements_text
 read_elements w reads procs i zero next text are whole =
     record { loads = []; sizes = []; rest = text; counted = refl; kept = kept_nil w procs; spelled = refl; bytes = are; whole = whole }
@@ -190,7 +194,8 @@ read_elements w reads procs i (suc count) next text are whole =
       rest = others.rest;
       counted = ap suc others.counted;
       kept = kept_cons w procs first.load others.loads first.size others.sizes first.light first.fits first.small first.placed others.kept;
-      spelled = first.spelled ∙ ap (λ (rest : List ℕ). element_text w first.load first.size ++ rest) others.spelled ∙ sym (append_assoc (element_text w first.load first.size) (elements_text w others.loads others.sizes) others.rest);
+      spelled = first.spelled ∙ ap (λ (rest : List ℕ). element_text w first.load first.size ++ rest) others.spelled
+          ∙ sym (append_assoc (element_text w first.load first.size) (elements_text w others.loads others.sizes) others.rest);
       bytes = others.bytes;
       whole = others.whole;
     }
@@ -225,6 +230,8 @@ read_moves count k (suc n) text are whole =
       ) others.kept;
       spelled =
           index.spelled
-          ∙ ap (λ (rest : List ℕ). word index.number ++ rest) (present.spelled ∙ ap (λ (rest : List ℕ). word present.number ++ rest) (planned.spelled ∙ ap (λ (rest : List ℕ). word planned.number ++ rest) others.spelled))
+          ∙ ap (λ (rest : List ℕ). word index.number ++ rest)
+          (present.spelled ∙ ap (λ (rest : List ℕ). word present.number ++ rest)
+          (planned.spelled ∙ ap (λ (rest : List ℕ). word planned.number ++ rest) others.spelled))
           ∙ four_grouped (word index.number) (word present.number) (word planned.number) (flat_map move_text others.moves);
     }

@@ -55,15 +55,19 @@ found short fault rest =
     ]
 
 module _ (w : Width) (fault : ℕ → Option DumpError) (next : ℕ → Layout) (text : List ℕ) where
-  judge_field : judge (Field w fault next) text ≡ found (ltb (length text) (byte_len w)) (fault (from_be_bytes w text)) (judge (next (from_be_bytes w text)) (drop (byte_len w) text))
+  judge_field : judge (Field w fault next) text ≡ found (ltb (length text) (byte_len w)) (fault (from_be_bytes w text))
+      (judge (next (from_be_bytes w text)) (drop (byte_len w) text))
   unfolding judge
   judge_field = refl
 
   pub field_short : length text < byte_len w → judge (Field w fault next) text ≡ Unfinished
-  field_short short = judge_field ∙ ap (λ b. found b (fault (from_be_bytes w text)) (judge (next (from_be_bytes w text)) (drop (byte_len w) text))) (lt-ltb (length text) (byte_len w) short)
+  field_short short = judge_field ∙ ap (λ b. found b (fault (from_be_bytes w text))
+      (judge (next (from_be_bytes w text)) (drop (byte_len w) text))) (lt-ltb (length text) (byte_len w) short)
 
-  field_long : byte_len w ≤ length text → judge (Field w fault next) text ≡ found false (fault (from_be_bytes w text)) (judge (next (from_be_bytes w text)) (drop (byte_len w) text))
-  field_long long = judge_field ∙ ap (λ b. found b (fault (from_be_bytes w text)) (judge (next (from_be_bytes w text)) (drop (byte_len w) text))) (le-ltb (length text) (byte_len w) long)
+  field_long : byte_len w ≤ length text → judge (Field w fault next) text ≡ found false (fault (from_be_bytes w text))
+      (judge (next (from_be_bytes w text)) (drop (byte_len w) text))
+  field_long long = judge_field ∙ ap (λ b. found b (fault (from_be_bytes w text))
+      (judge (next (from_be_bytes w text)) (drop (byte_len w) text))) (le-ltb (length text) (byte_len w) long)
 
   pub field_taken : byte_len w ≤ length text → fault (from_be_bytes w text) ≡ None → judge (Field w fault next) text ≡ judge (next (from_be_bytes w text)) (drop (byte_len w) text)
   field_taken long good = field_long long ∙ ap (λ o. found false o (judge (next (from_be_bytes w text)) (drop (byte_len w) text))) good
@@ -81,7 +85,8 @@ front_taken w fault next text more long good =
     ∙ ap (λ n. judge (next n) (drop (byte_len w) (text ++ more))) number
     ∙ ap (judge (next (from_be_bytes w text))) (drop-append-le (byte_len w) text more long)
 
-pub front_broken : (w : Width) (fault : ℕ → Option DumpError) (next : ℕ → Layout) (text more : List ℕ) (e : DumpError) → byte_len w ≤ length text → fault (from_be_bytes w text) ≡ Some e
+pub front_broken : (w : Width) (fault : ℕ → Option DumpError) (next : ℕ → Layout) (text more : List ℕ) (e : DumpError)
+    → byte_len w ≤ length text → fault (from_be_bytes w text) ≡ Some e
     → judge (Field w fault next) (text ++ more) ≡ Broken e
 front_broken w fault next text more e long bad =
     let enough : byte_len w ≤ length (text ++ more) = omega (arith, length-append text more) in
@@ -113,14 +118,16 @@ broken_stays End (byte ∷ bytes) more e broken = broken
 broken_stays (Field w fault next) text more e broken = field_stays w fault next text more e (λ n rest. broken_stays (next n) rest more e) broken
 
 -- a number, and then more
-number_taken : (w : Width) (fault : ℕ → Option DumpError) (next : ℕ → Layout) (n : ℕ) (number more : List ℕ) → length number ≡ byte_len w → from_be_bytes w number ≡ n → fault n ≡ None
+number_taken : (w : Width) (fault : ℕ → Option DumpError) (next : ℕ → Layout) (n : ℕ) (number more : List ℕ) → length number ≡ byte_len w
+    → from_be_bytes w number ≡ n → fault n ≡ None
     → judge (Field w fault next) (number ++ more) ≡ judge (next n) more
 number_taken w fault next n number more len is good =
     front_taken w fault next number more (omega arith) (ap fault is ∙ good)
     ∙ ap (λ m. judge (next m) (drop (byte_len w) number ++ more)) is
     ∙ ap (λ rest. judge (next n) (rest ++ more)) (drop_all (byte_len w) number (omega arith))
 
-number_broken : (w : Width) (fault : ℕ → Option DumpError) (next : ℕ → Layout) (n : ℕ) (number more : List ℕ) (e : DumpError) → length number ≡ byte_len w → from_be_bytes w number ≡ n → fault n ≡ Some e
+number_broken : (w : Width) (fault : ℕ → Option DumpError) (next : ℕ → Layout) (n : ℕ) (number more : List ℕ) (e : DumpError)
+    → length number ≡ byte_len w → from_be_bytes w number ≡ n → fault n ≡ Some e
     → judge (Field w fault next) (number ++ more) ≡ Broken e
 number_broken w fault next n number more e len is bad = front_broken w fault next number more e (omega arith) (ap fault is ∙ bad)
 
@@ -163,7 +170,8 @@ element_taken : (w : Width) (procs i : ℕ) (next : Layout) (load : ℕ) (size :
     → load ≤ LOAD → size.0 ≤ STATE_BYTES → size.1 < procs → judge (element w procs i next) (element_text w load size ++ more) ≡ judge next more
 element_taken w procs i next load size more spelled few light small placed =
     ap (judge (element w procs i next)) (append_assoc (to_be_bytes w load) (word size.0 ++ word size.1) more)
-    ∙ number_taken w _ _ load (to_be_bytes w load) ((word size.0 ++ word size.1) ++ more) (number_length w load) spelled (gives_none (nat_le load LOAD) (Load i) (le-leb load LOAD light))
+    ∙ number_taken w _ _ load (to_be_bytes w load) ((word size.0 ++ word size.1) ++ more) (number_length w load) spelled
+    (gives_none (nat_le load LOAD) (Load i) (le-leb load LOAD light))
     ∙ ap (judge _) (append_assoc (word size.0) (word size.1) more)
     ∙ word_taken _ _ size.0 (word size.1 ++ more) (omega arith) (gives_none (nat_le size.0 STATE_BYTES) (Size i) (le-leb size.0 STATE_BYTES small))
     ∙ word_taken _ _ size.1 more (omega arith) (gives_none (nat_lt size.1 procs) (Place i) (lt-ltb size.1 procs placed))
@@ -179,7 +187,8 @@ kept_tail w procs load loads size sizes kept =
     }
 
 -- some elements, and then more, where each number of this width is determined by its bytes
-elements_taken : (w : Width) → ((n : ℕ) → n < 2 ^ bits w → from_be_bytes w (to_be_bytes w n) ≡ n) → (procs i n : ℕ) (next : Layout) (loads : List ℕ) (sizes : List (ℕ × ℕ)) (more : List ℕ) → procs ≤ PES → AreKept w procs loads sizes
+elements_taken : (w : Width) → ((n : ℕ) → n < 2 ^ bits w → from_be_bytes w (to_be_bytes w n) ≡ n)
+    → (procs i n : ℕ) (next : Layout) (loads : List ℕ) (sizes : List (ℕ × ℕ)) (more : List ℕ) → procs ≤ PES → AreKept w procs loads sizes
     → judge (elements w procs i (length loads + n) next) (elements_text w loads sizes ++ more) ≡ judge (elements w procs (i + length loads) n next) more
 unfolding elements_text elements
 elements_taken w spells procs i n next [] sizes more few kept =
@@ -243,7 +252,8 @@ moves_taken count k n (m ∷ list) more few inside here there =
 
 -- a number of PEs, and then more
 pub pes_taken : (fault : DumpError) (next : ℕ → Layout) (n : ℕ) (more : List ℕ) → 0 < n → n ≤ PES → judge (pes fault next) (word n ++ more) ≡ judge (next n) more
-pes_taken fault next n more some few = word_taken _ _ n more (omega arith) (gives_none (nat_lt 0 n && nat_le n PES) fault (and_from (nat_lt 0 n) (nat_le n PES) (lt-ltb 0 n some) (le-leb n PES few)))
+pes_taken fault next n more some few = word_taken _ _ n more (omega arith)
+    (gives_none (nat_lt 0 n && nat_le n PES) fault (and_from (nat_lt 0 n) (nat_le n PES) (lt-ltb 0 n some) (le-leb n PES few)))
 
 words_taken : (n : ℕ) (next : Layout) (words : List ℕ) (more : List ℕ) → length words ≡ n → judge (numbers w32 n next) (flat_map word words ++ more) ≡ judge next more
 words_taken n next words more len = numbers_taken w32 n next (flat_map word words) more (words_length words ∙ omega arith)
@@ -284,7 +294,8 @@ plan_taken count r more is fits few =
     ∙ prices_taken t _ prices.u _ is.block_prices
     ∙ prices_taken t _ prices.v _ is.pe_prices
     ∙ long_taken _ _ r.decision.moved _ fits.moved refl
-    ∙ word_taken _ _ (length r.decision.moves) more (omega (arith, is.few_moves)) (gives_none (nat_le (length r.decision.moves) count) MoveCount (le-leb (length r.decision.moves) count is.few_moves))
+    ∙ word_taken _ _ (length r.decision.moves) more (omega (arith, is.few_moves))
+    (gives_none (nat_le (length r.decision.moves) count) MoveCount (le-leb (length r.decision.moves) count is.few_moves))
 
 -- the head of a snapshot after the magic, and then more
 body_taken : (w : Width) (behind : ℕ → Layout) (step procs n : ℕ) (more : List ℕ) → 0 < procs → procs ≤ PES → step < 2 ^ 32 → n ≤ ELEMENTS

@@ -51,7 +51,8 @@ whole_long s next more is =
     ap (λ n. judge (elements w64 s.procs 0 n next) (elements_text w64 s.loads s.sizes ++ more)) all
     ∙ elements_taken_long s.procs 0 0 next s.loads s.sizes more is.placed.few_pes (kept w64 s is (long_loads s is))
 
-whole_moves : {A : Type 0} (count : ℕ) (r : Recorded A) → IsRecorded count r → AreFields r → count ≤ ELEMENTS → judge (moves count 0 (length r.decision.moves)) (flat_map move_text r.decision.moves) ≡ Whole
+whole_moves : {A : Type 0} (count : ℕ) (r : Recorded A) → IsRecorded count r → AreFields r → count ≤ ELEMENTS
+    → judge (moves count 0 (length r.decision.moves)) (flat_map move_text r.decision.moves) ≡ Whole
 unfolding moves judge
 whole_moves count r is fits few =
     let list = r.decision.moves in
@@ -60,7 +61,8 @@ whole_moves count r is fits few =
     ∙ ap (judge (moves count 0 (length list + 0))) (sym (append-nil (flat_map move_text list)))
     ∙ moves_taken count 0 0 list [] few is.moved_elements fits.present fits.planned
 
-whole_ending : {A : Type 0} (count : ℕ) (recorded : Option (Recorded A)) → MayRecord count recorded → MayFit recorded → count ≤ ELEMENTS → judge (ending count) (ending_text recorded) ≡ Whole
+whole_ending : {A : Type 0} (count : ℕ) (recorded : Option (Recorded A)) → MayRecord count recorded → MayFit recorded → count ≤ ELEMENTS
+    → judge (ending count) (ending_text recorded) ≡ Whole
 unfolding judge
 whole_ending count None is fits few = no_decision_taken count []
 whole_ending count (Some r) is fits few =
@@ -82,7 +84,8 @@ whole_lbd2 d text is =
     let s = d.snapshot in
     let rules = is.dump.snapshot in
     ap (judge dump) is.spelled
-    ∙ head_taken_2 s.step s.procs (length s.loads) (elements_text w64 s.loads s.sizes ++ ending_text d.recorded) rules.placed.some_pe rules.placed.few_pes is.dump.step rules.loads.few
+    ∙ head_taken_2 s.step s.procs (length s.loads) (elements_text w64 s.loads s.sizes ++ ending_text d.recorded) rules.placed.some_pe
+    rules.placed.few_pes is.dump.step rules.loads.few
     ∙ whole_long s (ending (length s.loads)) (ending_text d.recorded) rules
     ∙ whole_ending (length s.loads) d.recorded is.dump.recorded is.dump.fields rules.loads.few
 
@@ -141,7 +144,8 @@ one_pair d e text is is' =
     let same = ap (drop 4) (sym is.spelled ∙ is'.spelled) in
     let s = d.snapshot in
     let t = e.snapshot in
-    let (snapshots, endings) = same_snapshots w64 from_be_bytes-to_be_bytes_8 s t (ending_text d.recorded) (ending_text e.recorded) is.dump.snapshot is.dump.step (long_loads s is.dump.snapshot) is'.dump.snapshot is'.dump.step (long_loads t is'.dump.snapshot) same in
+    let (snapshots, endings) = same_snapshots w64 from_be_bytes-to_be_bytes_8 s t (ending_text d.recorded) (ending_text e.recorded)
+    is.dump.snapshot is.dump.step (long_loads s is.dump.snapshot) is'.dump.snapshot is'.dump.step (long_loads t is'.dump.snapshot) same in
     let counts : length t.loads ≡ length s.loads = ap (λ (u : Taken). length u.loads) (sym snapshots) in
     let recorded' = rw counts at is'.dump.recorded in
     same_dumps d e snapshots (same_ending (length s.loads) d.recorded e.recorded is.dump.snapshot.loads.few is.dump.recorded is.dump.fields recorded' is'.dump.fields endings)

@@ -80,7 +80,8 @@ behind_prices_faults count = (λ n e is. none_faults e is, λ _. (λ n e is. unl
 behind_floor_faults : (count target kind : ℕ) → HasOnlyTextFaults (after_floor count target kind)
 behind_floor_faults count target kind =
     let behind : Layout = any w64 (λ _. Field w32 (λ n. unless (nat_le n count) MoveCount) (λ n. moves count 0 n)) in
-    numbers_faults w32 (if kind == 0 then 0 else target + 1) _ (numbers_faults w32 target _ (numbers_faults w64 target _ (numbers_faults w64 target behind (behind_prices_faults count))))
+    numbers_faults w32 (if kind == 0 then 0 else target + 1) _
+    (numbers_faults w32 target _ (numbers_faults w64 target _ (numbers_faults w64 target behind (behind_prices_faults count))))
 
 decision_faults : (count : ℕ) → HasOnlyTextFaults (decision count)
 unfolding HasOnlyTextFaults

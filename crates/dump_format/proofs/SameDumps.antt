@@ -46,7 +46,8 @@ pub plan_is : {A : Type 0} (r : Recorded A) → plan_text r ++ flat_map move_tex
 unfolding plan_text
 plan_is r =
     let d = r.decision in
-    nine_grouped (word r.target) (long d.division.bottleneck) (flat_map word d.division.cuts) (floor_text d.division.floor) (flat_map word d.naming) (flat_map price d.prices.u) (flat_map price d.prices.v) (long d.moved) (word (length d.moves)) (flat_map move_text d.moves)
+    nine_grouped (word r.target) (long d.division.bottleneck) (flat_map word d.division.cuts) (floor_text d.division.floor)
+    (flat_map word d.naming) (flat_map price d.prices.u) (flat_map price d.prices.v) (long d.moved) (word (length d.moves)) (flat_map move_text d.moves)
 
 -- a record of the same parts is the same
 record AreSame {A : Type 0} (r s : Recorded A) : Type 0 where
@@ -77,7 +78,8 @@ same_records : {A : Type 0} (r s : Recorded A) → AreSame r s → r ≡ s
 same_records r s same =
     let d = r.decision in
     let d' = s.decision in
-    let parts : made r.target d.division.bottleneck d.division.cuts d.division.floor d.naming d.prices.u d.prices.v d.moved d.moves ≡ made s.target d'.division.bottleneck d'.division.cuts d'.division.floor d'.naming d'.prices.u d'.prices.v d'.moved d'.moves
+    let parts : made r.target d.division.bottleneck d.division.cuts d.division.floor d.naming d.prices.u d.prices.v d.moved d.moves ≡ made
+    s.target d'.division.bottleneck d'.division.cuts d'.division.floor d'.naming d'.prices.u d'.prices.v d'.moved d'.moves
     = rw (same.target, same.bottleneck, same.cuts, same.floor, same.naming, same.blocks, same.pes, same.moved, same.moves) refl in
     parts
 
@@ -86,8 +88,10 @@ module _ {A : Type 0} (count : ℕ) (r s : Recorded A) (is : IsRecorded count r)
   same_moved same =
       let xs = r.decision.moves in
       let ys = s.decision.moves in
-      let (moved, behind) = same_long r.decision.moved s.decision.moved (word (length xs) ++ flat_map move_text xs) (word (length ys) ++ flat_map move_text ys) fits.moved fits'.moved same in
-      let (counts, listed) = same_word (length xs) (length ys) (flat_map move_text xs) (flat_map move_text ys) (omega (arith, is.few_moves)) (omega (arith, is'.few_moves)) behind in
+      let (moved, behind) = same_long r.decision.moved s.decision.moved (word (length xs) ++ flat_map move_text xs)
+      (word (length ys) ++ flat_map move_text ys) fits.moved fits'.moved same in
+      let (counts, listed) = same_word (length xs) (length ys) (flat_map move_text xs) (flat_map move_text ys) (omega (arith, is.few_moves))
+      (omega (arith, is'.few_moves)) behind in
       let (moves, end) = same_moves xs ys [] [] counts (moves_fit count r is fits few) (moves_fit count s is' fits' few) (ap (λ text. text ++ []) listed) in
       (moved, moves)
 
@@ -98,13 +102,15 @@ module _ {A : Type 0} (count : ℕ) (r s : Recorded A) (is : IsRecorded count r)
       let d' = s.decision in
       let v : List ℕ = flat_map price d.prices.v ++ moved_text r in
       let v' : List ℕ = flat_map price d'.prices.v ++ moved_text s in
-      let (names, behind) = same_words d.naming d'.naming (flat_map price d.prices.u ++ v) (flat_map price d'.prices.u ++ v') (is.names ∙ targets ∙ sym is'.names) fits.names fits'.names same in
+      let (names, behind) = same_words d.naming d'.naming (flat_map price d.prices.u ++ v) (flat_map price d'.prices.u ++ v')
+      (is.names ∙ targets ∙ sym is'.names) fits.names fits'.names same in
       let (blocks, last) = same_prices d.prices.u d'.prices.u v v' (is.block_prices ∙ targets ∙ sym is'.block_prices) fits.block_prices fits'.block_prices behind in
       let (pes, rest) = same_prices d.prices.v d'.prices.v (moved_text r) (moved_text s) (is.pe_prices ∙ targets ∙ sym is'.pe_prices) fits.pe_prices fits'.pe_prices last in
       (names, blocks, pes, rest)
 
   same_division : r.target ≡ s.target → division_text r ≡ division_text s
-      → (r.decision.division.bottleneck ≡ s.decision.division.bottleneck) × (r.decision.division.cuts ≡ s.decision.division.cuts) × (r.decision.division.floor ≡ s.decision.division.floor) × (names_text r ≡ names_text s)
+      → (r.decision.division.bottleneck ≡ s.decision.division.bottleneck) × (r.decision.division.cuts ≡ s.decision.division.cuts)
+      × (r.decision.division.floor ≡ s.decision.division.floor) × (names_text r ≡ names_text s)
   same_division targets same =
       let d = r.decision.division in
       let d' = s.decision.division in
@@ -126,10 +132,13 @@ module _ {A : Type 0} (count : ℕ) (r s : Recorded A) (is : IsRecorded count r)
       same_records r s (record { target = targets; bottleneck = bottleneck; cuts = cuts; floor = floors; naming = names; blocks = blocks; pes = pes; moved = moved; moves = moves })
 
 -- what follows the elements
-pub same_ending : {A : Type 0} (count : ℕ) (o p : Option (Recorded A)) → count ≤ ELEMENTS → MayRecord count o → MayFit o → MayRecord count p → MayFit p → ending_text o ≡ ending_text p → o ≡ p
+pub same_ending : {A : Type 0} (count : ℕ) (o p : Option (Recorded A)) → count ≤ ELEMENTS → MayRecord count o → MayFit o → MayRecord count p
+    → MayFit p → ending_text o ≡ ending_text p → o ≡ p
 same_ending count None None few is fits is' fits' same = refl
-same_ending count None (Some s) few is fits is' fits' same = absurd (let flags = (same_word 0 1 [] (plan_text s ++ flat_map move_text s.decision.moves) (omega arith) (omega arith) same).0 in omega arith)
-same_ending count (Some r) None few is fits is' fits' same = absurd (let flags = (same_word 1 0 (plan_text r ++ flat_map move_text r.decision.moves) [] (omega arith) (omega arith) same).0 in omega arith)
+same_ending count None (Some s) few is fits is' fits' same = absurd
+    (let flags = (same_word 0 1 [] (plan_text s ++ flat_map move_text s.decision.moves) (omega arith) (omega arith) same).0 in omega arith)
+same_ending count (Some r) None few is fits is' fits' same = absurd
+    (let flags = (same_word 1 0 (plan_text r ++ flat_map move_text r.decision.moves) [] (omega arith) (omega arith) same).0 in omega arith)
 same_ending count (Some r) (Some s) few is fits is' fits' same =
     let behind = (same_word 1 1 (plan_text r ++ flat_map move_text r.decision.moves) (plan_text s ++ flat_map move_text s.decision.moves) (omega arith) (omega arith) same).1 in
     ap Some (same_recorded count r s is fits is' fits' few behind)
@@ -148,7 +157,8 @@ spelled w s is loads_fit =
     }
 
 -- the head and the elements, and what follows them
-pub same_snapshots : (w : Width) (spells : Spells w) (s t : Taken) (a b : List ℕ) → IsSnapshot s → s.step < 2 ^ 32 → All (λ load. load < 2 ^ bits w) s.loads → IsSnapshot t → t.step < 2 ^ 32 → All (λ load. load < 2 ^ bits w) t.loads
+pub same_snapshots : (w : Width) (spells : Spells w) (s t : Taken) (a b : List ℕ) → IsSnapshot s → s.step < 2 ^ 32
+    → All (λ load. load < 2 ^ bits w) s.loads → IsSnapshot t → t.step < 2 ^ 32 → All (λ load. load < 2 ^ bits w) t.loads
     → head_text s ++ (elements_text w s.loads s.sizes ++ a) ≡ head_text t ++ (elements_text w t.loads t.sizes ++ b) → (s ≡ t) × (a ≡ b)
 same_snapshots w spells s t a b is step loads_fit is' step' loads_fit' same =
     let front : List ℕ = elements_text w s.loads s.sizes ++ a in

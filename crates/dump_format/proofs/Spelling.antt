@@ -71,15 +71,18 @@ abbrev pub stops_bytes : {A : Type 0} → Floor A → ℕ → ℕ
 stops_bytes Zero target = 0
 stops_bytes (Fence stops) target = 4 * (target + 1)
 
-pub floor_length : {A : Type 0} (floor : Floor A) (target : ℕ) → MatchFloor floor (Unit {0}) (λ stops. length stops ≡ target + 1) → length (floor_text floor) ≡ 4 + stops_bytes floor target
+pub floor_length : {A : Type 0} (floor : Floor A) (target : ℕ) → MatchFloor floor (Unit {0}) (λ stops. length stops ≡ target + 1)
+    → length (floor_text floor) ≡ 4 + stops_bytes floor target
 floor_length Zero target is = refl
 floor_length (Fence stops) target is = length-append (word 1) (flat_map word stops) ∙ omega (arith, words_length stops)
 
 -- nine parts, and then more
-pub nine_grouped : (a b c d e f g h i more : List ℕ) → (a ++ (b ++ (c ++ (d ++ (e ++ (f ++ (g ++ (h ++ i)))))))) ++ more ≡ a ++ (b ++ (c ++ (d ++ (e ++ (f ++ (g ++ (h ++ (i ++ more))))))))
+pub nine_grouped : (a b c d e f g h i more : List ℕ) → (a ++ (b ++ (c ++ (d ++ (e ++ (f ++ (g ++ (h ++ i)))))))) ++ more ≡ a
+    ++ (b ++ (c ++ (d ++ (e ++ (f ++ (g ++ (h ++ (i ++ more))))))))
 nine_grouped a b c d e f g h i more = simp append_assoc
 
-nine_lengths : (a b c d e f g h i : List ℕ) → length (a ++ (b ++ (c ++ (d ++ (e ++ (f ++ (g ++ (h ++ i)))))))) ≡ length a + (length b + (length c + (length d + (length e + (length f + (length g + (length h + length i)))))))
+nine_lengths : (a b c d e f g h i : List ℕ) → length (a ++ (b ++ (c ++ (d ++ (e ++ (f ++ (g ++ (h ++ i)))))))) ≡ length
+    a + (length b + (length c + (length d + (length e + (length f + (length g + (length h + length i)))))))
 nine_lengths a b c d e f g h i = simp length-append
 
 -- a decision up to its moves
@@ -88,7 +91,8 @@ unfolding plan_text
 plan_length elements r is =
     let division = r.decision.division in
     let prices = r.decision.prices in
-    nine_lengths (word r.target) (long division.bottleneck) (flat_map word division.cuts) (floor_text division.floor) (flat_map word r.decision.naming) (flat_map price prices.u) (flat_map price prices.v) (long r.decision.moved) (word (length r.decision.moves))
+    nine_lengths (word r.target) (long division.bottleneck) (flat_map word division.cuts) (floor_text division.floor)
+    (flat_map word r.decision.naming) (flat_map price prices.u) (flat_map price prices.v) (long r.decision.moved) (word (length r.decision.moves))
     ∙ omega (
       arith,
       words_length division.cuts,

@@ -42,7 +42,8 @@ module _ (A : Type 0) (style : Style) (name : List ℕ) (s : Taken) where
 
   one_plan : (pes : ℕ) (text other : List ℕ) → IsPlan A style name s pes text → IsPlan A style name s pes other → text ≡ other
   one_plan pes text other this that =
-      let same : IsSame this.decision that.decision = one_decision s.loads s.sizes pes this.decision that.decision this.chosen that.chosen this.least that.least this.right that.right in
+      let same : IsSame this.decision that.decision = one_decision s.loads s.sizes pes this.decision that.decision this.chosen that.chosen
+      this.least that.least this.right that.right in
       this.printed ∙ same_text pes this.decision that.decision same ∙ sym that.printed
 
   -- a decision within a tolerance with other parts, except for those that no text depends on
@@ -71,7 +72,8 @@ module _ (A : Type 0) (style : Style) (name : List ℕ) (s : Taken) where
   one_within pes tolerance text other this that =
       let chosen = chosen_from_refined s.loads s.sizes pes tolerance that.decision that.refined in
       let also = chosen_from_refined s.loads s.sizes pes tolerance this.decision this.refined in
-      let least : refined_least this.decision ≡ refined_least that.decision = only_from_chosen s.loads pes (refined_least that.decision) chosen (refined_least this.decision) also in
+      let least : refined_least this.decision ≡ refined_least that.decision = only_from_chosen s.loads pes (refined_least that.decision)
+      chosen (refined_least this.decision) also in
       let same : AreSame this.decision that.decision = one_refined s.loads s.sizes pes tolerance this.decision that.decision this.refined that.refined in
       this.printed ∙ same_within pes this.decision that.decision least same ∙ sym that.printed
 
@@ -90,7 +92,8 @@ module _ (A : Type 0) (style : Style) (name : List ℕ) (s : Taken) where
       → ArePlans A style name s tolerance procs other → text ≡ other
   one_list tolerance [] text other this that = this ∙ sym that
   one_list tolerance (p ∷ procs) text other this that =
-      this.4 ∙ ap (λ t. t ++ this.1) (one_decided tolerance p this.0 that.0 this.2 that.2) ∙ ap (λ t. that.0 ++ t) (one_list tolerance procs this.1 that.1 this.3 that.3) ∙ sym that.4
+      this.4 ∙ ap (λ t. t ++ this.1) (one_decided tolerance p this.0 that.0 this.2 that.2)
+      ∙ ap (λ t. that.0 ++ t) (one_list tolerance procs this.1 that.1 this.3 that.3) ∙ sym that.4
 
   -- a recorded decision has one text
   one_recorded : (pes : ℕ) (d : Decision A) (text other : List ℕ) → IsRecordedText style name s pes d text → IsRecordedText style name s pes d other → text ≡ other

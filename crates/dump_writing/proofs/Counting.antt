@@ -15,7 +15,11 @@ length_plan elements stops r kept floor = omega (arith, plan_length elements r k
 
 length_dump : {A : Type 0} (d : Dumped A) → IsDump d → length (lbd2_text d) ≡ 16 + 16 * length d.snapshot.loads + length (ending_text d.recorded)
 length_dump d is =
-    omega (arith, length-append (elements_text w64 d.snapshot.loads d.snapshot.sizes) (ending_text d.recorded), elements_length_long d.snapshot.loads d.snapshot.sizes is.snapshot.placed.paired)
+    omega (
+      arith,
+      length-append (elements_text w64 d.snapshot.loads d.snapshot.sizes) (ending_text d.recorded),
+      elements_length_long d.snapshot.loads d.snapshot.sizes is.snapshot.placed.paired,
+    )
 
 -- a dump without a decision, and one with
 pub length_without : {A : Type 0} (d : Dumped A) (n : ℕ) → IsDump d → n ≡ length d.snapshot.loads → None ≡ d.recorded → 16 + 16 * n + 4 ≡ length (lbd2_text d)
@@ -23,7 +27,8 @@ length_without d n is counted none =
     let ending : 4 ≡ length (ending_text d.recorded) = ap (λ r. length (ending_text r)) none in
     omega (arith, length_dump d is)
 
-pub length_with : {A : Type 0} (d : Dumped A) (r : Recorded A) (n plan moves : ℕ) → IsDump d → n ≡ length d.snapshot.loads → Some r ≡ d.recorded → plan ≡ length (plan_text r) → moves ≡ length r.decision.moves
+pub length_with : {A : Type 0} (d : Dumped A) (r : Recorded A) (n plan moves : ℕ) → IsDump d → n ≡ length d.snapshot.loads
+    → Some r ≡ d.recorded → plan ≡ length (plan_text r) → moves ≡ length r.decision.moves
     → 16 + 16 * n + 4 + plan + 12 * moves ≡ length (lbd2_text d)
 length_with d r n plan moves is counted some plan_is moves_are =
     let ending : length (ending_text (Some r)) ≡ length (ending_text d.recorded) = ap (λ o. length (ending_text o)) some in

@@ -12,7 +12,8 @@ suc_add m n = omega arith
 pub joined_split : (item : ℕ → List ℕ) (m n : ℕ) → joined item (m + n) ≡ joined item m ++ joined (λ k. item (m + k)) n
 unfolding joined
 joined_split item zero n = simp zero-add
-joined_split item (suc m) n = simp suc_add (ap (λ rest. item 0 ++ rest) (joined_split (λ k. item (suc k)) m n) ∙ sym (append_assoc (item 0) (joined (λ k. item (suc k)) m) (joined (λ k. item (suc (m + k))) n)))
+joined_split item (suc m) n = simp suc_add (ap (λ rest. item 0 ++ rest) (joined_split (λ k. item (suc k)) m n)
+    ∙ sym (append_assoc (item 0) (joined (λ k. item (suc k)) m) (joined (λ k. item (suc (m + k))) n)))
 
 -- one item alone
 joined_one : (item : ℕ → List ℕ) → joined item 1 ≡ item 0
@@ -51,7 +52,8 @@ pub item_length : (len at : ℕ) (block new : List ℕ) → length new ≡ lengt
 item_length len at block new same inside = omega (arith, simp (length-take, length-drop) at same)
 
 -- a block with one item more
-pub filled_more : (item : ℕ → List ℕ) (len first i at : ℕ) (block new : List ℕ) → first ≤ i → at + len ≤ length block → length new ≡ length (take (at + len - at) (drop at block)) → new ≡ item i
+pub filled_more : (item : ℕ → List ℕ) (len first i at : ℕ) (block new : List ℕ) → first ≤ i → at + len ≤ length block
+    → length new ≡ length (take (at + len - at) (drop at block)) → new ≡ item i
     → take at block ≡ joined (λ k. item (first + k)) (i - first) → take (at + len) (put_mid at (at + len - at) block new) ≡ joined (λ k. item (first + k)) ((i + 1) - first)
 filled_more item len first i at block new above inside same is before =
     let here : first + (i - first) ≡ i = omega arith in

@@ -9,7 +9,8 @@ use Rattle.dump_format.specs.Text.{word, long, elements_text, floor_text, plan_t
 use Rattle.dump_writing.specs.Parts.{front_text, division_text, naming_text}
 
 -- a head, and the elements after it
-pub front_parts : (s : Taken) (head loads : List ℕ) (step procs : ℕ) → step ≡ s.step → procs ≡ s.procs → loads ≡ s.loads → head ≡ 76 ∷ 66 ∷ 68 ∷ 50 ∷ (word step ++ (word procs ++ word (length loads)))
+pub front_parts : (s : Taken) (head loads : List ℕ) (step procs : ℕ) → step ≡ s.step → procs ≡ s.procs → loads ≡ s.loads
+    → head ≡ 76 ∷ 66 ∷ 68 ∷ 50 ∷ (word step ++ (word procs ++ word (length loads)))
     → head ++ elements_text w64 s.loads s.sizes ≡ front_text s
 unfolding front_text
 front_parts s head loads step procs of_step of_procs of_loads is =

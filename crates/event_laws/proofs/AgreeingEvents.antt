@@ -50,7 +50,14 @@ module _ {C A : Type 0} (step : Step C) (pack : C → List ℕ) (unpack : List �
     quiet : (pe' : PeView C) (queues : List (List Parcel)) (words : List ℕ) (reports : List TraceEntry) → AgreesAt m pe'
         → All (All (AgreesOn m)) queues → Good (record { pe = pe'; queues = queues; words = words; board = w.board }, reports)
     quiet pe' queues words reports agrees all numbered =
-        record { measured = h.measured; numbered = h.numbered; counted = length-set {A = PeView C} w.pes p pe' ∙ h.counted; places = numbered; pes = All-set (AgreesAt m) w.pes p pe' agrees h.pes; queues = all }
+        record {
+          measured = h.measured;
+          numbered = h.numbered;
+          counted = length-set {A = PeView C} w.pes p pe' ∙ h.counted;
+          places = numbered;
+          pes = All-set (AgreesAt m) w.pes p pe' agrees h.pes;
+          queues = all;
+        }
 
     local_agrees : (event : Event) (a : LocalView C A × List TraceEntry) → local_step step pack unpack event (local_view w pe) ≡ Some a → Good a
     local_agrees (Start q e) a s =

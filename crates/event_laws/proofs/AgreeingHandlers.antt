@@ -108,7 +108,9 @@ module _ {C : Type 0} (step : Step C) (pack : C → List ℕ) (m : Measured) (pe
       let r : RoomAgrees m pe.me (changed e (ran step pack el pe.n pe.me done) pe.room) (pe.notes ++ option_to_list (note_of step pack el pe.n pe.me done)) =
       turned m pe.me pe.room pe.notes e el (ran step pack el pe.n pe.me done) (note_of step pack el pe.n pe.me done) (room_agrees m pe h) at turn in
       let s : RoomAgrees m pe.me (ran_in step pack pe.room e pe.n pe.me done) (pe.notes ++ option_to_list (note_in step pack pe.room e pe.n pe.me done)) =
-      subst (λ (o : Option (ElementView C)). RoomAgrees m pe.me (option_map_or (λ x. changed e (ran step pack x pe.n pe.me done) pe.room) o pe.room) (pe.notes ++ option_to_list (option_map_or (λ x. note_of step pack x pe.n pe.me done) o None))) (sym at) r in
+      subst (λ (o : Option (ElementView C)). RoomAgrees m pe.me
+      (option_map_or (λ x. changed e (ran step pack x pe.n pe.me done) pe.room) o pe.room)
+      (pe.notes ++ option_to_list (option_map_or (λ x. note_of step pack x pe.n pe.me done) o None))) (sym at) r in
       record {
         keyed = s.keyed;
         room = s.each;
@@ -126,7 +128,8 @@ module _ {C : Type 0} (step : Step C) (pack : C → List ℕ) (m : Measured) (pe
     turn_works : (done : Done) → IsAtWork m el.index (worked step pack el pe.n done) → (worked step pack el pe.n done).started ≡ true → ((y : Note) → Owes m pe.me el y → ⊥)
         → Turn m pe.me pe.notes el (ran step pack el pe.n pe.me done) (note_of step pack el pe.n pe.me done)
     turn_works done w s none =
-        turn_at_work m pe.me pe.notes el (outcome_of step pack el pe.n done).state (el.journal ++ done ∷ []) (worked step pack el pe.n done) (length (pack (outcome_of step pack el pe.n done).state)) (resumed_mark pe.me done)
+        turn_at_work m pe.me pe.notes el (outcome_of step pack el pe.n done).state (el.journal ++ done ∷ []) (worked step pack el pe.n done)
+        (length (pack (outcome_of step pack el pe.n done).state)) (resumed_mark pe.me done)
         w (least_left _ LOAD) s now.known none (ending_of step pack el pe.n done)
 
     -- of one that starts
@@ -149,7 +152,8 @@ module _ {C : Type 0} (step : Step C) (pack : C → List ℕ) (m : Measured) (pe
       where
         by : (b : Bool) → el.progress.synced ≡ b → Turn m pe.me pe.notes el (ran step pack el pe.n pe.me (OfLetter l)) (note_of step pack el pe.n pe.me (OfLetter l))
         by true t =
-            turn_waiting m pe.me pe.notes el (outcome_of step pack el pe.n (OfLetter l)).state (el.journal ++ OfLetter l ∷ []) (worked step pack el pe.n (OfLetter l)) (length (pack (outcome_of step pack el pe.n (OfLetter l)).state)) (resumed_mark pe.me (OfLetter l))
+            turn_waiting m pe.me pe.notes el (outcome_of step pack el pe.n (OfLetter l)).state (el.journal ++ OfLetter l ∷ [])
+            (worked step pack el pe.n (OfLetter l)) (length (pack (outcome_of step pack el pe.n (OfLetter l)).state)) (resumed_mark pe.me (OfLetter l))
             now refl t s t (ending_of step pack el pe.n (OfLetter l)) (no_sync (worked step pack el pe.n (OfLetter l)) (outcome_of step pack el pe.n (OfLetter l)).effect t)
         by false t =
             let w : IsAtWork m el.index el.progress = awake_at_work m pe.me pe.notes el t now.state in

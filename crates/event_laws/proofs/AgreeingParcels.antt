@@ -70,7 +70,8 @@ module _ {C : Type 0} (m : Measured) where
   pub flush_event_agrees : (pe : PeView C) (queues : List (List Parcel)) (a : PeView C × List (List Parcel)) → AgreesAt m pe
       → All (All (AgreesOn m)) queues → flush_event pe queues ≡ Some a → AgreesAt m a.0 × All (All (AgreesOn m)) a.1
   flush_event_agrees pe queues a h k s =
-      option_and_then_some (λ q. option_and_then (λ parcel. option_and_then (λ queue. Some (gave_up pe, slice_set queues q (queue ++ parcel ∷ []))) (slice_get queues q)) (front_parcel pe.outbox)) (front_address pe.outbox) a s
+      option_and_then_some (λ q. option_and_then (λ parcel. option_and_then
+      (λ queue. Some (gave_up pe, slice_set queues q (queue ++ parcel ∷ []))) (slice_get queues q)) (front_parcel pe.outbox)) (front_address pe.outbox) a s
       (λ q is r.
       option_and_then_some (λ parcel. option_and_then (λ queue. Some (gave_up pe, slice_set queues q (queue ++ parcel ∷ []))) (slice_get queues q)) (front_parcel pe.outbox) a r
       (λ parcel front t.
@@ -79,7 +80,8 @@ module _ {C : Type 0} (m : Measured) where
       subst (λ (v : PeView C × List (List Parcel)). AgreesAt m v.0 × All (All (AgreesOn m)) v.1) (same_Some (gave_up pe, slice_set queues q (queue ++ parcel ∷ [])) a u) (
         gave_up_agrees pe h,
         All-set (All (AgreesOn m)) queues q (queue ++ parcel ∷ [])
-            (All-push (AgreesOn m) queue parcel (at_place (All (AgreesOn m)) queues q queue k at) (if_some (AgreesOn m) (front_parcel pe.outbox) parcel (front_agrees m pe.outbox h.outbox) front)) k,
+            (All-push (AgreesOn m) queue parcel (at_place (All (AgreesOn m)) queues q queue k at)
+            (if_some (AgreesOn m) (front_parcel pe.outbox) parcel (front_agrees m pe.outbox h.outbox) front)) k,
       ))))
 
   -- Deliver
@@ -127,8 +129,10 @@ module _ {C : Type 0} (m : Measured) where
   installed_agrees pe p chare h k none =
       record {
         keyed = places_joined Key p.index (unpacked p chare) pe.room h.keyed (λ i s. s);
-        room = All-values-insert_entry nat_cmp p.index (unpacked p chare) (AgreesWith m pe.me pe.notes) pe.room h.room (record { known = k.0; fresh = k.1; state = inr (inr (inr k.2)) });
-        notes = All-weaker (IsOwed m pe.me pe.room) (IsOwed m pe.me (joined p.index (unpacked p chare) pe.room)) (still_owed_joined pe.me pe.room p.index (unpacked p chare) none) pe.notes h.notes;
+        room = All-values-insert_entry nat_cmp p.index (unpacked p chare) (AgreesWith m pe.me pe.notes) pe.room h.room
+            (record { known = k.0; fresh = k.1; state = inr (inr (inr k.2)) });
+        notes = All-weaker (IsOwed m pe.me pe.room) (IsOwed m pe.me (joined p.index (unpacked p chare) pe.room))
+            (still_owed_joined pe.me pe.room p.index (unpacked p chare) none) pe.notes h.notes;
         once = h.once;
         hand = tt;
         outbox = All-append (ItemAgrees m) pe.outbox _ h.outbox (unshelved_agree m pe.me _);
@@ -203,7 +207,8 @@ module _ {C : Type 0} (step : Step C) (pack : C → List ℕ) where
       record {
         keyed = places_without Key e pe.room h.keyed;
         room = All-map-remove_entry (is_at (nat_cmp e)) (λ x. x.1) (AgreesWith m pe.me pe.notes) pe.room h.room;
-        notes = All-weaker (IsOwed m pe.me pe.room) (IsOwed m pe.me (without e pe.room)) (still_owed_without m pe.me pe.room e el at (owes_none_decided m pe.me el w)) pe.notes h.notes;
+        notes = All-weaker (IsOwed m pe.me pe.room) (IsOwed m pe.me (without e pe.room))
+            (still_owed_without m pe.me pe.room e el at (owes_none_decided m pe.me el w)) pe.notes h.notes;
         once = h.once;
         hand = h.hand;
         outbox = All-append (ItemAgrees m) pe.outbox _ h.outbox goes;

@@ -40,7 +40,8 @@ module _ {C A : Type 0} (step : Step C) (pack : C → List ℕ) (unpack : List �
         happens_so step pack unpack w (λ (v : After C A). Tells n v.0.board (trace ++ v.1))
         (record {
           same = tells_same n w.board trace t;
-          turn = λ p pe at. each_map step pack p (local_view w pe) (Turned p (local_view w pe)) (λ a. Tells n a.0.board (trace ++ a.1)) (turn_tells p pe) (each_turned step pack p (local_view w pe));
+          turn = λ p pe at. each_map step pack p (local_view w pe) (Turned p (local_view w pe)) (λ a. Tells n a.0.board (trace ++ a.1))
+              (turn_tells p pe) (each_turned step pack p (local_view w pe));
           decides = λ board d. tells_decided n w.board board trace t d;
         })
         event next happens
@@ -82,7 +83,8 @@ module _ {C A : Type 0} (step : Step C) (pack : C → List ℕ) (unpack : List �
   pub barrier : (pes : ℕ) (chares : List C) (strategy : Strategy) (events : List Event) (last : After C A) → 1 ≤ pes
       → Reaches step pack unpack (opening_world pes chares strategy) events last → IsBarrier (length chares) last.1
   barrier pes chares strategy events last some run =
-      let t : Tells (length chares) last.0.board last.1 = run_tells (length chares) (opening_world pes chares strategy) [] events last (opening_tells (length chares) pes strategy) run in
+      let t : Tells (length chares) last.0.board last.1 = run_tells (length chares) (opening_world pes chares strategy) [] events last
+      (opening_tells (length chares) pes strategy) run in
       record {
         all_synced = λ before after e r h first. (t.barred before after e r h first).synced;
         decided_once = λ before after e r h first. (t.barred before after e r h first).decided;
@@ -93,17 +95,21 @@ module _ {C A : Type 0} (step : Step C) (pack : C → List ℕ) (unpack : List �
   -- the rounds of all elements come in order
   pub in_order : (pes : ℕ) (chares : List C) (strategy : Strategy) (events : List Event) (last : After C A)
       → Reaches step pack unpack (opening_world pes chares strategy) events last → AreInOrder last.0
-  in_order pes chares strategy events last run = are_in_order last.0 (run_kept step pack FitsInOrder PackedInOrder (order_kept step pack) unpack (opening_world pes chares strategy) events last (opening_kept step pack FitsInOrder PackedInOrder (order_kept step pack) A pes chares strategy) run)
+  in_order pes chares strategy events last run = are_in_order last.0
+      (run_kept step pack FitsInOrder PackedInOrder (order_kept step pack) unpack (opening_world pes chares strategy) events last
+      (opening_kept step pack FitsInOrder PackedInOrder (order_kept step pack) A pes chares strategy) run)
 
   -- and an element that an event resumes for a round is at its place
   pub stands : (pes : ℕ) (chares : List C) (strategy : Strategy) (events : List Event) (w : WorldView C A) (trace : List TraceEntry) (event : Event) (next : After C A) (e r : ℕ)
-      → 1 ≤ pes → Reaches step pack unpack (opening_world pes chares strategy) events (w, trace) → Happens step pack unpack w event next → Contains next.1 (Resumed e r) → 1 ≤ r → StandsInItsPlace w e r × StandsInItsPlace next.0 e r
+      → 1 ≤ pes → Reaches step pack unpack (opening_world pes chares strategy) events (w, trace) → Happens step pack unpack w event next
+      → Contains next.1 (Resumed e r) → 1 ≤ r → StandsInItsPlace w e r × StandsInItsPlace next.0 e r
   stands pes chares strategy events w trace event next e r some run happens there first =
       happens_so step pack unpack w
       (λ (v : After C A). Agrees (length chares) v.0 → Contains v.1 (Resumed e r) → StandsInItsPlace w e r × StandsInItsPlace v.0 e r)
       (record {
         same = λ agrees k. absurd (no_member (Resumed e r) k);
-        turn = λ p pe at. each_map step pack p (local_view w pe) (Turned p (local_view w pe)) (λ a. Agrees (length chares) (with_local w p a.0) → Contains a.1 (Resumed e r) → StandsInItsPlace w e r × StandsInItsPlace (with_local w p a.0) e r)
+        turn = λ p pe at. each_map step pack p (local_view w pe) (Turned p (local_view w pe))
+            (λ a. Agrees (length chares) (with_local w p a.0) → Contains a.1 (Resumed e r) → StandsInItsPlace w e r × StandsInItsPlace (with_local w p a.0) e r)
             (λ a turned later k. stands_at (length chares) w p pe a.0 e r before.agrees later at (turned.stands e r first k))
             (each_turned step pack p (local_view w pe));
         decides = λ board d agrees k. absurd (unlike_decided w.board.database.round e r (only_member (Decided w.board.database.round) (Resumed e r) k));

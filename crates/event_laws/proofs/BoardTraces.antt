@@ -152,7 +152,8 @@ tells_synced {A} n b trace e round units bytes pe t same =
         (subst (λ (v : ℕ). Contains (trace ++ Synced e round ∷ []) (Synced v round)) (sym here) (Contains-push trace (Synced e round)))
     by x false at inside is =
         let other : x ≢ e = grind (arith, nat_tests) in
-        let old : get_or (after_report b e units bytes pe).database.reports x None ≡ get_or b.database.reports x None = get_or-set_other b.database.reports e x (Some (bytes, pe)) None other in
+        let old : get_or (after_report b e units bytes pe).database.reports x None ≡ get_or b.database.reports x None = get_or-set_other
+        b.database.reports e x (Some (bytes, pe)) None other in
         Contains-append_left trace (Synced e round ∷ []) (Synced x b.database.round)
         (t.reported x inside (subst (λ (v : Option (ℕ × ℕ)). IsSome v) old is))
 
@@ -164,7 +165,17 @@ tells_same n b trace t = tells_kept n b b trace [] t (record { same = refl; unde
 pub tells_finished : {A : Type 0} (n : ℕ) (b : BoardState A) (trace : List TraceEntry) (e : ℕ) → Tells n b trace → Tells n (after_finish b e) (trace ++ [])
 tells_finished {A} n b trace e t =
     let k : Tells n b (trace ++ []) = tells_same n b trace t in
-    record { counted = k.counted; reports_counted = k.reports_counted; numbered = k.numbered; never_zero = k.never_zero; decided = k.decided; undecided = k.undecided; synced = k.synced; reported = k.reported; barred = k.barred }
+    record {
+      counted = k.counted;
+      reports_counted = k.reports_counted;
+      numbered = k.numbered;
+      never_zero = k.never_zero;
+      decided = k.decided;
+      undecided = k.undecided;
+      synced = k.synced;
+      reported = k.reported;
+      barred = k.barred;
+    }
 
 -- the board takes a note
 pub tells_taken : {A : Type 0} (n : ℕ) (b b' : BoardState A) (trace : List TraceEntry) (note : Note) → Tells n b trace → board_after b note ≡ Some b'

@@ -46,13 +46,18 @@ module _ (g1 : LetterWeight) (k1 : ElementWeight) (g2 : LetterWeight) (k2 : Elem
   pe_both : {C : Type 0} (p : ℕ) (pe : PeView C) → pe_at g1 k1 p pe + pe_at g2 k2 p pe ≤ pe_at g3 k3 p pe
   pe_both {C} p pe =
       let hand = hand_both p pe.hand in
-      let box : sum_by (item_out g1 k1) pe.outbox + sum_by (item_out g2 k2) pe.outbox ≤ sum_by (item_out g3 k3) pe.outbox = both_by (item_out g1 k1) (item_out g2 k2) (item_out g3 k3) pe.outbox (λ x. parcel_both (address_site x.address) x.parcel) in
-      let shelf : sum_by (letter_in g1 k1 (Waiting p)) pe.shelf + sum_by (letter_in g2 k2 (Waiting p)) pe.shelf ≤ sum_by (letter_in g3 k3 (Waiting p)) pe.shelf = both_by (letter_in g1 k1 (Waiting p)) (letter_in g2 k2 (Waiting p)) (letter_in g3 k3 (Waiting p)) pe.shelf (λ l. gs (Waiting p) l.id l.to) in
-      let room = both_by (λ (x : ℕ × ElementView C). entry_at g1 k1 p x) (λ (x : ℕ × ElementView C). entry_at g2 k2 p x) (λ (x : ℕ × ElementView C). entry_at g3 k3 p x) pe.room (λ x. ks (Room p x.0) x.1.index) in
+      let box : sum_by (item_out g1 k1) pe.outbox + sum_by (item_out g2 k2) pe.outbox ≤ sum_by (item_out g3 k3) pe.outbox = both_by
+      (item_out g1 k1) (item_out g2 k2) (item_out g3 k3) pe.outbox (λ x. parcel_both (address_site x.address) x.parcel) in
+      let shelf : sum_by (letter_in g1 k1 (Waiting p)) pe.shelf + sum_by (letter_in g2 k2 (Waiting p)) pe.shelf ≤ sum_by
+      (letter_in g3 k3 (Waiting p)) pe.shelf = both_by (letter_in g1 k1 (Waiting p)) (letter_in g2 k2 (Waiting p))
+      (letter_in g3 k3 (Waiting p)) pe.shelf (λ l. gs (Waiting p) l.id l.to) in
+      let room = both_by (λ (x : ℕ × ElementView C). entry_at g1 k1 p x) (λ (x : ℕ × ElementView C). entry_at g2 k2 p x)
+      (λ (x : ℕ × ElementView C). entry_at g3 k3 p x) pe.room (λ x. ks (Room p x.0) x.1.index) in
       omega (arith, hand, box, shelf, room)
 
   pub world_both : {C A : Type 0} (w : WorldView C A) → world_at g1 k1 w + world_at g2 k2 w ≤ world_at g3 k3 w
   world_both {C} w =
       let pes = both_from (λ p (pe : PeView C). pe_at g1 k1 p pe) (λ p (pe : PeView C). pe_at g2 k2 p pe) (λ p (pe : PeView C). pe_at g3 k3 p pe) w.pes (λ p pe. pe_both p pe) in
-      let queues = both_from (queue_at g1 k1) (queue_at g2 k2) (queue_at g3 k3) w.queues (λ q queue. both_by (parcel_at g1 k1 (Bound q)) (parcel_at g2 k2 (Bound q)) (parcel_at g3 k3 (Bound q)) queue (parcel_both (Bound q))) in
+      let queues = both_from (queue_at g1 k1) (queue_at g2 k2) (queue_at g3 k3) w.queues
+      (λ q queue. both_by (parcel_at g1 k1 (Bound q)) (parcel_at g2 k2 (Bound q)) (parcel_at g3 k3 (Bound q)) queue (parcel_both (Bound q))) in
       omega (arith, pes, queues)

@@ -35,7 +35,9 @@ module _ {C A : Type 0} (w : WorldView C A) (k : ElementWeight) where
   -- an element on a PE
   pub stands_weighs : (e p : ℕ) (on : StandsOn w e p) → k (Room p e) on.1.index ≤ world_at no_letters k w
   stands_weighs e p (pe, el, at, is) =
-      let a : sum_by (λ (x : ℕ × ElementView C). entry_at no_letters k p x) pe.room ≡ k (Room p e) el.index + sum_by (λ (x : ℕ × ElementView C). entry_at no_letters k p x) (without e pe.room) = room_without (λ (x : ℕ × ElementView C). entry_at no_letters k p x) pe.room e el is in
+      let a : sum_by (λ (x : ℕ × ElementView C). entry_at no_letters k p x) pe.room ≡ k (Room p e) el.index + sum_by
+      (λ (x : ℕ × ElementView C). entry_at no_letters k p x) (without e pe.room) = room_without
+      (λ (x : ℕ × ElementView C). entry_at no_letters k p x) pe.room e el is in
       pe_weighs p (k (Room p e) el.index) pe at (omega (arith, a))
 
   hand_weighs : (e p : ℕ) → IsInHand w e p → k (Bound p) e ≤ world_at no_letters k w
@@ -49,7 +51,8 @@ module _ {C A : Type 0} (w : WorldView C A) (k : ElementWeight) where
 
   queue_weighs : (e p : ℕ) → IsInQueue w e p → k (Bound p) e ≤ world_at no_letters k w
   queue_weighs e p (queue, at, any) =
-      let a : k (Bound p) e ≤ queue_at no_letters k p queue = any_le (parcel_at no_letters k (Bound p)) (Carries e) (k (Bound p) e) queue (λ x. carried_weighs k (Bound p) e x) any in
+      let a : k (Bound p) e ≤ queue_at no_letters k p queue = any_le (parcel_at no_letters k (Bound p)) (Carries e) (k (Bound p) e) queue
+      (λ x. carried_weighs k (Bound p) e x) any in
       let b : queue_at no_letters k p queue ≤ sum_from (queue_at no_letters k) w.queues = member_from_le (queue_at no_letters k) w.queues p queue at in
       omega (arith, a, b)
 
@@ -137,13 +140,16 @@ module _ (p e : ℕ) where
   none_stand : {C : Type 0} (q : ℕ) (room : List (ℕ × ElementView C)) → sum_by (λ (x : ℕ × ElementView C). entry_at no_letters (bound_at p e) q x) room ≡ 0
   none_stand q [] = refl
   none_stand {C} q (x ∷ xs) =
-      let c : sum_by (λ (y : ℕ × ElementView C). entry_at no_letters (bound_at p e) q y) (x ∷ xs) ≡ 0 + sum_by (λ (y : ℕ × ElementView C). entry_at no_letters (bound_at p e) q y) xs = sum_by-cons (λ (y : ℕ × ElementView C). entry_at no_letters (bound_at p e) q y) x xs in
+      let c : sum_by (λ (y : ℕ × ElementView C). entry_at no_letters (bound_at p e) q y) (x ∷ xs) ≡ 0 + sum_by
+      (λ (y : ℕ × ElementView C). entry_at no_letters (bound_at p e) q y) xs = sum_by-cons
+      (λ (y : ℕ × ElementView C). entry_at no_letters (bound_at p e) q y) x xs in
       omega (arith, c, none_stand q xs)
 
   none_shelved : (q : ℕ) (shelf : List LetterView) → sum_by (letter_in no_letters (bound_at p e) (Waiting q)) shelf ≡ 0
   none_shelved q [] = refl
   none_shelved q (x ∷ xs) =
-      let c : sum_by (letter_in no_letters (bound_at p e) (Waiting q)) (x ∷ xs) ≡ 0 + sum_by (letter_in no_letters (bound_at p e) (Waiting q)) xs = sum_by-cons (letter_in no_letters (bound_at p e) (Waiting q)) x xs in
+      let c : sum_by (letter_in no_letters (bound_at p e) (Waiting q)) (x ∷ xs) ≡ 0 + sum_by
+      (letter_in no_letters (bound_at p e) (Waiting q)) xs = sum_by-cons (letter_in no_letters (bound_at p e) (Waiting q)) x xs in
       omega (arith, c, none_shelved q xs)
 
   module _ {C A : Type 0} (w : WorldView C A) where

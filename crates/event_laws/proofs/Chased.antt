@@ -77,13 +77,15 @@ module _ {C A : Type 0} (step : Step C) (pack : C → List ℕ) (unpack : List �
   run_step : (w : WorldView C A) (trace : List TraceEntry) (event : Event) (next : After C A) → IsRun w trace → Happens step pack unpack w event next
       → IsRun next.0 (trace ++ next.1)
   run_step w trace event next h happens =
-      let kept : Kept (length chares) first next.0 (trace ++ next.1) = kept_join (length chares) first w next.0 trace next.1 h.kept (step_keeps step (length chares) w next.0 next.1 (happens_good step pack unpack (length chares) w h.placed.of event next happens)) in
+      let kept : Kept (length chares) first next.0 (trace ++ next.1) = kept_join (length chares) first w next.0 trace next.1 h.kept
+      (step_keeps step (length chares) w next.0 next.1 (happens_good step pack unpack (length chares) w h.placed.of event next happens)) in
       let before : Accounted (length chares) w trace = kept_accounted step pack unpack pes chares strategy some w trace h.kept in
       let after : Accounted (length chares) next.0 (trace ++ next.1) = kept_accounted step pack unpack pes chares strategy some next.0 (trace ++ next.1) kept in
       record {
         placed = placed_step step pack unpack (length chares) w event next h.placed happens;
         kept = kept;
-        chasing = chasing_next w next.0 next.1 trace h.chasing after.at_most_once (few_letters w trace before) h.placed.named (happens_moves step pack unpack w h.placed.numbered event next happens);
+        chasing = chasing_next w next.0 next.1 trace h.chasing after.at_most_once (few_letters w trace before) h.placed.named
+            (happens_moves step pack unpack w h.placed.numbered event next happens);
       }
 
   run_on : (w : WorldView C A) (trace : List TraceEntry) (events : List Event) (last : After C A) → IsRun w trace
@@ -95,7 +97,12 @@ module _ {C A : Type 0} (step : Step C) (pack : C → List ℕ) (unpack : List �
       subst (λ (v : After C A). IsRun v.0 (trace ++ v.1)) (sym is) (subst (λ (v : List TraceEntry). IsRun rest.0 v) (append_assoc trace first.1 rest.1) b)
 
   pub reached_run : (events : List Event) (last : After C A) → Reaches step pack unpack first events last → IsRun last.0 last.1
-  reached_run events last run = run_on first [] events last (record { placed = opening_placed A pes chares strategy some; kept = kept_same (length chares) first (opening_of A pes chares strategy some); chasing = opening_chasing }) run
+  reached_run events last run = run_on first [] events last
+      (record {
+        placed = opening_placed A pes chares strategy some;
+        kept = kept_same (length chares) first (opening_of A pes chares strategy some);
+        chasing = opening_chasing;
+      }) run
 
 -- what was posted at most once was not posted before
 posted_late : (before after : List TraceEntry) (id : ℕ × ℕ) (e : ℕ) → times (says_number id) (posts (before ++ Trace.Posted id e ∷ after)) ≤ 1
@@ -117,7 +124,8 @@ hops_from before after id e one hops =
     let posted : was_posted id e (before ++ here) ≡ true = posted_join id e before here ∙ (ap (λ (v : Bool). v || was_posted id e here) late ∙ posted_here id e after) in
     let a = hops posted in
     let b = since_join id e before here in
-    let c : (if was_posted id e before then departures e here else departed_since id e here) ≡ departed_since id e here = ap (λ (v : Bool). if v then departures e here else departed_since id e here) late in
+    let c : (if was_posted id e before then departures e here else departed_since id e here) ≡ departed_since id e here = ap
+    (λ (v : Bool). if v then departures e here else departed_since id e here) late in
     let d = since_none id e before late in
     let f = since_here id e after in
     omega (arith, a, b, c, d, f)

@@ -176,5 +176,7 @@ module _ (words : List ℕ) (trace : List TraceEntry) where
     all_fresh (l ∷ ls) h =
         let a : letter_in (strays words (trace ++ rs)) no_elements Fresh l ≡ 0 = fresh_right l.id l.to (h l.id l.to (posted_here l.id l.to (map post_of ls))) in
         let b = all_fresh ls (λ id e k. h id e (posted_later id e (post_of l) (map post_of ls) k)) in
-        let c : sum_by (letter_in (strays words (trace ++ rs)) no_elements Fresh) (l ∷ ls) ≡ letter_in (strays words (trace ++ rs)) no_elements Fresh l + sum_by (letter_in (strays words (trace ++ rs)) no_elements Fresh) ls = sum_by-cons (letter_in (strays words (trace ++ rs)) no_elements Fresh) l ls in
+        let c : sum_by (letter_in (strays words (trace ++ rs)) no_elements Fresh) (l ∷ ls) ≡ letter_in (strays words (trace ++ rs))
+        no_elements Fresh l + sum_by (letter_in (strays words (trace ++ rs)) no_elements Fresh) ls = sum_by-cons
+        (letter_in (strays words (trace ++ rs)) no_elements Fresh) l ls in
         omega (arith, a, b, c)

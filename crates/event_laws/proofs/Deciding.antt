@@ -29,7 +29,8 @@ opens_for n r =
     record {
       counted = length-replicate n 0;
       paired = length-replicate {A = Option (ℕ × ℕ)} n None;
-      uncharged = λ e lt none. slice_get-get_or (replicate n 0) e 0 (let c : length (replicate {A = ℕ} n 0) ≡ n = length-replicate {A = ℕ} n 0 in omega (arith, lt, c)) ∙ ap Some (get_or-replicate n e 0 0 lt);
+      uncharged = λ e lt none. slice_get-get_or (replicate n 0) e 0
+          (let c : length (replicate {A = ℕ} n 0) ≡ n = length-replicate {A = ℕ} n 0 in omega (arith, lt, c)) ∙ ap Some (get_or-replicate n e 0 0 lt);
     }
 
 none_is_some : IsSome {T = ℕ × ℕ} None → ⊥
@@ -110,13 +111,15 @@ module _ {C A : Type 0} (n : ℕ) (w : WorldView C A) (h : Agrees n w) where
         counted = h.counted;
         places = h.places;
         pes = All-weaker (AgreesAt m) (AgreesAt (opening (m.round + 1) (elements m))) (decided_pe m n h.measured complete) w.pes h.pes;
-        queues = All-weaker (All (AgreesOn m)) (All (AgreesOn (opening (m.round + 1) (elements m)))) (λ queue. All-weaker (AgreesOn m) (AgreesOn (opening (m.round + 1) (elements m))) (no_parcel m n h.measured complete) queue) w.queues h.queues;
+        queues = All-weaker (All (AgreesOn m)) (All (AgreesOn (opening (m.round + 1) (elements m))))
+            (λ queue. All-weaker (AgreesOn m) (AgreesOn (opening (m.round + 1) (elements m))) (no_parcel m n h.measured complete) queue) w.queues h.queues;
       }
 
   -- Decide
   pub may_decide_agrees : (b : BoardState A) (reports : List TraceEntry) → MayDecide w.board b reports
       → Agrees n (record { pes = w.pes; queues = w.queues; words = w.words; board = b })
   may_decide_agrees b reports (inl d) =
-      subst (λ (v : BoardState A). Agrees n (record { pes = w.pes; queues = w.queues; words = w.words; board = v })) (sym d.decides.next) (decided_agrees d.decides.kept d.decides.complete)
+      subst (λ (v : BoardState A). Agrees n (record { pes = w.pes; queues = w.queues; words = w.words; board = v })) (sym d.decides.next)
+      (decided_agrees d.decides.kept d.decides.complete)
   may_decide_agrees b reports (inr t) =
       subst (λ (v : BoardState A). Agrees n (record { pes = w.pes; queues = w.queues; words = w.words; board = v })) (sym t.same) h

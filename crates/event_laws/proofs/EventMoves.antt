@@ -75,7 +75,8 @@ module _ {C A : Type 0} (w : WorldView C A) (p : ℕ) (pe : PeView C) (at : slic
   gave_seen q parcel queue a i there =
       still w (with_local w p (record d { pe = gave_up pe; queues = slice_set w.queues q (queue ++ parcel ∷ []) })) []
       (λ g k.
-      let x : sum_from (λ r (y : PeView C). pe_at g k r y) (slice_set w.pes p (gave_up pe)) + pe_at g k p pe ≡ sum_from (λ r (y : PeView C). pe_at g k r y) w.pes + pe_at g k p (gave_up pe) = sum_from-set (λ r (y : PeView C). pe_at g k r y) w.pes p pe (gave_up pe) at in
+      let x : sum_from (λ r (y : PeView C). pe_at g k r y) (slice_set w.pes p (gave_up pe)) + pe_at g k p pe ≡ sum_from
+      (λ r (y : PeView C). pe_at g k r y) w.pes + pe_at g k p (gave_up pe) = sum_from-set (λ r (y : PeView C). pe_at g k r y) w.pes p pe (gave_up pe) at in
       let y = sum_from-set (queue_at g k) w.queues q queue (queue ++ parcel ∷ []) there in
       let z = sum_by_push (parcel_at g k (Bound q)) queue parcel in
       let b = front_bound g k q parcel pe.outbox a i in
@@ -84,7 +85,9 @@ module _ {C A : Type 0} (w : WorldView C A) (p : ℕ) (pe : PeView C) (at : slic
 
   flush_seen : (a : PeView C × List (List Parcel)) → flush_event pe w.queues ≡ Some a → Seen (record d { pe = a.0; queues = a.1 }, [])
   flush_seen a h =
-      option_and_then_some (λ q. option_and_then (λ parcel. option_and_then (λ queue. Some (gave_up pe, slice_set w.queues q (queue ++ parcel ∷ []))) (slice_get w.queues q)) (front_parcel pe.outbox)) (front_address pe.outbox) a h
+      option_and_then_some (λ q. option_and_then (λ parcel. option_and_then
+      (λ queue. Some (gave_up pe, slice_set w.queues q (queue ++ parcel ∷ []))) (slice_get w.queues q)) (front_parcel pe.outbox))
+      (front_address pe.outbox) a h
       (λ q is r.
       option_and_then_some (λ parcel. option_and_then (λ queue. Some (gave_up pe, slice_set w.queues q (queue ++ parcel ∷ []))) (slice_get w.queues q)) (front_parcel pe.outbox) a r
       (λ parcel front s.
@@ -99,7 +102,9 @@ module _ {C A : Type 0} (w : WorldView C A) (p : ℕ) (pe : PeView C) (at : slic
   received_seen queue rest parcel there is none =
       still w (with_local w p (record d { pe = received pe parcel; queues = slice_set w.queues p rest })) []
       (λ g k.
-      let x : sum_from (λ r (y : PeView C). pe_at g k r y) (slice_set w.pes p (received pe parcel)) + pe_at g k p pe ≡ sum_from (λ r (y : PeView C). pe_at g k r y) w.pes + pe_at g k p (received pe parcel) = sum_from-set (λ r (y : PeView C). pe_at g k r y) w.pes p pe (received pe parcel) at in
+      let x : sum_from (λ r (y : PeView C). pe_at g k r y) (slice_set w.pes p (received pe parcel)) + pe_at g k p pe ≡ sum_from
+      (λ r (y : PeView C). pe_at g k r y) w.pes + pe_at g k p (received pe parcel) = sum_from-set (λ r (y : PeView C). pe_at g k r y)
+      w.pes p pe (received pe parcel) at in
       let y = sum_from-set (queue_at g k) w.queues p queue rest there in
       let z : queue_at g k p queue ≡ parcel_at g k (Bound p) parcel + queue_at g k p rest = ap (queue_at g k p) is ∙ sum_by-cons (parcel_at g k (Bound p)) parcel rest in
       let b = held_bound g k p parcel in
@@ -144,23 +149,29 @@ module _ {C A : Type 0} (w : WorldView C A) (p : ℕ) (pe : PeView C) (at : slic
     start_seen : (e : ℕ) (a : PeView C × List TraceEntry) → start_event step pack pe e ≡ Some a → Seen (record d { pe = a.0 }, a.1)
     start_seen e a h =
         option_and_then_some (λ (el : ElementView C). where_true (not el.progress.started) (Some (resumed step pack pe e 0, resume_entries step pack pe e 0))) (found e pe.room) a h
-        (λ el is s. run_seen e 0 el a is (same_Some (resumed step pack pe e 0, resume_entries step pack pe e 0) a (where_some (not el.progress.started) (Some (resumed step pack pe e 0, resume_entries step pack pe e 0)) a s).1))
+        (λ el is s. run_seen e 0 el a is (same_Some (resumed step pack pe e 0, resume_entries step pack pe e 0) a
+        (where_some (not el.progress.started) (Some (resumed step pack pe e 0, resume_entries step pack pe e 0)) a s).1))
 
     go_on_seen : (e : ℕ) (a : PeView C × List TraceEntry) → resume_event step pack p pe w.board e ≡ Some a → Seen (record d { pe = a.0 }, a.1)
     go_on_seen e a h =
         option_and_then_some (λ (at : ℕ × ℕ). where_true (at.1 == p) (Some (resumed step pack pe e at.0, resume_entries step pack pe e at.0))) (due pe w.board e) a h
         (λ at is s.
-        option_and_then_some (λ (el : ElementView C). option_and_then (λ round. option_and_then (λ q. Some (round, q)) (place_in w.board round e)) (waits_for el)) (found e pe.room) at is
-        (λ el there rest. run_seen e at.0 el a there (same_Some (resumed step pack pe e at.0, resume_entries step pack pe e at.0) a (where_some (at.1 == p) (Some (resumed step pack pe e at.0, resume_entries step pack pe e at.0)) a s).1)))
+        option_and_then_some (λ (el : ElementView C). option_and_then
+        (λ round. option_and_then (λ q. Some (round, q)) (place_in w.board round e)) (waits_for el)) (found e pe.room) at is
+        (λ el there rest. run_seen e at.0 el a there (same_Some (resumed step pack pe e at.0, resume_entries step pack pe e at.0) a
+        (where_some (at.1 == p) (Some (resumed step pack pe e at.0, resume_entries step pack pe e at.0)) a s).1)))
 
     -- Depart
     leave_seen : (e : ℕ) (a : PeView C × List ℕ × List TraceEntry) → depart_event step pack p pe w.words w.board e ≡ Some a → Seen (record d { pe = a.0; words = a.1 }, a.2)
     leave_seen e a h =
         option_and_then_some (λ (at : ℕ × ℕ). where_true (not (at.1 == p)) (Some (departed pack pe e at.1, slice_set w.words e at.1, Departed e ∷ []))) (due pe w.board e) a h
         (λ at is s.
-        option_and_then_some (λ (el : ElementView C). option_and_then (λ round. option_and_then (λ q. Some (round, q)) (place_in w.board round e)) (waits_for el)) (found e pe.room) at is
+        option_and_then_some (λ (el : ElementView C). option_and_then
+        (λ round. option_and_then (λ q. Some (round, q)) (place_in w.board round e)) (waits_for el)) (found e pe.room) at is
         (λ el there rest.
-        let t : (departed pack pe e at.1, slice_set w.words e at.1, Departed e ∷ []) ≡ a = same_Some (departed pack pe e at.1, slice_set w.words e at.1, Departed e ∷ []) a (where_some (not (at.1 == p)) (Some (departed pack pe e at.1, slice_set w.words e at.1, Departed e ∷ [])) a s).1 in
+        let t : (departed pack pe e at.1, slice_set w.words e at.1, Departed e ∷ []) ≡ a = same_Some
+        (departed pack pe e at.1, slice_set w.words e at.1, Departed e ∷ []) a
+        (where_some (not (at.1 == p)) (Some (departed pack pe e at.1, slice_set w.words e at.1, Departed e ∷ [])) a s).1 in
         subst (λ (v : PeView C × List ℕ × List TraceEntry). Seen (record d { pe = v.0; words = v.1 }, v.2)) t (departed_here e at.1 el there)))
       where
         departed_here : (e q : ℕ) (el : ElementView C) → found e pe.room ≡ Some el → Seen (record d { pe = departed pack pe e q; words = slice_set w.words e q }, Departed e ∷ [])
@@ -173,7 +184,8 @@ module _ {C A : Type 0} (w : WorldView C A) (p : ℕ) (pe : PeView C) (at : slic
         where
           by : (o : Option (Acting C)) → acting step pack unpack pe ≡ o → option_map (λ (x : Acting C). (x.pe, x.trace)) o ≡ Some a → Seen (record d { pe = a.0 }, a.1)
           by None is s = cc
-          by (Some x) is s = subst (λ (v : PeView C × List TraceEntry). Seen (record d { pe = v.0 }, v.1)) (same_Some (x.pe, x.trace) a s) (acting_moves w p pe at step pack me unpack x is)
+          by (Some x) is s = subst (λ (v : PeView C × List TraceEntry). Seen (record d { pe = v.0 }, v.1)) (same_Some (x.pe, x.trace) a s)
+              (acting_moves w p pe at step pack me unpack x is)
 
       pub local_seen : (event : Event) (a : LocalView C A × List TraceEntry) → pe_of event ≡ Some p → local_step step pack unpack event d ≡ Some a → Seen a
       local_seen (Start r e) a i h = then_seen (start_event step pack pe e) (λ after. (record d { pe = after.0 }, after.1)) a h (λ after is. start_seen e after is)
@@ -181,16 +193,20 @@ module _ {C A : Type 0} (w : WorldView C A) (p : ℕ) (pe : PeView C) (at : slic
       local_seen (Flush r) a i h = then_seen (flush_event pe w.queues) (λ after. (record d { pe = after.0; queues = after.1 }, [])) a h (λ after is. flush_seen after is)
       local_seen (Deliver r) a i h =
           let same : r ≡ p = cc in
-          then_seen (deliver_event pe w.queues r) (λ after. (record d { pe = after.0; queues = after.1 }, [])) a h (λ after is. deliver_seen after (subst (λ (v : ℕ). deliver_event pe w.queues v ≡ Some after) same is))
+          then_seen (deliver_event pe w.queues r) (λ after. (record d { pe = after.0; queues = after.1 }, [])) a h
+          (λ after is. deliver_seen after (subst (λ (v : ℕ). deliver_event pe w.queues v ≡ Some after) same is))
       local_seen (Act r) a i h = then_seen (act_event step pack unpack pe) (λ after. (record d { pe = after.0 }, after.1)) a h (λ after is. act_seen after is)
-      local_seen (Report r) a i h = then_seen (report_event pe w.board) (λ after. (record d { pe = after.0; board = after.1 }, after.2)) a h (λ after is. report_event_seen after is)
+      local_seen (Report r) a i h = then_seen (report_event pe w.board) (λ after. (record d { pe = after.0; board = after.1 }, after.2)) a h
+          (λ after is. report_event_seen after is)
       local_seen Decide a i h = cc
       local_seen (Depart r e) a i h =
           let same : r ≡ p = cc in
-          then_seen (depart_event step pack r pe w.words w.board e) (λ after. (record d { pe = after.0; words = after.1 }, after.2)) a h (λ after is. leave_seen e after (subst (λ (v : ℕ). depart_event step pack v pe w.words w.board e ≡ Some after) same is))
+          then_seen (depart_event step pack r pe w.words w.board e) (λ after. (record d { pe = after.0; words = after.1 }, after.2)) a h
+          (λ after is. leave_seen e after (subst (λ (v : ℕ). depart_event step pack v pe w.words w.board e ≡ Some after) same is))
       local_seen (Resume r e) a i h =
           let same : r ≡ p = cc in
-          then_seen (resume_event step pack r pe w.board e) (λ after. (record d { pe = after.0 }, after.1)) a h (λ after is. go_on_seen e after (subst (λ (v : ℕ). resume_event step pack v pe w.board e ≡ Some after) same is))
+          then_seen (resume_event step pack r pe w.board e) (λ after. (record d { pe = after.0 }, after.1)) a h
+          (λ after is. go_on_seen e after (subst (λ (v : ℕ). resume_event step pack v pe w.board e ≡ Some after) same is))
 
 module _ {C A : Type 0} (step : Step C) (pack : C → List ℕ) (unpack : List ℕ → Result (C × ℕ) PupError) (w : WorldView C A) (numbered : Numbered w) where
   abbrev pub Moves : After C A → Type 0

@@ -79,12 +79,14 @@ module _ {C A : Type 0} (n : ℕ) (w : WorldView C A) (s : Sound n w) (e : ℕ) 
   in_room : 1 ≤ count_in e x.pe.room
   in_room = found_counts e x.el x.pe.room stands x.mine
 
-  parts : of_hand no_letter (by_index (one_at e)) x.pe.hand + (sum_by (of_item no_letter (by_index (one_at e))) x.pe.outbox + (sum_by (weigh no_letter) x.pe.shelf + count_in e x.pe.room)) ≤ 1
+  parts : of_hand no_letter (by_index (one_at e)) x.pe.hand + (sum_by (of_item no_letter (by_index (one_at e)))
+      x.pe.outbox + (sum_by (weigh no_letter) x.pe.shelf + count_in e x.pe.room)) ≤ 1
   parts = pe_le_one no_letter (by_index (one_at e)) w at_most x.p x.pe x.at
 
   on_pe : 1 ≤ of_pe no_letter (by_index (one_at e)) x.pe
   on_pe =
-      let k : of_pe no_letter (by_index (one_at e)) x.pe ≡ of_hand no_letter (by_index (one_at e)) x.pe.hand + (sum_by (of_item no_letter (by_index (one_at e))) x.pe.outbox + (sum_by (weigh no_letter) x.pe.shelf + count_in e x.pe.room)) = refl in
+      let k : of_pe no_letter (by_index (one_at e)) x.pe ≡ of_hand no_letter (by_index (one_at e))
+      x.pe.hand + (sum_by (of_item no_letter (by_index (one_at e))) x.pe.outbox + (sum_by (weigh no_letter) x.pe.shelf + count_in e x.pe.room)) = refl in
       let i = in_room in
       omega (arith, k, i)
 
@@ -106,7 +108,8 @@ module _ {C A : Type 0} (n : ℕ) (w : WorldView C A) (s : Sound n w) (e : ℕ) 
       let a = parts in
       let i = in_room in
       record {
-        room = values_but (AgreesWith w.board.database x.pe.me x.pe.notes) (λ (el : ElementView C). HasFinished e el.index el.progress) e x.el x.pe.room here.keyed (omega (arith, a)) x.mine stands here.room
+        room = values_but (AgreesWith w.board.database x.pe.me x.pe.notes) (λ (el : ElementView C). HasFinished e el.index el.progress) e
+            x.el x.pe.room here.keyed (omega (arith, a)) x.mine stands here.room
             (λ el k ne q. absurd (ne q)) (λ q. x.done);
         hand = not_held x.pe.hand (omega (arith, a, i));
         outbox = not_boxed x.pe.outbox (omega (arith, a, i));
@@ -114,9 +117,11 @@ module _ {C A : Type 0} (n : ℕ) (w : WorldView C A) (s : Sound n w) (e : ℕ) 
 
   other_pe : (pe : PeView C) → of_pe no_letter (by_index (one_at e)) pe ≡ 0 → HoldsOn (HasFinished e) pe
   other_pe pe z =
-      let split : of_hand no_letter (by_index (one_at e)) pe.hand + (sum_by (of_item no_letter (by_index (one_at e))) pe.outbox + (sum_by (weigh no_letter) pe.shelf + count_in e pe.room)) ≡ 0 = z in
+      let split : of_hand no_letter (by_index (one_at e))
+      pe.hand + (sum_by (of_item no_letter (by_index (one_at e))) pe.outbox + (sum_by (weigh no_letter) pe.shelf + count_in e pe.room)) ≡ 0 = z in
       record {
-        room = All-weaker (λ (el : ElementView C). one_at e el.index ≡ 0) (λ (el : ElementView C). HasFinished e el.index el.progress) (λ el k q. absurd (not_at e el.index k q)) (values_of pe.room)
+        room = All-weaker (λ (el : ElementView C). one_at e el.index ≡ 0) (λ (el : ElementView C). HasFinished e el.index el.progress)
+            (λ el k q. absurd (not_at e el.index k q)) (values_of pe.room)
             (each_zero (of_element no_letter (by_index (one_at e))) (values_of pe.room) (omega (arith, split)));
         hand = not_held pe.hand (omega (arith, split));
         outbox = not_boxed pe.outbox (omega (arith, split));
@@ -159,7 +164,8 @@ module _ {C A : Type 0} (step : Step C) (pack : C → List ℕ) (unpack : List �
       let both = where_some (nat_lt j (elements b.database)) (Some (after_finish b j)) board t in
       ap (λ (v : BoardState A). length v.finished) (sym (same_Some (after_finish b j) board both.1)) ∙ length-set {A = Bool} b.finished j true
   counted_after b (Sync i r u y q) board t =
-      let both = where_some (nat_lt q b.pes && (nat_lt i (elements b.database) && ((r == b.database.round) && is_none (report_of b.database i)))) (Some (after_report b i u y q)) board t in
+      let both = where_some (nat_lt q b.pes && (nat_lt i (elements b.database) &&
+      ((r == b.database.round) && is_none (report_of b.database i)))) (Some (after_report b i u y q)) board t in
       ap (λ (v : BoardState A). length v.finished) (sym (same_Some (after_report b i u y q) board both.1))
 
   event_counted : (w : WorldView C A) (event : Event) (next : After C A) → Happens step pack unpack w event next → length next.0.board.finished ≡ length w.board.finished
@@ -211,7 +217,8 @@ module _ {C A : Type 0} (step : Step C) (pack : C → List ℕ) (unpack : List �
         event_holds step pack (ToldIn (IsSaid next.0)) unpack (λ v. (i : ℕ) → IsSaid v i → IsSaid next.0 i) w
         (λ p pe f done hand el there is g finished.
         let here : HoldsOn (ToldIn (IsSaid next.0)) pe = at_place (HoldsOn (ToldIn (IsSaid next.0))) w.pes p pe more.pes there in
-        new p pe f done hand el there is g (of_found (λ (x : ElementView C). ToldIn (IsSaid next.0) x.index x.progress) f el pe.room here.room is) (ran_new step pack el pe.n pe.me done finished))
+        new p pe f done hand el there is g (of_found (λ (x : ElementView C). ToldIn (IsSaid next.0) x.index x.progress) f el pe.room
+        here.room is) (ran_new step pack el pe.n pe.me done finished))
         event next more happens (λ i s. s)
       where
         new : (p : ℕ) (pe : PeView C) (f : ℕ) (done : Done) (hand : Option Item) (el : ElementView C) → slice_get w.pes p ≡ Some pe → found f pe.room ≡ Some el
@@ -255,9 +262,12 @@ module _ {C : Type 0} (A : Type 0) (pes : ℕ) (chares : List C) (strategy : Str
   unfinished : (pe : PeView C) → OpensAt (opening 1 (length chares)) pe → HoldsOn (ToldIn (IsSaid opened)) pe
   unfinished pe h =
       record {
-        room = All-weaker (λ (el : ElementView C). el.progress.finished ≡ false) (λ (el : ElementView C). ToldIn (IsSaid opened) el.index el.progress) (λ el f t. absurd (true_not_false el.progress.finished t f)) (values_of pe.room) h.unfinished;
+        room = All-weaker (λ (el : ElementView C). el.progress.finished ≡ false)
+            (λ (el : ElementView C). ToldIn (IsSaid opened) el.index el.progress)
+            (λ el f t. absurd (true_not_false el.progress.finished t f)) (values_of pe.room) h.unfinished;
         hand = subst (λ (v : Option Item). IfSome v (λ x. HoldsIn (ToldIn (IsSaid opened)) x.parcel)) (sym h.no_hand) tt;
-        outbox = subst (λ (v : List Item). All (λ x. HoldsIn (ToldIn (IsSaid opened)) x.parcel) v) (sym h.no_outbox) (All-nil (λ (x : Item). HoldsIn (ToldIn (IsSaid opened)) x.parcel));
+        outbox = subst (λ (v : List Item). All (λ x. HoldsIn (ToldIn (IsSaid opened)) x.parcel) v) (sym h.no_outbox)
+            (All-nil (λ (x : Item). HoldsIn (ToldIn (IsSaid opened)) x.parcel));
       }
 
   pub opening_said : Sound (length chares) opened → SaidSo (length chares) opened
@@ -299,7 +309,8 @@ module _ {C A : Type 0} (n : ℕ) (w : WorldView C A) (h : SaidSo n w) where
   known =
       record {
         pes = All-weaker (AgreesAt w.board.database) (HoldsOn Known) pe_known w.pes h.sound.agrees.pes;
-        queues = All-weaker (All (AgreesOn w.board.database)) (All (HoldsIn Known)) (λ queue. All-weaker (AgreesOn w.board.database) (HoldsIn Known) parcel_known queue) w.queues h.sound.agrees.queues;
+        queues = All-weaker (All (AgreesOn w.board.database)) (All (HoldsIn Known))
+            (λ queue. All-weaker (AgreesOn w.board.database) (HoldsIn Known) parcel_known queue) w.queues h.sound.agrees.queues;
       }
 
   said : HoldsOfEach (λ e p. IsSaid w e → p.finished ≡ true) w

@@ -90,7 +90,8 @@ module _ {C : Type 0} (m : Measured) (me : ℕ) where
     pub owing : All (IsOwed m me room) notes
     pub once : (e : ℕ) → times (is_wait_of e) notes ≤ 1
 
-  module _ (room : List (ℕ × ElementView C)) (notes : List Note) (e : ℕ) (el x : ElementView C) (note : Option Note) (h : RoomAgrees room notes) (at : found e room ≡ Some el) (turn : Turn notes el x note) where
+  module _ (room : List (ℕ × ElementView C)) (notes : List Note) (e : ℕ) (el x : ElementView C) (note : Option Note)
+      (h : RoomAgrees room notes) (at : found e room ≡ Some el) (turn : Turn notes el x note) where
     here : x.index ≡ e
     here = turn.same ∙ found_index e el room h.keyed at
 
@@ -132,12 +133,14 @@ module _ {C : Type 0} (m : Measured) (me : ℕ) where
             let s : x.index ≡ i = wait_is i y x.index m.round both.0.units both.0.bytes me both.0.says t in
             let same : e ≡ i = sym here ∙ s in
             let z : times (is_wait_of i) notes ≡ 0 = subst (λ (v : ℕ). times (is_wait_of v) notes ≡ 0) same (none_owed room notes e el at both.1 h.owing) in
-            let c : times (is_wait_of i) (notes ++ y ∷ []) ≡ times (is_wait_of i) notes + times (is_wait_of i) (y ∷ []) = sum_by-append (λ (v : Note). one_if (is_wait_of i v)) notes (y ∷ []) in
+            let c : times (is_wait_of i) (notes ++ y ∷ []) ≡ times (is_wait_of i) notes + times (is_wait_of i) (y ∷ []) = sum_by-append
+            (λ (v : Note). one_if (is_wait_of i v)) notes (y ∷ []) in
             let d : times (is_wait_of i) (y ∷ []) ≡ one_if (is_wait_of i y) + 0 = sum_by-cons (λ (v : Note). one_if (is_wait_of i v)) y [] in
             let f : one_if (is_wait_of i y) ≡ 1 = ap one_if t in
             omega (arith, z, c, d, f)
         by false t =
-            let c : times (is_wait_of i) (notes ++ y ∷ []) ≡ times (is_wait_of i) notes + times (is_wait_of i) (y ∷ []) = sum_by-append (λ (v : Note). one_if (is_wait_of i v)) notes (y ∷ []) in
+            let c : times (is_wait_of i) (notes ++ y ∷ []) ≡ times (is_wait_of i) notes + times (is_wait_of i) (y ∷ []) = sum_by-append
+            (λ (v : Note). one_if (is_wait_of i v)) notes (y ∷ []) in
             let d : times (is_wait_of i) (y ∷ []) ≡ one_if (is_wait_of i y) + 0 = sum_by-cons (λ (v : Note). one_if (is_wait_of i v)) y [] in
             let f : one_if (is_wait_of i y) ≡ 0 = ap one_if t in
             omega (arith, c, d, f, h.once i)
@@ -221,7 +224,8 @@ module _ {C : Type 0} (m : Measured) (me : ℕ) (notes : List Note) (el : Elemen
           waits = refl;
           at_round = w.at_round;
           silent = w.silent;
-          marked = Contains-append_right el.marks (more ++ Synced (Sync el.index (p.round + 1) p.load bytes me) ∷ []) (Synced (Sync el.index (p.round + 1) p.load bytes me)) (Contains-push more (Synced (Sync el.index (p.round + 1) p.load bytes me)));
+          marked = Contains-append_right el.marks (more ++ Synced (Sync el.index (p.round + 1) p.load bytes me) ∷ [])
+              (Synced (Sync el.index (p.round + 1) p.load bytes me)) (Contains-push more (Synced (Sync el.index (p.round + 1) p.load bytes me)));
         }
 
     state_at_work : (E : Ending) → IsInSomeState m me (notes ++ option_to_list (owed E)) (after E)

@@ -37,7 +37,8 @@ module _ {C : Type 0} (step : Step C) (pack : C → List ℕ) (P : ℕ → Progr
 
   letters_hold : (me k : ℕ) (sends : List (ℕ × List ℕ)) → All Boxed (letters_of {P = PackedView} me k sends)
   letters_hold me k [] = All-nil Boxed
-  letters_hold me k (send ∷ sends) = All-cons Boxed (record { parcel = Letter (letter_to me k send.0 send.1); address = None }) (letters_of {P = PackedView} me (k + 1) sends) tt (letters_hold me (k + 1) sends)
+  letters_hold me k (send ∷ sends) = All-cons Boxed (record { parcel = Letter (letter_to me k send.0 send.1); address = None })
+      (letters_of {P = PackedView} me (k + 1) sends) tt (letters_hold me (k + 1) sends)
 
   unshelved_hold : (q : ℕ) (letters : List LetterView) → All Boxed (map (letter_at q) letters)
   unshelved_hold q [] = All-nil Boxed
@@ -55,7 +56,8 @@ module _ {C : Type 0} (step : Step C) (pack : C → List ℕ) (P : ℕ → Progr
     handled_holds e done hand el at new held =
         let there : ran_in step pack pe.room e pe.n pe.me done ≡ changed e (ran step pack el pe.n pe.me done) pe.room = rw at refl in
         record {
-          room = subst (λ (v : List (ℕ × ElementView C)). All Standing (values_of v)) (sym there) (All-values-set_value (is_at (nat_cmp e)) Standing pe.room (ran step pack el pe.n pe.me done) h.room new);
+          room = subst (λ (v : List (ℕ × ElementView C)). All Standing (values_of v)) (sym there)
+              (All-values-set_value (is_at (nat_cmp e)) Standing pe.room (ran step pack el pe.n pe.me done) h.room new);
           hand = held;
           outbox = All-append Boxed pe.outbox _ h.outbox (letters_hold pe.me pe.count _);
         }
@@ -98,7 +100,8 @@ module _ {C : Type 0} (step : Step C) (pack : C → List ℕ) (P : ℕ → Progr
 
   -- Of the element that a handler ran it holds where something else is known of what the PE sees then.
   module _ {A : Type 0} (G : LocalView C A → Type 0) (p : ℕ) (d : LocalView C A) (h : HoldsOn P d.pe) (k : All (All (HoldsIn P)) d.queues)
-      (runs : (e : ℕ) (done : Done) (hand : Option Item) (el : ElementView C) → found e d.pe.room ≡ Some el → G (record d { pe = handled step pack d.pe e done hand }) → P el.index (ran step pack el d.pe.n d.pe.me done).progress) where
+      (runs : (e : ℕ) (done : Done) (hand : Option Item) (el : ElementView C) → found e d.pe.room ≡ Some el
+      → G (record d { pe = handled step pack d.pe e done hand }) → P el.index (ran step pack el d.pe.n d.pe.me done).progress) where
     abbrev pub LocalHolds : LocalView C A × List TraceEntry → Type 0
     LocalHolds a = G a.0 → HoldsOn P a.0.pe × All (All (HoldsIn P)) a.0.queues
 
@@ -110,7 +113,8 @@ module _ {C : Type 0} (step : Step C) (pack : C → List ℕ) (P : ℕ → Progr
           looks = λ word g. (looked_in_holds d.pe h word (hand_wants d.pe), k);
           flushes = λ q parcel queue front there g. (
             record { room = h.room; hand = h.hand; outbox = All-drop Boxed 1 d.pe.outbox h.outbox },
-            All-set (All (HoldsIn P)) d.queues q (queue ++ parcel ∷ []) (All-push (HoldsIn P) queue parcel (at_place (All (HoldsIn P)) d.queues q queue k there) (front_holds d.pe.outbox parcel h.outbox front)) k,
+            All-set (All (HoldsIn P)) d.queues q (queue ++ parcel ∷ [])
+                (All-push (HoldsIn P) queue parcel (at_place (All (HoldsIn P)) d.queues q queue k there) (front_holds d.pe.outbox parcel h.outbox front)) k,
           );
           delivers = λ queue rest parcel there hand is g.
               let all : All (HoldsIn P) (parcel ∷ rest) = subst (All (HoldsIn P)) is (at_place (All (HoldsIn P)) d.queues p queue k there) in (
@@ -137,7 +141,8 @@ module _ {C : Type 0} (step : Step C) (pack : C → List ℕ) (P : ℕ → Progr
           same = λ g. h;
           turn = λ p pe there.
               let here : HoldsOn P pe = at_place (HoldsOn P) w.pes p pe h.pes there in
-              each_map step pack p (local_view w pe) (LocalHolds (λ d. G (with_local w p d)) p (local_view w pe) here h.queues (λ e done hand el is. runs p pe e done hand el there is)) (λ a. G (with_local w p a.0) → HoldsOfEach P (with_local w p a.0))
+              each_map step pack p (local_view w pe) (LocalHolds (λ d. G (with_local w p d)) p (local_view w pe) here h.queues
+              (λ e done hand el is. runs p pe e done hand el there is)) (λ a. G (with_local w p a.0) → HoldsOfEach P (with_local w p a.0))
               (λ a k g. record { pes = All-set (HoldsOn P) w.pes p a.0.pe (k g).0 h.pes; queues = (k g).1 })
               (each_holds (λ d. G (with_local w p d)) p (local_view w pe) here h.queues (λ e done hand el is. runs p pe e done hand el there is));
           decides = λ board d g. record { pes = h.pes; queues = h.queues };
@@ -157,16 +162,19 @@ module _ (P Q R : ℕ → Progress → Type 0) (gives : (e : ℕ) (p : Progress)
   pub pe_two : {C : Type 0} (pe : PeView C) → HoldsOn P pe → HoldsOn Q pe → HoldsOn R pe
   pe_two {C} pe h k =
       record {
-        room = all_two (λ (el : ElementView C). P el.index el.progress) (λ (el : ElementView C). Q el.index el.progress) (λ (el : ElementView C). R el.index el.progress) (λ el a b. gives el.index el.progress a b) (values_of pe.room) h.room k.room;
+        room = all_two (λ (el : ElementView C). P el.index el.progress) (λ (el : ElementView C). Q el.index el.progress)
+            (λ (el : ElementView C). R el.index el.progress) (λ el a b. gives el.index el.progress a b) (values_of pe.room) h.room k.room;
         hand = hand_two pe.hand h.hand k.hand;
-        outbox = all_two (λ (x : Item). HoldsIn P x.parcel) (λ (x : Item). HoldsIn Q x.parcel) (λ (x : Item). HoldsIn R x.parcel) (λ x a b. parcel_two x.parcel a b) pe.outbox h.outbox k.outbox;
+        outbox = all_two (λ (x : Item). HoldsIn P x.parcel) (λ (x : Item). HoldsIn Q x.parcel) (λ (x : Item). HoldsIn R x.parcel)
+            (λ x a b. parcel_two x.parcel a b) pe.outbox h.outbox k.outbox;
       }
 
   pub each_two : {C A : Type 0} (w : WorldView C A) → HoldsOfEach P w → HoldsOfEach Q w → HoldsOfEach R w
   each_two w h k =
       record {
         pes = all_two (HoldsOn P) (HoldsOn Q) (HoldsOn R) pe_two w.pes h.pes k.pes;
-        queues = all_two (All (HoldsIn P)) (All (HoldsIn Q)) (All (HoldsIn R)) (λ queue a b. all_two (HoldsIn P) (HoldsIn Q) (HoldsIn R) parcel_two queue a b) w.queues h.queues k.queues;
+        queues = all_two (All (HoldsIn P)) (All (HoldsIn Q)) (All (HoldsIn R))
+            (λ queue a b. all_two (HoldsIn P) (HoldsIn Q) (HoldsIn R) parcel_two queue a b) w.queues h.queues k.queues;
       }
 
 pub each_one : {C A : Type 0} (P R : ℕ → Progress → Type 0) → ((e : ℕ) (p : Progress) → P e p → R e p) → (w : WorldView C A) → HoldsOfEach P w → HoldsOfEach R w

@@ -97,7 +97,9 @@ module _ (words : List ℕ) (trace rs : List TraceEntry)
           let to : l.to ≡ e = grind (arith, nat_tests) in
           let r = right_is words trace (Chasing q) l.id l.to right in
           let close : forwards l.id trace + 1 ≤ departed_since l.id l.to trace = r.2.0 in
-          let near : forwards id trace + 1 ≤ departed_since id e trace = subst (λ (u : ℕ × ℕ). forwards u trace + 1 ≤ departed_since u e trace) same (subst (λ (v : ℕ). forwards l.id trace + 1 ≤ departed_since l.id v trace) to close) in
+          let near : forwards id trace + 1 ≤ departed_since id e trace = subst
+          (λ (u : ℕ × ℕ). forwards u trace + 1 ≤ departed_since u e trace) same
+          (subst (λ (v : ℕ). forwards l.id trace + 1 ≤ departed_since l.id v trace) to close) in
           let once : forwards id rs ≡ 1 = ap (forwards id) is ∙ subst (λ (u : ℕ × ℕ). forwards u (Trace.Forwarded l.id ∷ []) ≡ 1) same (forwarded_once words trace l.id) in
           let more = since_more id e trace rs in
           let j = forwards_join id trace rs in
@@ -148,7 +150,8 @@ module _ {C A : Type 0} (w w' : WorldView C A) (rs trace : List TraceEntry) (h :
   chasing_next c =
       let f : Forwarding w.words trace rs = forwarding w c.stays rs trace h.lag c.move c.takes c.facts in
       record {
-        lag = subst (λ (v : List ℕ). world_at (strays v (trace ++ rs)) no_elements w' ≡ 0) (sym c.words) (lag_after w w' c.stays rs trace h one few named c.move c.takes c.puts c.facts);
+        lag = subst (λ (v : List ℕ). world_at (strays v (trace ++ rs)) no_elements w' ≡ 0) (sym c.words)
+            (lag_after w w' c.stays rs trace h one few named c.move c.takes c.puts c.facts);
         away = away_after w w' c.stays rs trace h one few named c.move c.takes c.puts c.facts;
         hops = hops_after w.words trace rs one h.hops h.unposted f;
         unposted = unposted_after w.words trace rs one h.hops h.unposted f;

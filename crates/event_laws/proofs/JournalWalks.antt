@@ -106,7 +106,8 @@ module _ {C : Type 0} (step : Step C) (pack : C → List ℕ) (n e : ℕ) (chare
     pub at : IsAt step pack n e chare journal (ran step pack el n x.1 x.0) others (k + 1)
     pub left : drop (k + 1) journal ≡ map (λ y. y.0) rest
     pub reached : ending_of step pack el n x.0 ≡ Syncs → Reached step pack n e chare journal k ((worked step pack el n x.0).round + 1)
-    pub resumed : Follow el.progress (map stop_of (resumed_mark x.1 x.0 ++ (synced_mark (note_of step pack el n x.1 x.0) ++ marks_over step pack (ran step pack el n x.1 x.0) n rest)))
+    pub resumed : Follow el.progress (map stop_of (resumed_mark x.1 x.0
+        ++ (synced_mark (note_of step pack el n x.1 x.0) ++ marks_over step pack (ran step pack el n x.1 x.0) n rest)))
     pub works : Works (worked step pack el n x.0) (k + 1)
     pub within : works.first ≤ k
     pub turn : Follow (worked step pack el n x.0) (map stop_of (synced_mark (note_of step pack el n x.1 x.0) ++ marks_over step pack (ran step pack el n x.1 x.0) n rest))
@@ -118,7 +119,8 @@ module _ {C : Type 0} (step : Step C) (pack : C → List ℕ) (n e : ℕ) (chare
       let more = marks_over step pack (ran step pack el n x.1 x.0) n rest in
       let turns = subst (λ (v : List Mark). Follow el.progress (map stop_of v)) (append_assoc (resumed_mark x.1 x.0) sync more) w.turn in
       let one = works_entered el.progress k x.1 x.0 (sync ++ more) w.works turns in
-      let two = works_charged (entered el.progress x.0) k (outcome_of step pack el n x.0).effect.units one.0 (units_here step pack n e chare journal k x.0 el w.others here.0 w.at) in
+      let two = works_charged (entered el.progress x.0) k (outcome_of step pack el n x.0).effect.units one.0
+      (units_here step pack n e chare journal k x.0 el w.others here.0 w.at) in
       record {
         is_entry = here.0;
         others = w.others ++ (resumed_mark 0 x.0 ++ synced_mark (note_of step pack el n 0 x.0));
@@ -151,7 +153,8 @@ all_marks {C} step pack opened el h =
     sym (lived_marks step pack (opening_element el.index h.opening) (length opened) h.entries) ∙ ap (λ (v : ElementView C). v.marks) h.is_lived
 
 -- an element that is in order has handled its journal so
-pub all_walks : {C : Type 0} (step : Step C) (pack : C → List ℕ) (opened : List C) (el : ElementView C) (h : IsHistory step pack opened el) → IsInOrder el.journal el.progress el.marks
+pub all_walks : {C : Type 0} (step : Step C) (pack : C → List ℕ) (opened : List C) (el : ElementView C) (h : IsHistory step pack opened el)
+    → IsInOrder el.journal el.progress el.marks
     → Walks step pack (length opened) el.index h.opening el.journal (opening_element el.index h.opening) h.entries 0
 all_walks {C} step pack opened el h order =
     let stops : map stop_of (marks_over step pack (opening_element el.index h.opening) (length opened) h.entries) ≡ stops_by el.progress =

@@ -32,7 +32,8 @@ IsRight posted hops gone word s = (posted ≡ true) × (hops ≤ gone) × IsClos
 -- 1 at a letter of which that is not so
 abbrev pub strays : List ℕ → List TraceEntry → LetterWeight
 strays words trace s id to =
-    if was_posted id to trace && (nat_le (forwards id trace) (departed_since id to trace) && is_close (forwards id trace) (departed_since id to trace) (slice_get words to) s) then 0 else 1
+    if was_posted id to trace && (nat_le (forwards id trace) (departed_since id to trace) && is_close (forwards id trace)
+    (departed_since id to trace) (slice_get words to) s) then 0 else 1
 
 or_is : (a b : Bool) → (a || b) ≡ true → (a ≡ true) ⊎ (b ≡ true)
 or_is true b h = inl refl
@@ -81,8 +82,10 @@ close_of : (hops gone : ℕ) (word : Option ℕ) (s : Site) → IsClose hops gon
 close_of hops gone word Fresh h = refl
 close_of hops gone word (Bound a) (inl x) = or_left (nat_lt hops gone) (is_pe a word) (lt_of hops gone x)
 close_of hops gone word (Bound a) (inr x) = or_right (nat_lt hops gone) (is_pe a word) (is_word_of word a x)
-close_of hops gone word (Chasing q) (x, inl y) = and_of (nat_lt hops gone) (nat_lt (hops + 1) gone || is_pe q word) (lt_of hops gone x) (or_left (nat_lt (hops + 1) gone) (is_pe q word) (lt_of (hops + 1) gone (omega (arith, y))))
-close_of hops gone word (Chasing q) (x, inr y) = and_of (nat_lt hops gone) (nat_lt (hops + 1) gone || is_pe q word) (lt_of hops gone x) (or_right (nat_lt (hops + 1) gone) (is_pe q word) (is_word_of word q y))
+close_of hops gone word (Chasing q) (x, inl y) = and_of (nat_lt hops gone) (nat_lt (hops + 1) gone || is_pe q word) (lt_of hops gone x)
+    (or_left (nat_lt (hops + 1) gone) (is_pe q word) (lt_of (hops + 1) gone (omega (arith, y))))
+close_of hops gone word (Chasing q) (x, inr y) = and_of (nat_lt hops gone) (nat_lt (hops + 1) gone || is_pe q word) (lt_of hops gone x)
+    (or_right (nat_lt (hops + 1) gone) (is_pe q word) (is_word_of word q y))
 close_of hops gone word (Waiting p) h = is_word_of word p h
 close_of hops gone word (Room p key) h = refl
 
@@ -94,7 +97,8 @@ module _ (words : List ℕ) (trace : List TraceEntry) (s : Site) (id : ℕ × �
   right_is h =
       let hops : ℕ = forwards id trace in
       let gone : ℕ = departed_since id to trace in
-      let a = and_parts (was_posted id to trace) (nat_le hops gone && is_close hops gone (slice_get words to) s) (right_zero (was_posted id to trace && (nat_le hops gone && is_close hops gone (slice_get words to) s)) h) in
+      let a = and_parts (was_posted id to trace) (nat_le hops gone && is_close hops gone (slice_get words to) s)
+      (right_zero (was_posted id to trace && (nat_le hops gone && is_close hops gone (slice_get words to) s)) h) in
       let b = and_parts (nat_le hops gone) (is_close hops gone (slice_get words to) s) a.1 in
       (a.0, le_is hops gone b.0, close_is hops gone (slice_get words to) s b.1)
 
@@ -151,7 +155,8 @@ module _ (words words' : List ℕ) (trace rs : List TraceEntry) (s : Site) (id :
       let fewer = r.1 in
       let hops = hops_same id trace rs none in
       let j = since_join id to trace rs in
-      let k : (if was_posted id to trace then departures to rs else departed_since id to rs) ≡ departures to rs = ap (λ (v : Bool). if v then departures to rs else departed_since id to rs) r.0 in
+      let k : (if was_posted id to trace then departures to rs else departed_since id to rs) ≡ departures to rs = ap
+      (λ (v : Bool). if v then departures to rs else departed_since id to rs) r.0 in
       let gone : departed_since id to (trace ++ rs) ≡ departed_since id to trace + 1 = omega (arith, j, k, one) in
       right_of words' (trace ++ rs) s id to (
         posted_more id to trace rs r.0,

@@ -120,7 +120,9 @@ module _ {C A : Type 0} (w w' stays : WorldView C A) (rs trace : List TraceEntry
       let d = few l.id in
       let e = own_number l.id in
       let s = stay_forwarded stays w.words w.words trace rs l.id is refl (omega (arith, c, d, e)) (omega (arith, a, k)) in
-      let n : letter_in (strays w.words (trace ++ rs)) no_elements (Bound q) l ≡ 0 = subst (λ (v : List TraceEntry). letter_in (strays w.words (trace ++ v)) no_elements (Bound q) l ≡ 0) (sym is) (forwarded_right w.words trace q l (omega (arith, a, k))) in
+      let n : letter_in (strays w.words (trace ++ rs)) no_elements (Bound q) l ≡ 0 = subst
+      (λ (v : List TraceEntry). letter_in (strays w.words (trace ++ v)) no_elements (Bound q) l ≡ 0) (sym is)
+      (forwarded_right w.words trace q l (omega (arith, a, k))) in
       omega (arith, b, s, n)
   lag_after (Installs r e letters) t p (is, none) =
       let a = t (strays w.words trace) no_elements in
@@ -129,7 +131,8 @@ module _ {C A : Type 0} (w w' stays : WorldView C A) (rs trace : List TraceEntry
       let calm : AreCalm rs = subst AreCalm (sym is) (calm_quiet (Trace.Installed e) [] tt calm_nil) in
       let s = stay_calm stays w.words w.words trace rs calm.no_forward refl (omega (arith, a, k)) in
       let old : sum_by (letter_in (strays w.words trace) no_elements (Waiting r)) letters ≡ 0 = omega (arith, a, k) in
-      let n = zeros_by (letter_in (strays w.words trace) no_elements (Waiting r)) (letter_in (strays w.words trace) no_elements (Waiting r)) (letter_in (strays w.words (trace ++ rs)) no_elements (Bound r)) letters
+      let n = zeros_by (letter_in (strays w.words trace) no_elements (Waiting r)) (letter_in (strays w.words trace) no_elements (Waiting r))
+      (letter_in (strays w.words (trace ++ rs)) no_elements (Bound r)) letters
       (λ l x y. unshelved_right w.words (trace ++ rs) r l (stays_right w.words w.words trace rs (Waiting r) l.id l.to (calm.no_forward l.id) refl x)) old old in
       omega (arith, b, s, n)
   lag_after (Departs r e i q) t p is =
@@ -178,7 +181,8 @@ module _ {C A : Type 0} (w w' stays : WorldView C A) (rs trace : List TraceEntry
       by zero z a b c d = keeps_away p e (omega (arith, a, b, z)) (omega (arith, c, d)) le
       by (suc n) z a b c d =
           let s = look_waits p e r q l.id l.to (omega (arith, z)) in
-          let x : world_at no_letters (in_room p e) w ≡ 0 = subst (λ (v : ℕ). world_at no_letters (in_room v e) w ≡ 0) s.0 (subst (λ (v : ℕ). world_at no_letters (in_room r v) w ≡ 0) s.1 none) in
+          let x : world_at no_letters (in_room p e) w ≡ 0 = subst (λ (v : ℕ). world_at no_letters (in_room v e) w ≡ 0) s.0
+          (subst (λ (v : ℕ). world_at no_letters (in_room r v) w ≡ 0) s.1 none) in
           omega (arith, c, d, x)
   away_after (Addresses q l) t u f p e le =
       let a = t (waits_at p e) no_elements in
@@ -214,7 +218,8 @@ module _ {C A : Type 0} (w w' stays : WorldView C A) (rs trace : List TraceEntry
       by zero z fewer more less new = keeps_away p e (omega (arith, fewer, more)) (omega (arith, new, z, less)) le
       by (suc n) z fewer more less new =
           let s = room_same p e r i i (omega (arith, z)) in
-          let x : world_at (waits_at p e) no_elements stays ≡ 0 = subst (λ (v : ℕ). world_at (waits_at v e) no_elements stays ≡ 0) s.0 (subst (λ (v : ℕ). world_at (waits_at r v) no_elements stays ≡ 0) s.1 none) in
+          let x : world_at (waits_at p e) no_elements stays ≡ 0 = subst (λ (v : ℕ). world_at (waits_at v e) no_elements stays ≡ 0) s.0
+          (subst (λ (v : ℕ). world_at (waits_at r v) no_elements stays ≡ 0) s.1 none) in
           absurd (omega (arith, fewer, x, le))
   away_after (Departs r i j q) t u f p e le =
       let a = t (waits_at p e) no_elements in

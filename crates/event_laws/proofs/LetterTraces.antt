@@ -54,8 +54,10 @@ pub since_join : (id : ℕ × ℕ) (e : ℕ) (xs ys : List TraceEntry)
 since_join id e [] ys = omega arith
 since_join id e (r ∷ rs) ys = by (posts_it id e r) (since_join id e rs ys) (departures_join e rs ys)
   where
-    by : (b : Bool) → departed_since id e (rs ++ ys) ≡ departed_since id e rs + (if was_posted id e rs then departures e ys else departed_since id e ys) → departures e (rs ++ ys) ≡ departures e rs + departures e ys
-        → (if b then departures e (rs ++ ys) else departed_since id e (rs ++ ys)) ≡ (if b then departures e rs else departed_since id e rs) + (if b || was_posted id e rs then departures e ys else departed_since id e ys)
+    by : (b : Bool) → departed_since id e (rs ++ ys) ≡ departed_since id e
+        rs + (if was_posted id e rs then departures e ys else departed_since id e ys) → departures e (rs ++ ys) ≡ departures e rs + departures e ys
+        → (if b then departures e (rs ++ ys) else departed_since id e (rs ++ ys)) ≡ (if b then departures e rs else departed_since id e
+        rs) + (if b || was_posted id e rs then departures e ys else departed_since id e ys)
     by true ih d = d
     by false ih d = ih
 
@@ -82,7 +84,8 @@ posted_counts id e (Trace.Posted x to ∷ rs) h = by (is_number id x && (to == e
     by : (b : Bool) → (is_number id x && (to == e)) ≡ b → (b || was_posted id e rs) ≡ true
         → (was_posted id e rs ≡ true → 1 ≤ times (says_both id e) (posts rs)) → 1 ≤ times (says_both id e) (posts (Trace.Posted x to ∷ rs))
     by b is h ih =
-        let c : times (says_both id e) ((x, to) ∷ posts rs) ≡ (if b then 1 else 0) + times (says_both id e) (posts rs) = said_both id e x to (posts rs) ∙ ap (λ (v : Bool). (if v then 1 else 0) + times (says_both id e) (posts rs)) is in
+        let c : times (says_both id e) ((x, to) ∷ posts rs) ≡ (if b then 1 else 0) + times (says_both id e) (posts rs) = said_both id e x to
+        (posts rs) ∙ ap (λ (v : Bool). (if v then 1 else 0) + times (says_both id e) (posts rs)) is in
         subst (λ (v : ℕ). 1 ≤ v) (sym c) (there b h ih)
       where
         there : (c : Bool) → (c || was_posted id e rs) ≡ true → (was_posted id e rs ≡ true → 1 ≤ times (says_both id e) (posts rs))

@@ -88,7 +88,8 @@ module _ {C A : Type 0} (w : WorldView C A) (p : ℕ) (pe : PeView C) (at : slic
       let kept : PeView C = record { me = pe.me; n = pe.n; room = pe.room; hand = None; shelf = pe.shelf; outbox = pe.outbox; notes = pe.notes; count = pe.count; kept = None } in
       on_pe w p pe (looked_in pe q (Some e)) kept w.words w.board [] (Looks p q l) at
       (λ g k. let a : hand_at g k p pe.hand ≡ letter_in g k (Bound p) l = ap (hand_at g k p) is in omega (arith, a))
-      (λ g k. let a : hand_at g k p (option_map (at_pe q) pe.hand) ≡ letter_in g k (look_site p (Some q)) l = ap (λ (v : Option Item). hand_at g k p (option_map (at_pe q) v)) is in omega (arith, a))
+      (λ g k. let a : hand_at g k p (option_map (at_pe q) pe.hand) ≡ letter_in g k (look_site p (Some q)) l = ap
+      (λ (v : Option Item). hand_at g k p (option_map (at_pe q) v)) is in omega (arith, a))
       refl
       (refl, subst (λ (v : ℕ). slice_get w.words v ≡ Some q) (sym f.3) word, room_empty w p pe at l.to f.2)
 
@@ -101,10 +102,12 @@ module _ {C A : Type 0} (w : WorldView C A) (p : ℕ) (pe : PeView C) (at : slic
       let kept : PeView C = record { me = pe.me; n = pe.n; room = pe.room; hand = pe.hand; shelf = pe.shelf; outbox = rest; notes = pe.notes; count = pe.count; kept = None } in
       on_pe w p pe (looked_in pe q None) kept w.words w.board [] (Addresses q l) at
       (λ g k.
-      let a : sum_by (item_out g k) pe.outbox ≡ letter_in g k Fresh l + sum_by (item_out g k) rest = ap (sum_by (item_out g k)) is ∙ sum_by-cons (item_out g k) (record { parcel = Letter l; address = None }) rest in
+      let a : sum_by (item_out g k) pe.outbox ≡ letter_in g k Fresh l + sum_by (item_out g k) rest = ap (sum_by (item_out g k)) is
+      ∙ sum_by-cons (item_out g k) (record { parcel = Letter l; address = None }) rest in
       omega (arith, a))
       (λ g k.
-      let a : sum_by (item_out g k) (front_at q pe.outbox) ≡ letter_in g k (Bound q) l + sum_by (item_out g k) rest = ap (λ (v : List Item). sum_by (item_out g k) (front_at q v)) is ∙ sum_by-cons (item_out g k) (record { parcel = Letter l; address = Some q }) rest in
+      let a : sum_by (item_out g k) (front_at q pe.outbox) ≡ letter_in g k (Bound q) l + sum_by (item_out g k) rest = ap
+      (λ (v : List Item). sum_by (item_out g k) (front_at q v)) is ∙ sum_by-cons (item_out g k) (record { parcel = Letter l; address = Some q }) rest in
       omega (arith, a))
       refl
       (refl, subst (λ (v : ℕ). slice_get w.words v ≡ Some q) (sym f.3) word)
@@ -120,7 +123,8 @@ module _ {C A : Type 0} (w : WorldView C A) (p : ℕ) (pe : PeView C) (at : slic
 
   module _ (step : Step C) (pack : C → List ℕ) where
     -- a handler
-    pub handled_moves : (e : ℕ) (done : Done) (hand : Option Item) (el : ElementView C) (first : TraceEntry) (from : Option (Site × LetterView)) → IsQuiet first → found e pe.room ≡ Some el
+    pub handled_moves : (e : ℕ) (done : Done) (hand : Option Item) (el : ElementView C) (first : TraceEntry)
+        (from : Option (Site × LetterView)) → IsQuiet first → found e pe.room ≡ Some el
         → ((g : LetterWeight) (k : ElementWeight) → hand_at g k p pe.hand ≡ ran_from g from + hand_at g k p hand)
         → After (handled step pack pe e done hand) (first ∷ handler_posts step pack pe e done)
     handled_moves e done hand el first from quiet h hands =
@@ -129,9 +133,12 @@ module _ {C A : Type 0} (w : WorldView C A) (p : ℕ) (pe : PeView C) (at : slic
         on_pe w p pe (handled step pack pe e done hand) kept w.words w.board (first ∷ handler_posts step pack pe e done) (Runs from (numbered pe.me pe.count ss)) at
         (λ g k. let a = hands g k in omega (arith, a))
         (λ g k.
-        let a : sum_by (item_out g k) (pe.outbox ++ letters_of pe.me pe.count ss) ≡ sum_by (item_out g k) pe.outbox + sum_by (item_out g k) (letters_of pe.me pe.count ss) = sum_by-append (item_out g k) pe.outbox (letters_of pe.me pe.count ss) in
+        let a : sum_by (item_out g k) (pe.outbox ++ letters_of pe.me pe.count ss) ≡ sum_by (item_out g k) pe.outbox + sum_by (item_out g k)
+        (letters_of pe.me pe.count ss) = sum_by-append (item_out g k) pe.outbox (letters_of pe.me pe.count ss) in
         let b : sum_by (item_out g k) (letters_of pe.me pe.count ss) ≡ sum_by (letter_in g k Fresh) (numbered pe.me pe.count ss) = posts_gain g k pe.me pe.count ss in
-        let c : sum_by (λ (x : ℕ × ElementView C). entry_at g k p x) (changed e (ran step pack el pe.n pe.me done) pe.room) ≡ sum_by (λ (x : ℕ × ElementView C). entry_at g k p x) pe.room = room_changed (λ (x : ℕ × ElementView C). entry_at g k p x) pe.room e el (ran step pack el pe.n pe.me done) h (λ key. refl) in
+        let c : sum_by (λ (x : ℕ × ElementView C). entry_at g k p x) (changed e (ran step pack el pe.n pe.me done) pe.room) ≡ sum_by
+        (λ (x : ℕ × ElementView C). entry_at g k p x) pe.room = room_changed (λ (x : ℕ × ElementView C). entry_at g k p x) pe.room e el
+        (ran step pack el pe.n pe.me done) h (λ key. refl) in
         rw h (omega (arith, a, b, c)))
         refl
         (first, quiet, rw h (ap (λ (v : List TraceEntry). first ∷ v) (posts_are pe.me pe.count ss)))
@@ -142,13 +149,25 @@ module _ {C A : Type 0} (w : WorldView C A) (p : ℕ) (pe : PeView C) (at : slic
     -- Depart
     pub departed_moves : (e q : ℕ) (el : ElementView C) → found e pe.room ≡ Some el → Change w (next (departed pack pe e q) (slice_set w.words e q) w.board) (Trace.Departed e ∷ [])
     departed_moves e q el h =
-        let kept : PeView C = record { me = pe.me; n = pe.n; room = without e pe.room; hand = pe.hand; shelf = pe.shelf; outbox = pe.outbox; notes = pe.notes; count = pe.count; kept = None } in
+        let kept : PeView C = record {
+          me = pe.me;
+          n = pe.n;
+          room = without e pe.room;
+          hand = pe.hand;
+          shelf = pe.shelf;
+          outbox = pe.outbox;
+          notes = pe.notes;
+          count = pe.count;
+          kept = None;
+        } in
         on_pe w p pe (departed pack pe e q) kept (slice_set w.words e q) w.board (Trace.Departed e ∷ []) (Departs p e el.index q) at
         (λ g k.
-        let a : sum_by (λ (x : ℕ × ElementView C). entry_at g k p x) pe.room ≡ entry_at g k p (e, el) + sum_by (λ (x : ℕ × ElementView C). entry_at g k p x) (without e pe.room) = room_without (λ (x : ℕ × ElementView C). entry_at g k p x) pe.room e el h in
+        let a : sum_by (λ (x : ℕ × ElementView C). entry_at g k p x) pe.room ≡ entry_at g k p (e, el) + sum_by
+        (λ (x : ℕ × ElementView C). entry_at g k p x) (without e pe.room) = room_without (λ (x : ℕ × ElementView C). entry_at g k p x) pe.room e el h in
         omega (arith, a))
         (λ g k.
-        let a : sum_by (item_out g k) (pe.outbox ++ element_at q (packed pack el) ∷ []) ≡ sum_by (item_out g k) pe.outbox + k (Bound q) el.index = sum_by_push (item_out g k) pe.outbox (element_at q (packed pack el)) in
+        let a : sum_by (item_out g k) (pe.outbox ++ element_at q (packed pack el) ∷ []) ≡ sum_by (item_out g k) pe.outbox + k (Bound q)
+        el.index = sum_by_push (item_out g k) pe.outbox (element_at q (packed pack el)) in
         rw h (omega (arith, a)))
         refl
         refl
@@ -165,7 +184,8 @@ module _ {C A : Type 0} (w : WorldView C A) (p : ℕ) (pe : PeView C) (at : slic
           (λ g k.
           let c : hand_at g k p pe.hand ≡ letter_in g k (look_site p (Some q)) l = ap (hand_at g k p) h ∙ ap (λ (v : Item). hand_at g k p (Some v)) is in
           let d : letter_in g k (look_site p (Some q)) l ≡ letter_in g k (Waiting p) l = ap (λ (b : Bool). letter_in g k (if b then Waiting p else Chasing q) l) here in
-          let e : sum_by (letter_in g k (Waiting p)) (pe.shelf ++ l ∷ []) ≡ sum_by (letter_in g k (Waiting p)) pe.shelf + letter_in g k (Waiting p) l = sum_by_push (letter_in g k (Waiting p)) pe.shelf l in
+          let e : sum_by (letter_in g k (Waiting p)) (pe.shelf ++ l ∷ []) ≡ sum_by (letter_in g k (Waiting p)) pe.shelf + letter_in g k
+          (Waiting p) l = sum_by_push (letter_in g k (Waiting p)) pe.shelf l in
           omega (arith, c, d, e))
           refl
           (tt, tt)
@@ -175,14 +195,25 @@ module _ {C A : Type 0} (w : WorldView C A) (p : ℕ) (pe : PeView C) (at : slic
       forwarded_moves x l q h i a t =
           let away : (q == p) ≡ false = subst (λ (v : ℕ). (q == v) ≡ false) me t in
           let is : x ≡ record { parcel = Letter l; address = Some q } = item_is x (Letter l) (Some q) i a in
-          let kept : PeView C = record { me = pe.me; n = pe.n; room = pe.room; hand = None; shelf = pe.shelf; outbox = pe.outbox; notes = pe.notes; count = pe.count; kept = None } in
+          let kept : PeView C = record {
+            me = pe.me;
+            n = pe.n;
+            room = pe.room;
+            hand = None;
+            shelf = pe.shelf;
+            outbox = pe.outbox;
+            notes = pe.notes;
+            count = pe.count;
+            kept = None;
+          } in
           on_pe w p pe (forwarding pe l q).pe kept w.words w.board (forwarding pe l q).trace (Forwards q l) at
           (λ g k.
           let c : hand_at g k p pe.hand ≡ letter_in g k (look_site p (Some q)) l = ap (hand_at g k p) h ∙ ap (λ (v : Item). hand_at g k p (Some v)) is in
           let d : letter_in g k (look_site p (Some q)) l ≡ letter_in g k (Chasing q) l = ap (λ (b : Bool). letter_in g k (if b then Waiting p else Chasing q) l) away in
           omega (arith, c, d))
           (λ g k.
-          let e : sum_by (item_out g k) (pe.outbox ++ letter_at q (hopped l) ∷ []) ≡ sum_by (item_out g k) pe.outbox + letter_in g k (Bound q) l = sum_by_push (item_out g k) pe.outbox (letter_at q (hopped l)) in
+          let e : sum_by (item_out g k) (pe.outbox ++ letter_at q (hopped l) ∷ []) ≡ sum_by (item_out g k) pe.outbox + letter_in g k
+          (Bound q) l = sum_by_push (item_out g k) pe.outbox (letter_at q (hopped l)) in
           omega (arith, e))
           refl
           refl
@@ -224,20 +255,25 @@ module _ {C A : Type 0} (w : WorldView C A) (p : ℕ) (pe : PeView C) (at : slic
           on_pe w p pe (installed pe pk chare) kept w.words w.board (Trace.Installed pk.index ∷ []) (Installs p pk.index mine) at
           (λ g k.
           let a : hand_at g k p pe.hand ≡ k (Bound p) pk.index = ap (hand_at g k p) h ∙ ap (λ (v : Parcel). held_at g k p v x.address) i in
-          let b : sum_by (letter_in g k (Waiting p)) mine + sum_by (letter_in g k (Waiting p)) others ≡ sum_by (letter_in g k (Waiting p)) pe.shelf = sum_by-filter_both (is_for pk.index) (λ l. not (is_for pk.index l)) (λ l. refl) (letter_in g k (Waiting p)) pe.shelf in
+          let b : sum_by (letter_in g k (Waiting p)) mine + sum_by (letter_in g k (Waiting p)) others ≡ sum_by (letter_in g k (Waiting p))
+          pe.shelf = sum_by-filter_both (is_for pk.index) (λ l. not (is_for pk.index l)) (λ l. refl) (letter_in g k (Waiting p)) pe.shelf in
           omega (arith, a, b))
           (λ g k.
-          let c : sum_by (item_out g k) (pe.outbox ++ map (letter_at pe.me) mine) ≡ sum_by (item_out g k) pe.outbox + sum_by (item_out g k) (map (letter_at pe.me) mine) = sum_by-append (item_out g k) pe.outbox (map (letter_at pe.me) mine) in
+          let c : sum_by (item_out g k) (pe.outbox ++ map (letter_at pe.me) mine) ≡ sum_by (item_out g k) pe.outbox + sum_by (item_out g k)
+          (map (letter_at pe.me) mine) = sum_by-append (item_out g k) pe.outbox (map (letter_at pe.me) mine) in
           let d : sum_by (item_out g k) (map (letter_at pe.me) mine) ≡ sum_by (letter_in g k (Bound pe.me)) mine = sum_by-map (item_out g k) (letter_at pe.me) mine in
           let m : sum_by (letter_in g k (Bound pe.me)) mine ≡ sum_by (letter_in g k (Bound p)) mine = ap (λ (v : ℕ). sum_by (letter_in g k (Bound v)) mine) me in
-          let r : sum_by (λ (y : ℕ × ElementView C). entry_at g k p y) (joined pk.index (unpacked pk chare) pe.room) ≡ sum_by (λ (y : ℕ × ElementView C). entry_at g k p y) pe.room + k (Room p pk.index) pk.index = room_joined (λ (y : ℕ × ElementView C). entry_at g k p y) pe.room pk.index (unpacked pk chare) f in
+          let r : sum_by (λ (y : ℕ × ElementView C). entry_at g k p y) (joined pk.index (unpacked pk chare) pe.room) ≡ sum_by
+          (λ (y : ℕ × ElementView C). entry_at g k p y) pe.room + k (Room p pk.index) pk.index = room_joined
+          (λ (y : ℕ × ElementView C). entry_at g k p y) pe.room pk.index (unpacked pk chare) f in
           omega (arith, c, d, m, r))
           refl (
             refl,
             nothing_waits (with_pe w p kept) p pk.index (λ v is.
                 let there : slice_get (slice_set w.pes p kept) p ≡ Some kept = get_set_same w.pes p pe kept at in
                 let same : kept ≡ v = cc in
-                subst (λ (u : PeView C). (u.hand ≡ None) × (sum_by (letter_in (waits_at p pk.index) no_elements (Waiting p)) u.shelf ≡ 0)) same (refl, none_waits p pk.index pe.shelf)),
+                subst (λ (u : PeView C). (u.hand ≡ None) × (sum_by (letter_in (waits_at p pk.index) no_elements (Waiting p)) u.shelf ≡ 0))
+                same (refl, none_waits p pk.index pe.shelf)),
           )
 
       module _ (unpack : List ℕ → Result (C × ℕ) PupError) where

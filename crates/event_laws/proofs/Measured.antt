@@ -30,7 +30,8 @@ module _ {C A : Type 0} (step : Step C) (fits : C → Type 0) (pack : C → List
       let history : IsHistory step pack opened taken.el = of_found (IsHistory step pack opened) e taken.el taken.pe.room held.room taken.stands in
       by (phase step pack opened taken.el history history.in_order e r taken.load taken.bytes taken.p taken.marked)
     where
-      by : (chare : C) × (slice_get opened taken.el.index ≡ Some chare) × (e ≡ taken.el.index) × IsPhase step pack (length opened) taken.el.index chare taken.el.journal r taken.load taken.bytes
+      by : (chare : C) × (slice_get opened taken.el.index ≡ Some chare) × (e ≡ taken.el.index)
+          × IsPhase step pack (length opened) taken.el.index chare taken.el.journal r taken.load taken.bytes
           → Measures step pack opened w snapshot e r
       by (chare, opens, same, did) =
           record {
@@ -40,10 +41,12 @@ module _ {C A : Type 0} (step : Step C) (fits : C → Type 0) (pack : C → List
             did = subst (λ (i : ℕ). IsPhase step pack (length opened) i chare taken.el.journal r taken.load taken.bytes) (sym same) did;
           }
 
-module _ {C A : Type 0} (step : Step C) (fits : C → Type 0) (pack : C → List ℕ) (unpack : List ℕ → Result (C × ℕ) PupError) (pes : ℕ) (chares : List C) (strategy : Strategy) (some : 1 ≤ pes) where
+module _ {C A : Type 0} (step : Step C) (fits : C → Type 0) (pack : C → List ℕ) (unpack : List ℕ → Result (C × ℕ) PupError) (pes : ℕ)
+    (chares : List C) (strategy : Strategy) (some : 1 ≤ pes) where
   -- where a round is decided
   pub measured : (events : List Event) (w : WorldView C A) (trace : List TraceEntry) (event : Event) (next : After C A) (r : ℕ)
-      → Reaches step pack unpack (opening_world pes chares strategy) events (w, trace) → AreHistories step fits pack chares w → Happens step pack unpack w event next → Contains next.1 (Decided r)
+      → Reaches step pack unpack (opening_world pes chares strategy) events (w, trace) → AreHistories step fits pack chares w
+      → Happens step pack unpack w event next → Contains next.1 (Decided r)
       → (kept : Kept A) × (kept_of next.0.board.rounds r ≡ Some kept) × ((e : ℕ) → e < length chares → Measures step pack chares w kept.0 e r)
   measured events w trace event next r run are happens there = by (run_snaps step pack unpack pes chares strategy some events w trace event next r run happens there)
     where

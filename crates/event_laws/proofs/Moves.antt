@@ -113,12 +113,15 @@ module _ {C A : Type 0} where
         move = m;
         stays = with_pe w p kept;
         takes = λ g k.
-            let a : sum_from (λ q (x : PeView C). pe_at g k q x) (slice_set w.pes p kept) + pe_at g k p pe ≡ sum_from (λ q (x : PeView C). pe_at g k q x) w.pes + pe_at g k p kept = sum_from-set (λ q (x : PeView C). pe_at g k q x) w.pes p pe kept at in
+            let a : sum_from (λ q (x : PeView C). pe_at g k q x) (slice_set w.pes p kept) + pe_at g k p pe ≡ sum_from
+            (λ q (x : PeView C). pe_at g k q x) w.pes + pe_at g k p kept = sum_from-set (λ q (x : PeView C). pe_at g k q x) w.pes p pe kept at in
             let b = out g k in
             omega (arith, a, b);
         puts = λ g k.
-            let a : sum_from (λ q (x : PeView C). pe_at g k q x) (slice_set w.pes p kept) + pe_at g k p pe ≡ sum_from (λ q (x : PeView C). pe_at g k q x) w.pes + pe_at g k p kept = sum_from-set (λ q (x : PeView C). pe_at g k q x) w.pes p pe kept at in
-            let b : sum_from (λ q (x : PeView C). pe_at g k q x) (slice_set w.pes p pe') + pe_at g k p pe ≡ sum_from (λ q (x : PeView C). pe_at g k q x) w.pes + pe_at g k p pe' = sum_from-set (λ q (x : PeView C). pe_at g k q x) w.pes p pe pe' at in
+            let a : sum_from (λ q (x : PeView C). pe_at g k q x) (slice_set w.pes p kept) + pe_at g k p pe ≡ sum_from
+            (λ q (x : PeView C). pe_at g k q x) w.pes + pe_at g k p kept = sum_from-set (λ q (x : PeView C). pe_at g k q x) w.pes p pe kept at in
+            let b : sum_from (λ q (x : PeView C). pe_at g k q x) (slice_set w.pes p pe') + pe_at g k p pe ≡ sum_from
+            (λ q (x : PeView C). pe_at g k q x) w.pes + pe_at g k p pe' = sum_from-set (λ q (x : PeView C). pe_at g k q x) w.pes p pe pe' at in
             let c = into g k in
             omega (arith, a, b, c);
         words = named;

@@ -128,15 +128,19 @@ module _ {C : Type 0} (step : Step C) (pack : C → List ℕ) where
       Quiet a = Others a.1
 
       local_others : (event : Event) (a : LocalView C A × List TraceEntry) → local_step step pack unpack event d ≡ Some a → Quiet a
-      local_others (Start q e) a s = then_so Quiet (start_event step pack d.pe e) (λ after. (record d { pe = after.0 }, after.1)) a s (λ after is. start_event_others d.pe e after is)
+      local_others (Start q e) a s = then_so Quiet (start_event step pack d.pe e) (λ after. (record d { pe = after.0 }, after.1)) a s
+          (λ after is. start_event_others d.pe e after is)
       local_others (Look q) a s = then_so Quiet (look_event d.pe d.words) (λ after. (record d { pe = after }, [])) a s (λ after is. All-nil Other)
       local_others (Flush q) a s = then_so Quiet (flush_event d.pe d.queues) (λ after. (record d { pe = after.0; queues = after.1 }, [])) a s (λ after is. All-nil Other)
       local_others (Deliver q) a s = then_so Quiet (deliver_event d.pe d.queues q) (λ after. (record d { pe = after.0; queues = after.1 }, [])) a s (λ after is. All-nil Other)
       local_others (Act q) a s = then_so Quiet (act_event step pack unpack d.pe) (λ after. (record d { pe = after.0 }, after.1)) a s (λ after is. act_event_others d.pe after is)
-      local_others (Report q) a s = then_so Quiet (report_event d.pe d.board) (λ after. (record d { pe = after.0; board = after.1 }, after.2)) a s (λ after is. report_event_others d.pe d.board after is)
+      local_others (Report q) a s = then_so Quiet (report_event d.pe d.board)
+          (λ after. (record d { pe = after.0; board = after.1 }, after.2)) a s (λ after is. report_event_others d.pe d.board after is)
       local_others Decide a s = cc
-      local_others (Depart q e) a s = then_so Quiet (depart_event step pack q d.pe d.words d.board e) (λ after. (record d { pe = after.0; words = after.1 }, after.2)) a s (λ after is. depart_event_others q d.pe d.words d.board e after is)
-      local_others (Resume q e) a s = then_so Quiet (resume_event step pack q d.pe d.board e) (λ after. (record d { pe = after.0 }, after.1)) a s (λ after is. resume_event_others q d.pe d.board e after is)
+      local_others (Depart q e) a s = then_so Quiet (depart_event step pack q d.pe d.words d.board e)
+          (λ after. (record d { pe = after.0; words = after.1 }, after.2)) a s (λ after is. depart_event_others q d.pe d.words d.board e after is)
+      local_others (Resume q e) a s = then_so Quiet (resume_event step pack q d.pe d.board e)
+          (λ after. (record d { pe = after.0 }, after.1)) a s (λ after is. resume_event_others q d.pe d.board e after is)
 
     module _ {A : Type 0} (w : WorldView C A) where
       bound : {X : Type 0} (o : Option X) (f : X → Option (After C A)) → ((x : X) → o ≡ Some x → Others (or_nothing w (f x)).1) → Others (or_nothing w (option_and_then f o)).1

@@ -37,7 +37,9 @@ module _ {C : Type 0} (g : LetterWeight) (k : ElementWeight) where
   placed_sites n e pes q chare None at lt h = absurd (get_there pes q lt at)
   placed_sites n e pes q chare (Some pe) at lt h =
       let a = sum_from-set (λ p (x : PeView C). pe_at g k p x) pes q pe (placed pe e chare) at in
-      let b : sum_by (λ (x : ℕ × ElementView C). entry_at g k q x) (joined e (opening_element e chare) pe.room) ≡ sum_by (λ (x : ℕ × ElementView C). entry_at g k q x) pe.room + k (Room q e) e = room_joined (λ (x : ℕ × ElementView C). entry_at g k q x) pe.room e (opening_element e chare) (absent_above e pe.room (h q pe at).lower) in
+      let b : sum_by (λ (x : ℕ × ElementView C). entry_at g k q x) (joined e (opening_element e chare) pe.room) ≡ sum_by
+      (λ (x : ℕ × ElementView C). entry_at g k q x) pe.room + k (Room q e) e = room_joined (λ (x : ℕ × ElementView C). entry_at g k q x)
+      pe.room e (opening_element e chare) (absent_above e pe.room (h q pe at).lower) in
       omega (arith, a, b)
 
   settled_sites : (n m : ℕ) (pes : List (PeView C)) (e : ℕ) (chares : List C) → length pes ≡ m → AllOpen n e pes → ((i : ℕ) → i < n → home i n m < m) → e + length chares ≤ n

@@ -60,5 +60,6 @@ pub are_in_order : {C A : Type 0} (w : WorldView C A) → AllOrdered w → AreIn
 are_in_order w h =
     record {
       pes = All-weaker Ordered HasOrder order_of w.pes h.pes;
-      queues = All-weaker (All (ParcelKept PackedInOrder)) (All IsParcelInOrder) (λ queue. All-weaker (ParcelKept PackedInOrder) IsParcelInOrder parcel_order queue) w.queues h.queues;
+      queues = All-weaker (All (ParcelKept PackedInOrder)) (All IsParcelInOrder)
+          (λ queue. All-weaker (ParcelKept PackedInOrder) IsParcelInOrder parcel_order queue) w.queues h.queues;
     }

@@ -19,6 +19,8 @@ IsOwnEntry e done = All (λ (l : LetterView). l.to ≡ e) (letters_of_entry done
 
 pub own_more : (e : ℕ) (journal : List Done) (done : Done) → IsOwnEntry e done → IsOwn (e, journal) → IsOwn (e, journal ++ done ∷ [])
 own_more e journal done is h =
-    let a : flat_map letters_of_entry (journal ++ done ∷ []) ≡ flat_map letters_of_entry journal ++ (letters_of_entry done ++ []) = flat_map-append letters_of_entry journal (done ∷ []) in
-    let last : All (λ (l : LetterView). l.to ≡ e) (letters_of_entry done ++ []) = All-append (λ (l : LetterView). l.to ≡ e) (letters_of_entry done) [] is (All-nil (λ (l : LetterView). l.to ≡ e)) in
+    let a : flat_map letters_of_entry (journal ++ done ∷ []) ≡ flat_map letters_of_entry journal
+    ++ (letters_of_entry done ++ []) = flat_map-append letters_of_entry journal (done ∷ []) in
+    let last : All (λ (l : LetterView). l.to ≡ e) (letters_of_entry done ++ []) = All-append (λ (l : LetterView). l.to ≡ e)
+    (letters_of_entry done) [] is (All-nil (λ (l : LetterView). l.to ≡ e)) in
     All-same (λ (l : LetterView). l.to ≡ e) _ _ a (All-append (λ (l : LetterView). l.to ≡ e) (flat_map letters_of_entry journal) (letters_of_entry done ++ []) h last)

@@ -77,7 +77,9 @@ world_owned {C} w h =
     (λ queue k. all_flat IsOwn lives_in queue (All-weaker (ParcelKept PackedOwn) (λ (x : Parcel). All IsOwn (lives_in x)) parcel_owned queue k)) w.queues h.queues in
     All-append IsOwn (flat_map lives_at w.pes) (flat_map (flat_map lives_in) w.queues) (all_flat IsOwn lives_at w.pes pes) (all_flat IsOwn (flat_map lives_in) w.queues queues)
 
-pub own : {C A : Type 0} (step : Step C) (pack : C → List ℕ) (unpack : List ℕ → Result (C × ℕ) PupError) (pes : ℕ) (chares : List C) (strategy : Strategy) (events : List Event) (last : After C A)
+pub own : {C A : Type 0} (step : Step C) (pack : C → List ℕ) (unpack : List ℕ → Result (C × ℕ) PupError) (pes : ℕ) (chares : List C)
+    (strategy : Strategy) (events : List Event) (last : After C A)
     → Reaches step pack unpack (opening_world pes chares strategy) events last → AreOwn last.0
 own {C} {A} step pack unpack pes chares strategy events last run =
-    world_owned last.0 (run_kept step pack FitsOwn PackedOwn (own_kept step pack) unpack (opening_world pes chares strategy) events last (opening_kept step pack FitsOwn PackedOwn (own_kept step pack) A pes chares strategy) run)
+    world_owned last.0 (run_kept step pack FitsOwn PackedOwn (own_kept step pack) unpack (opening_world pes chares strategy) events last
+    (opening_kept step pack FitsOwn PackedOwn (own_kept step pack) A pes chares strategy) run)

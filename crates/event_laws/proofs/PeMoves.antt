@@ -27,8 +27,11 @@ pub posts_gain : (g : LetterWeight) (k : ElementWeight) (me count : ℕ) (ss : L
 posts_gain g k me count [] = refl
 posts_gain g k me count (s ∷ ss) =
     let item : Item = record { parcel = Letter (letter_to me count s.0 s.1); address = None } in
-    let a : sum_by (item_out g k) (item ∷ letters_of me (count + 1) ss) ≡ item_out g k item + sum_by (item_out g k) (letters_of me (count + 1) ss) = sum_by-cons (item_out g k) item (letters_of me (count + 1) ss) in
-    let b : sum_by (letter_in g k Fresh) (letter_to me count s.0 s.1 ∷ numbered me (count + 1) ss) ≡ letter_in g k Fresh (letter_to me count s.0 s.1) + sum_by (letter_in g k Fresh) (numbered me (count + 1) ss) = sum_by-cons (letter_in g k Fresh) (letter_to me count s.0 s.1) (numbered me (count + 1) ss) in
+    let a : sum_by (item_out g k) (item ∷ letters_of me (count + 1) ss) ≡ item_out g k item + sum_by (item_out g k)
+    (letters_of me (count + 1) ss) = sum_by-cons (item_out g k) item (letters_of me (count + 1) ss) in
+    let b : sum_by (letter_in g k Fresh) (letter_to me count s.0 s.1 ∷ numbered me (count + 1) ss) ≡ letter_in g k Fresh
+    (letter_to me count s.0 s.1) + sum_by (letter_in g k Fresh) (numbered me (count + 1) ss) = sum_by-cons (letter_in g k Fresh)
+    (letter_to me count s.0 s.1) (numbered me (count + 1) ss) in
     let ih = posts_gain g k me (count + 1) ss in
     omega (arith, a, b, ih)
 
@@ -86,9 +89,12 @@ module _ {C A : Type 0} (w : WorldView C A) (p : ℕ) (pe : PeView C) (at : slic
           let there : slice_get w.pes q ≡ Some pe = subst (λ (v : ℕ). slice_get w.pes v ≡ Some pe) same at in
           let this : pe ≡ x = cc in
           let absent : found e x.room ≡ None = subst (λ (v : PeView C). found e v.room ≡ None) this none in
-          let a = sum_by-same (λ (y : ℕ × ElementView C). entry_at no_letters (in_room p e) q y) (λ (y : ℕ × ElementView C). if y.0 == e then 1 else 0) (λ y. subst (λ (v : ℕ). entry_at no_letters (in_room p e) v y ≡ (if y.0 == e then 1 else 0)) same (entry_in_room p e y)) x.room in
+          let a = sum_by-same (λ (y : ℕ × ElementView C). entry_at no_letters (in_room p e) q y)
+          (λ (y : ℕ × ElementView C). if y.0 == e then 1 else 0)
+          (λ y. subst (λ (v : ℕ). entry_at no_letters (in_room p e) v y ≡ (if y.0 == e then 1 else 0)) same (entry_in_room p e y)) x.room in
           a ∙ room_absent x.room e absent
-      by false t = sum_none (λ (y : ℕ × ElementView C). entry_at no_letters (in_room p e) q y) x.room (λ y. other_room p q e y.0 y.1.index (let ne : q ≢ p = grind (arith, nat_tests) in ne))
+      by false t = sum_none (λ (y : ℕ × ElementView C). entry_at no_letters (in_room p e) q y) x.room
+          (λ y. other_room p q e y.0 y.1.index (let ne : q ≢ p = grind (arith, nat_tests) in ne))
 
   rooms_queue : (q : ℕ) (queue : List Parcel) → queue_at no_letters (in_room p e) q queue ≡ 0
   rooms_queue q queue = sum_none (λ x. item_out no_letters (in_room p e) (record { parcel = x; address = Some q })) queue (rooms_item (Some q))
@@ -140,7 +146,8 @@ module _ {C A : Type 0} (w : WorldView C A) (p : ℕ) (e : ℕ)
   pub nothing_waits : world_at (waits_at p e) no_elements w ≡ 0
   nothing_waits =
       let a = sum_from-none (λ q (x : PeView C). pe_at (waits_at p e) no_elements q x) w.pes (λ q x. waits_pe q x (nat_eq q p) refl) in
-      let b = sum_from-none (queue_at (waits_at p e) no_elements) w.queues (λ q queue is. sum_none (λ x. item_out (waits_at p e) no_elements (record { parcel = x; address = Some q })) queue (waits_item (Some q))) in
+      let b = sum_from-none (queue_at (waits_at p e) no_elements) w.queues
+      (λ q queue is. sum_none (λ x. item_out (waits_at p e) no_elements (record { parcel = x; address = Some q })) queue (waits_item (Some q))) in
       omega (arith, a, b)
 
 -- letters for another element do not wait for this one
@@ -153,6 +160,7 @@ none_waits p e (l ∷ ls) = by (is_for e l) refl (none_waits p e ls)
     by true t later = later
     by false t later =
         let rest : List LetterView = filter (λ x. not (is_for e x)) ls in
-        let a : sum_by (letter_in (waits_at p e) no_elements (Waiting p)) (l ∷ rest) ≡ letter_in (waits_at p e) no_elements (Waiting p) l + sum_by (letter_in (waits_at p e) no_elements (Waiting p)) rest = sum_by-cons (letter_in (waits_at p e) no_elements (Waiting p)) l rest in
+        let a : sum_by (letter_in (waits_at p e) no_elements (Waiting p)) (l ∷ rest) ≡ letter_in (waits_at p e) no_elements (Waiting p)
+        l + sum_by (letter_in (waits_at p e) no_elements (Waiting p)) rest = sum_by-cons (letter_in (waits_at p e) no_elements (Waiting p)) l rest in
         let b : letter_in (waits_at p e) no_elements (Waiting p) l ≡ 0 = here_waits p e l t in
         omega (arith, a, b, later)

@@ -63,5 +63,6 @@ pub phase : {C : Type 0} (step : Step C) (pack : C → List ℕ) (opened : List 
 phase {C} step pack opened el h order e round load bytes pe has =
     let tells : Mark → Type 0 = TellsPhase step pack (length opened) el.index h.opening el.journal in
     let all = all_tell step pack (length opened) el.index h.opening el.journal h.entries (opening_element el.index h.opening) 0 (all_walks step pack opened el h order) in
-    let told = All-contains tells el.marks (Synced (Sync e round load bytes pe)) (All-from_recursion tells el.marks (subst (AllByRecursion tells) (all_marks step pack opened el h) all)) has in
+    let told = All-contains tells el.marks (Synced (Sync e round load bytes pe))
+    (All-from_recursion tells el.marks (subst (AllByRecursion tells) (all_marks step pack opened el h) all)) has in
     (h.opening, h.opens, told.0, told.1)

@@ -67,7 +67,8 @@ at_most_once n w h i = by (slice_get w.words i) refl
 
 pub placed_next : {C A : Type 0} (n : ℕ) (w w' : WorldView C A) (rs : List TraceEntry) → IsPlaced n w → Change w w' rs → (Numbered w → Numbered w') → AreOf n w' → IsPlaced n w'
 placed_next n w w' rs h c numbers of =
-    let k : world_at no_letters (misnamed (words_after c.move w.words)) w' ≡ 0 = named_after w w' c.stays c.move (c.takes no_letters) (c.puts no_letters) h.named (at_most_once n w h) in
+    let k : world_at no_letters (misnamed (words_after c.move w.words)) w' ≡ 0 = named_after w w' c.stays c.move (c.takes no_letters)
+    (c.puts no_letters) h.named (at_most_once n w h) in
     record {
       named = subst (λ (v : List ℕ). world_at no_letters (misnamed v) w' ≡ 0) (sym c.words) k;
       counted = ap (λ (v : List ℕ). length v) c.words ∙ (words_kept c.move w.words ∙ h.counted);
@@ -91,7 +92,8 @@ module _ {C : Type 0} where
   opened_index i n m e [] = refl
   opened_index i n m e (chare ∷ chares) =
       let a : opened_sites (at_index i) n m e (chare ∷ chares) ≡ one_at i e + opened_sites (at_index i) n m (e + 1) chares = refl in
-      let b : sum_by (λ (x : Life). one_at i x.0) ((e, []) ∷ opened_lives (e + 1) chares) ≡ one_at i e + sum_by (λ (x : Life). one_at i x.0) (opened_lives (e + 1) chares) = sum_by-cons (λ (x : Life). one_at i x.0) (e, []) (opened_lives (e + 1) chares) in
+      let b : sum_by (λ (x : Life). one_at i x.0) ((e, []) ∷ opened_lives (e + 1) chares) ≡ one_at i e + sum_by (λ (x : Life). one_at i x.0)
+      (opened_lives (e + 1) chares) = sum_by-cons (λ (x : Life). one_at i x.0) (e, []) (opened_lives (e + 1) chares) in
       let c = opened_index i n m (e + 1) chares in
       omega (arith, a, b, c)
 

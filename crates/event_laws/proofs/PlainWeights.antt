@@ -32,9 +32,11 @@ module _ (r : (ℕ × ℕ) × ℕ → ℕ) (i : ℕ → ℕ) where
   pe_plain : {C : Type 0} (p : ℕ) (pe : PeView C) → pe_at at_any at_any_index p pe ≡ of_pe (by_said r) (by_index i) pe
   pe_plain {C} p pe =
       let a = hand_plain p pe.hand in
-      let b : sum_by (item_out at_any at_any_index) pe.outbox ≡ sum_by (of_item (by_said r) (by_index i)) pe.outbox = sum_by-same (item_out at_any at_any_index) (of_item (by_said r) (by_index i)) (λ x. parcel_plain (address_site x.address) x.parcel) pe.outbox in
+      let b : sum_by (item_out at_any at_any_index) pe.outbox ≡ sum_by (of_item (by_said r) (by_index i)) pe.outbox = sum_by-same
+      (item_out at_any at_any_index) (of_item (by_said r) (by_index i)) (λ x. parcel_plain (address_site x.address) x.parcel) pe.outbox in
       let c : sum_by (letter_in at_any at_any_index (Waiting p)) pe.shelf ≡ sum_by (weigh (by_said r)) pe.shelf = refl in
-      let d : of_room (by_said r) (by_index i) pe.room ≡ sum_by (λ (x : ℕ × ElementView C). entry_at at_any at_any_index p x) pe.room = sum_by-map (of_element (by_said r) (by_index i)) (λ (x : ℕ × ElementView C). x.1) pe.room in
+      let d : of_room (by_said r) (by_index i) pe.room ≡ sum_by (λ (x : ℕ × ElementView C). entry_at at_any at_any_index p x)
+      pe.room = sum_by-map (of_element (by_said r) (by_index i)) (λ (x : ℕ × ElementView C). x.1) pe.room in
       omega (arith, a, b, c, d)
 
   queue_plain : (q : ℕ) (queue : List Parcel) → queue_at at_any at_any_index q queue ≡ of_queue (by_said r) (by_index i) queue

@@ -86,19 +86,23 @@ module _ {C A : Type 0} (n : ℕ) (w : WorldView C A) (p : ℕ) (pe : PeView C) 
     in_room : 1 ≤ count_in el.index pe.room
     in_room = found_counts el.index el pe.room found_at refl
 
-    parts : of_hand no_letter (by_index (one_at el.index)) pe.hand + (sum_by (of_item no_letter (by_index (one_at el.index))) pe.outbox + (sum_by (weigh no_letter) pe.shelf + count_in el.index pe.room)) ≤ 1
+    parts : of_hand no_letter (by_index (one_at el.index))
+        pe.hand + (sum_by (of_item no_letter (by_index (one_at el.index))) pe.outbox + (sum_by (weigh no_letter) pe.shelf + count_in el.index pe.room)) ≤ 1
     parts = pe_le_one no_letter (by_index (one_at el.index)) w at_most p pe at
 
     on_pe : 1 ≤ of_pe no_letter (by_index (one_at el.index)) pe
     on_pe =
-        let k : of_pe no_letter (by_index (one_at el.index)) pe ≡ of_hand no_letter (by_index (one_at el.index)) pe.hand + (sum_by (of_item no_letter (by_index (one_at el.index))) pe.outbox + (sum_by (weigh no_letter) pe.shelf + count_in el.index pe.room)) = refl in
+        let k : of_pe no_letter (by_index (one_at el.index)) pe ≡ of_hand no_letter (by_index (one_at el.index))
+        pe.hand + (sum_by (of_item no_letter (by_index (one_at el.index)))
+        pe.outbox + (sum_by (weigh no_letter) pe.shelf + count_in el.index pe.room)) = refl in
         let i = in_room in
         omega (arith, k, i)
 
     own_pe : AgreesAt next (noted pe)
     own_pe =
         let r : RoomAgrees m pe.me pe.room (first ∷ drop 1 pe.notes) = subst (λ (v : List Note). RoomAgrees m pe.me pe.room v) s (room_agrees m pe here) in
-        let k : RoomAgrees next pe.me pe.room (drop 1 pe.notes) = reported_agrees m pe.me pe.room first (drop 1 pe.notes) r n h.measured el found_at owes (let a = parts in omega (arith, a)) in
+        let k : RoomAgrees next pe.me pe.room (drop 1 pe.notes) = reported_agrees m pe.me pe.room first (drop 1 pe.notes) r n h.measured el
+        found_at owes (let a = parts in omega (arith, a)) in
         let a = parts in
         let i = in_room in
         record {
@@ -107,7 +111,9 @@ module _ {C A : Type 0} (n : ℕ) (w : WorldView C A) (p : ℕ) (pe : PeView C) 
           notes = k.owing;
           once = k.once;
           hand = else_hand m el.index owes.units owes.bytes pe.me pe.hand here.hand (omega (arith, a, i));
-          outbox = all_two (ItemAgrees m) (λ x. of_item no_letter (by_index (one_at el.index)) x ≡ 0) (ItemAgrees next) (λ x px zx. else_parcel m el.index owes.units owes.bytes pe.me x.parcel px zx) pe.outbox here.outbox (each_zero (of_item no_letter (by_index (one_at el.index))) pe.outbox (omega (arith, a, i)));
+          outbox = all_two (ItemAgrees m) (λ x. of_item no_letter (by_index (one_at el.index)) x ≡ 0) (ItemAgrees next)
+              (λ x px zx. else_parcel m el.index owes.units owes.bytes pe.me x.parcel px zx) pe.outbox here.outbox
+              (each_zero (of_item no_letter (by_index (one_at el.index))) pe.outbox (omega (arith, a, i)));
         }
 
     each_pe : (q : ℕ) (x : PeView C) (b : Bool) → nat_eq q p ≡ b → slice_get (slice_set w.pes p (noted pe)) q ≡ Some x → AgreesAt next x
@@ -123,7 +129,8 @@ module _ {C A : Type 0} (n : ℕ) (w : WorldView C A) (p : ℕ) (pe : PeView C) 
 
     each_queue : (q : ℕ) (queue : List Parcel) → slice_get w.queues q ≡ Some queue → All (AgreesOn next) queue
     each_queue q queue there =
-        all_two (AgreesOn m) (λ x. of_parcel no_letter (by_index (one_at el.index)) x ≡ 0) (AgreesOn next) (λ x px zx. else_parcel m el.index owes.units owes.bytes pe.me x px zx) queue
+        all_two (AgreesOn m) (λ x. of_parcel no_letter (by_index (one_at el.index)) x ≡ 0) (AgreesOn next)
+        (λ x px zx. else_parcel m el.index owes.units owes.bytes pe.me x px zx) queue
         (at_place (All (AgreesOn m)) w.queues q queue h.queues there)
         (each_zero (of_parcel no_letter (by_index (one_at el.index))) queue (in_no_queue no_letter (by_index (one_at el.index)) w at_most p q pe queue at on_pe there))
 
@@ -152,7 +159,9 @@ module _ {C A : Type 0} (n : ℕ) (w : WorldView C A) (p : ℕ) (pe : PeView C) 
       let el : ElementView C = o.0 in
       let owes : Owes m pe.me el (Sync e r u b q) = o.2 in
       let t : board_after w.board (Sync el.index m.round owes.units owes.bytes pe.me) ≡ Some after = subst (λ (v : Note). board_after w.board v ≡ Some after) owes.says taken in
-      let both = where_some (nat_lt pe.me w.board.pes && (nat_lt el.index (elements m) && ((m.round == m.round) && is_none (report_of m el.index)))) (Some (after_report w.board el.index owes.units owes.bytes pe.me)) after t in
+      let both = where_some (nat_lt pe.me w.board.pes &&
+      (nat_lt el.index (elements m) && ((m.round == m.round) && is_none (report_of m el.index))))
+      (Some (after_report w.board el.index owes.units owes.bytes pe.me)) after t in
       subst (λ (v : BoardState A). Numbered (with_board v) → Agrees n (with_board v)) (same_Some (after_report w.board el.index owes.units owes.bytes pe.me) after both.1)
       (wait_agrees (Sync e r u b q) s el o.1 owes)
 
@@ -165,5 +174,8 @@ module _ {C A : Type 0} (n : ℕ) (w : WorldView C A) (p : ℕ) (pe : PeView C) 
       (λ note is t.
       option_and_then_some (λ after. Some (noted pe, after, note_entries note)) (board_after w.board note) a t
       (λ after taken u.
-      subst (λ (v : PeView C × BoardState A × List TraceEntry). Numbered (record { pes = slice_set w.pes p v.0; queues = w.queues; words = w.words; board = v.1 }) → Agrees n (record { pes = slice_set w.pes p v.0; queues = w.queues; words = w.words; board = v.1 })) (same_Some (noted pe, after, note_entries note) a u)
+      subst (λ (v : PeView C × BoardState A × List TraceEntry). Numbered
+      (record { pes = slice_set w.pes p v.0; queues = w.queues; words = w.words; board = v.1 })
+      → Agrees n (record { pes = slice_set w.pes p v.0; queues = w.queues; words = w.words; board = v.1 }))
+      (same_Some (noted pe, after, note_entries note) a u)
       (note_agrees note after is taken)))

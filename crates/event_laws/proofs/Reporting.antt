@@ -84,7 +84,8 @@ module _ {C : Type 0} where
           let o : one_at e p.1.index ≡ 1 = at_one e p.1.index (ap (λ (v : ElementView C). v.index) i ∙ s) in
           let z : count_in e room ≡ 0 = omega (arith, c, o, one) in
           All-cons Q p.1 (values_of room) (subst Q (sym i) own)
-          (all_two P (λ (x : ElementView C). one_at e x.index ≡ 0) Q (λ x px zx. others x px (not_at e x.index zx)) (values_of room) (All-tail P p.1 (values_of room) all) (each_zero (of_element no_letter (by_index (one_at e))) (values_of room) z))
+          (all_two P (λ (x : ElementView C). one_at e x.index ≡ 0) Q (λ x px zx. others x px (not_at e x.index zx)) (values_of room)
+          (All-tail P p.1 (values_of room) all) (each_zero (of_element no_letter (by_index (one_at e))) (values_of room) z))
       by false t rest k =
           let i : p.1.index ≡ p.0 = All-head Key p room keyed in
           let ne : p.1.index ≢ e = λ q. no_same (sym (sym i ∙ q)) t in
@@ -143,7 +144,16 @@ module _ (m : Measured) (i units bytes q : ℕ) where
   -- an element with another index
   pub else_owes : {C : Type 0} (me : ℕ) (el : ElementView C) (y : Note) → el.index ≢ i → Owes m me el y → Owes next me el y
   else_owes me el y ne o =
-      record { units = o.units; bytes = o.bytes; says = o.says; small = o.small; waits = o.waits; at_round = o.at_round; silent = told_others el.index ne ∙ o.silent; marked = o.marked }
+      record {
+        units = o.units;
+        bytes = o.bytes;
+        says = o.says;
+        small = o.small;
+        waits = o.waits;
+        at_round = o.at_round;
+        silent = told_others el.index ne ∙ o.silent;
+        marked = o.marked;
+      }
 
   pub else_waits : (e : ℕ) (p : _) → e ≢ i → WaitsForPlace m e p → WaitsForPlace next e p
   else_waits e p ne w = record { waits = w.waits; at_round = w.at_round; silent = told_others e ne ∙ w.silent }
@@ -157,7 +167,15 @@ module _ (m : Measured) (i units bytes q : ℕ) where
       by (inl w) = inl (record { awake = w.awake; at_round = w.at_round; silent = told_others el.index ne ∙ w.silent })
       by (inr (inl o)) = inr (inl (record { note = o.note; owes = else_owes me el o.note ne o.owes; listed = passes o.note o.owes o.listed }))
       by (inr (inr (inl k))) =
-          inr (inr (inl (record { units = k.units; bytes = k.bytes; waits = k.waits; at_round = k.at_round; reported = told_others el.index ne ∙ k.reported; charged = told_charges el.index ne ∙ k.charged; marked = k.marked })))
+          inr (inr (inl (record {
+            units = k.units;
+            bytes = k.bytes;
+            waits = k.waits;
+            at_round = k.at_round;
+            reported = told_others el.index ne ∙ k.reported;
+            charged = told_charges el.index ne ∙ k.charged;
+            marked = k.marked;
+          })))
       by (inr (inr (inr k))) = inr (inr (inr (else_waits el.index el.progress ne k)))
 
   pub else_parcel : (parcel : Parcel) → AgreesOn m parcel → of_parcel no_letter (by_index (one_at i)) parcel ≡ 0 → AgreesOn next parcel
@@ -181,15 +199,19 @@ module _ (m : Measured) (i units bytes q : ℕ) where
   -- a PE where the element is not
   pub else_pe : {C : Type 0} (pe : PeView C) → AgreesAt m pe → of_pe no_letter (by_index (one_at i)) pe ≡ 0 → AgreesAt next pe
   else_pe {C} pe h z =
-      let parts : of_hand no_letter (by_index (one_at i)) pe.hand + (sum_by (of_item no_letter (by_index (one_at i))) pe.outbox + (sum_by (weigh no_letter) pe.shelf + count_in i pe.room)) ≡ 0 = z in
-      let in_room : All (λ (el : ElementView C). one_at i el.index ≡ 0) (values_of pe.room) = each_zero (of_element no_letter (by_index (one_at i))) (values_of pe.room) (omega (arith, parts)) in
+      let parts : of_hand no_letter (by_index (one_at i))
+      pe.hand + (sum_by (of_item no_letter (by_index (one_at i))) pe.outbox + (sum_by (weigh no_letter) pe.shelf + count_in i pe.room)) ≡ 0 = z in
+      let in_room : All (λ (el : ElementView C). one_at i el.index ≡ 0) (values_of pe.room) = each_zero
+      (of_element no_letter (by_index (one_at i))) (values_of pe.room) (omega (arith, parts)) in
       record {
         keyed = h.keyed;
-        room = all_two (AgreesWith m pe.me pe.notes) (λ (el : ElementView C). one_at i el.index ≡ 0) (AgreesWith next pe.me pe.notes) (λ x px zx. else_agrees pe.me pe.notes pe.notes x (not_at i x.index zx) (λ y o c. c) px) (values_of pe.room) h.room in_room;
+        room = all_two (AgreesWith m pe.me pe.notes) (λ (el : ElementView C). one_at i el.index ≡ 0) (AgreesWith next pe.me pe.notes)
+            (λ x px zx. else_agrees pe.me pe.notes pe.notes x (not_at i x.index zx) (λ y o c. c) px) (values_of pe.room) h.room in_room;
         notes = All-weaker (IsOwed m pe.me pe.room) (IsOwed next pe.me pe.room) (else_owed pe.me pe.room in_room) pe.notes h.notes;
         once = h.once;
         hand = else_hand pe.hand h.hand (omega (arith, parts));
-        outbox = all_two (ItemAgrees m) (λ x. of_item no_letter (by_index (one_at i)) x ≡ 0) (ItemAgrees next) (λ x px zx. else_parcel x.parcel px zx) pe.outbox h.outbox (each_zero (of_item no_letter (by_index (one_at i))) pe.outbox (omega (arith, parts)));
+        outbox = all_two (ItemAgrees m) (λ x. of_item no_letter (by_index (one_at i)) x ≡ 0) (ItemAgrees next)
+            (λ x px zx. else_parcel x.parcel px zx) pe.outbox h.outbox (each_zero (of_item no_letter (by_index (one_at i))) pe.outbox (omega (arith, parts)));
       }
 
 -- the room of the PE that reports
@@ -202,7 +224,8 @@ module _ {C : Type 0} (m : Measured) (me : ℕ) (room : List (ℕ × ElementView
         each = All-weaker (AgreesWith m me (first ∷ rest)) (AgreesWith m me rest) passes (values_of room) h.each;
         owing = All-tail (IsOwed m me room) first rest h.owing;
         once = λ e.
-            let c : times (is_wait_of e) (first ∷ rest) ≡ one_if (is_wait_of e first) + times (is_wait_of e) rest = sum_by-cons (λ (v : Note). one_if (is_wait_of e v)) first rest in
+            let c : times (is_wait_of e) (first ∷ rest) ≡ one_if (is_wait_of e first) + times (is_wait_of e) rest = sum_by-cons
+            (λ (v : Note). one_if (is_wait_of e v)) first rest in
             omega (arith, c, h.once e);
       }
     where
@@ -217,7 +240,11 @@ module _ {C : Type 0} (m : Measured) (me : ℕ) (room : List (ℕ × ElementView
         where
           by : IsInSomeState m me (first ∷ rest) el → IsInSomeState m me rest el
           by (inl w) = inl w
-          by (inr (inl o)) = inr (inl (record { note = o.note; owes = o.owes; listed = later first rest o.note (no_wait o.note el.index m.round o.owes.units o.owes.bytes me o.owes.says) o.listed }))
+          by (inr (inl o)) = inr (inl (record {
+            note = o.note;
+            owes = o.owes;
+            listed = later first rest o.note (no_wait o.note el.index m.round o.owes.units o.owes.bytes me o.owes.says) o.listed;
+          }))
           by (inr (inr (inl x))) = inr (inr (inl x))
           by (inr (inr (inr x))) = inr (inr (inr x))
 
@@ -285,6 +312,7 @@ module _ {C : Type 0} (m : Measured) (me : ℕ) (room : List (ℕ × ElementView
           keyed = h.keyed;
           each = values_but (AgreesWith m me (first ∷ rest)) (AgreesWith then_told me rest) el.index el room h.keyed one refl at h.each
               (λ x px ne. else_agrees m el.index owes.units owes.bytes me me (first ∷ rest) rest x ne (others_listed x ne) px) has_reported;
-          owing = all_two (IsOwed m me room) (λ (y : Note). one_if (is_wait_of el.index y) ≡ 0) (IsOwed then_told me room) others_owed rest (All-tail (IsOwed m me room) first rest h.owing) none_left;
+          owing = all_two (IsOwed m me room) (λ (y : Note). one_if (is_wait_of el.index y) ≡ 0) (IsOwed then_told me room) others_owed rest
+              (All-tail (IsOwed m me room) first rest h.owing) none_left;
           once = λ e. let c = split e in let s = h.once e in omega (arith, c, s);
         }

@@ -38,7 +38,8 @@ use Rattle.at_sync.specs.declared.strategy.Strategy.{Strategy}
 pub range_past : (a n r : ℕ) → r < a → times (λ s. s == r) (range_with_len a n) ≡ 0
 range_past a zero r lt = refl
 range_past a (suc n) r lt =
-    let b : times (λ s. s == r) (a ∷ range_with_len (a + 1) n) ≡ one (λ s. s == r) a + times (λ s. s == r) (range_with_len (a + 1) n) = times-cons (λ s. s == r) a (range_with_len (a + 1) n) in
+    let b : times (λ s. s == r) (a ∷ range_with_len (a + 1) n) ≡ one (λ s. s == r) a + times (λ s. s == r)
+    (range_with_len (a + 1) n) = times-cons (λ s. s == r) a (range_with_len (a + 1) n) in
     let z : one (λ s. s == r) a ≡ 0 = grind (arith, nat_tests) in
     omega (arith, b, z, range_past (a + 1) n r (omega (arith, lt)))
 
@@ -120,7 +121,8 @@ module _ (e r : ℕ) where
   pub world_le : {C A : Type 0} (w : WorldView C A) → AreInOrder w → of_world no_letter (resumed_in e r) w ≤ of_world no_letter known w
   world_le {C} w h =
       let a = sum_le (HasOrder {C = C}) (of_pe no_letter (resumed_in e r)) (of_pe no_letter known) pe_le w.pes h.pes in
-      let b = sum_le (All IsParcelInOrder) (of_queue no_letter (resumed_in e r)) (of_queue no_letter known) (sum_le IsParcelInOrder (of_parcel no_letter (resumed_in e r)) (of_parcel no_letter known) parcel_le) w.queues h.queues in
+      let b = sum_le (All IsParcelInOrder) (of_queue no_letter (resumed_in e r)) (of_queue no_letter known)
+      (sum_le IsParcelInOrder (of_parcel no_letter (resumed_in e r)) (of_parcel no_letter known) parcel_le) w.queues h.queues in
       omega (arith, a, b)
 
   resumed_none : (i : ℕ) → resumed_in e r (i, []) ≡ 0
@@ -139,7 +141,9 @@ module _ (e r : ℕ) where
         let b = opening_weighs A pes chares strategy some no_letter (resumed_in e r) in
         let c = unlived (resumed_in e r) resumed_none 0 chares in
         let d = world_le last.0 (are_in_order last.0 ordered) in
-        let f : of_world no_letter known last.0 ≡ of_world no_letter known (opening_world {A = A} pes chares strategy) = (run_keeps step pack unpack (length chares) (opening_world pes chares strategy) events last (opening_of A pes chares strategy some) run).stands (one_at e) in
+        let f : of_world no_letter known last.0 ≡ of_world no_letter known
+        (opening_world {A = A} pes chares strategy) = (run_keeps step pack unpack (length chares) (opening_world pes chares strategy)
+        events last (opening_of A pes chares strategy some) run).stands (one_at e) in
         let g = opening_weighs A pes chares strategy some no_letter known in
         let h : sum_by known (opened_lives 0 chares) ≤ 1 = opened_once_each e 0 chares in
         omega (arith, a, b, c, d, f, g, h)

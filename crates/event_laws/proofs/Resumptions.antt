@@ -44,7 +44,8 @@ pub resumption_more : (e r i s : ℕ) (journal : List Done)
     → resumed_in e r (i, journal ++ Resumption s ∷ []) ≡ resumed_in e r (i, journal) + one (is_resumed e r) (Trace.Resumed i s)
 resumption_more e r i s journal =
     let test : ℕ → Bool = λ v. v == r in
-    let a : times test (resumptions (journal ++ Resumption s ∷ [])) ≡ times test (resumptions journal ++ s ∷ []) = ap (times test) (flat_map-append resumption_of journal (Resumption s ∷ [])) in
+    let a : times test (resumptions (journal ++ Resumption s ∷ [])) ≡ times test (resumptions journal ++ s ∷ []) = ap (times test)
+    (flat_map-append resumption_of journal (Resumption s ∷ [])) in
     let b : times test (resumptions journal ++ s ∷ []) ≡ times test (resumptions journal) + times test (s ∷ []) = times-append test (resumptions journal) (s ∷ []) in
     let c : times test (s ∷ []) ≡ one test s + 0 = times-cons test s [] in
     counted_where (i == e) (s == r) (times test (resumptions journal)) (times test (resumptions (journal ++ Resumption s ∷ []))) (omega (arith, a, b, c))
@@ -115,8 +116,10 @@ module _ {C A : Type 0} (step : Step C) (pack : C → List ℕ) (p : ℕ) (d : L
         works (record d { pe = resumed step pack d.pe x round }) (resume_entries step pack d.pe x round) el (Resumption round) (resumed_moved step pack d.pe x round el at) refl
         (λ e r.
         let a = resumption_more e r el.index round el.journal in
-        let b : one (is_resumed e r) (Trace.Resumed el.index round) ≡ one (is_resumed e r) (Trace.Resumed x round) = ap (λ (v : ℕ). one (is_resumed e r) (Trace.Resumed v round)) index in
-        let c : times (is_resumed e r) (resume_entries step pack d.pe x round) ≡ one (is_resumed e r) (Trace.Resumed x round) = first_told e r (Trace.Resumed x round) d.pe.me d.pe.count (sends_in step pack d.pe.room x d.pe.n (Resumption round)) in
+        let b : one (is_resumed e r) (Trace.Resumed el.index round) ≡ one (is_resumed e r) (Trace.Resumed x round) = ap
+        (λ (v : ℕ). one (is_resumed e r) (Trace.Resumed v round)) index in
+        let c : times (is_resumed e r) (resume_entries step pack d.pe x round) ≡ one (is_resumed e r) (Trace.Resumed x round) = first_told e
+        r (Trace.Resumed x round) d.pe.me d.pe.count (sends_in step pack d.pe.room x d.pe.n (Resumption round)) in
         omega (arith, a, b, c))
 
     pub each_gains : EachTurn step pack p d (Gains d)
@@ -125,28 +128,38 @@ module _ {C A : Type 0} (step : Step C) (pack : C → List ℕ) (p : ℕ) (d : L
           starts = λ x el at fresh. resumes x 0 el at;
           goes_on = λ x round el at waits place. resumes x round el at;
           looks = λ word. still (record d { pe = looked d.pe word }) [] (looked_moved step d.pe word) refl (λ e r. refl);
-          flushes = λ q parcel queue front at. passes (record d { pe = gave_up d.pe; queues = slice_set d.queues q (queue ++ parcel ∷ []) }) [] [] (parcel ∷ []) (gave_up_moved step d.pe parcel front)
+          flushes = λ q parcel queue front at. passes (record d { pe = gave_up d.pe; queues = slice_set d.queues q (queue ++ parcel ∷ []) })
+              [] [] (parcel ∷ []) (gave_up_moved step d.pe parcel front)
               (λ k.
               let a = sum_at (of_queue no_letter k) d.queues q queue (queue ++ parcel ∷ []) at in
               let b = sum_by_push (of_parcel no_letter k) queue parcel in
               let c = sum_by-cons (of_parcel no_letter k) parcel [] in
               omega (arith, a, b, c))
               (λ e r. refl);
-          delivers = λ queue rest parcel at hand is. passes (record d { pe = received d.pe parcel; queues = slice_set d.queues p rest }) [] (parcel ∷ []) [] (received_moved step d.pe parcel hand)
+          delivers = λ queue rest parcel at hand is. passes (record d { pe = received d.pe parcel; queues = slice_set d.queues p rest }) []
+              (parcel ∷ []) [] (received_moved step d.pe parcel hand)
               (λ k.
               let a = sum_at (of_queue no_letter k) d.queues p queue rest at in
-              let b : of_queue no_letter k queue ≡ of_parcel no_letter k parcel + of_queue no_letter k rest = ap (of_queue no_letter k) is ∙ sum_by-cons (of_parcel no_letter k) parcel rest in
+              let b : of_queue no_letter k queue ≡ of_parcel no_letter k parcel + of_queue no_letter k rest = ap (of_queue no_letter k) is
+              ∙ sum_by-cons (of_parcel no_letter k) parcel rest in
               let c = sum_by-cons (of_parcel no_letter k) parcel [] in
               omega (arith, a, b, c))
               (λ e r. refl);
-          executes = λ x l el hand is at started. works (record d { pe = (executed step pack d.pe l).pe }) (executed step pack d.pe l).trace el (OfLetter l) (executes_letter step pack d.pe x l el hand is at) refl
+          executes = λ x l el hand is at started. works (record d { pe = (executed step pack d.pe l).pe }) (executed step pack d.pe l).trace
+              el (OfLetter l) (executes_letter step pack d.pe x l el hand is at) refl
               (λ e r.
               let a = letter_more e r el.index l el.journal in
-              let c : times (is_resumed e r) (executed step pack d.pe l).trace ≡ one (is_resumed e r) (Trace.Executed l.id l.to) = first_told e r (Trace.Executed l.id l.to) d.pe.me d.pe.count (sends_in step pack d.pe.room l.to d.pe.n (OfLetter l)) in
+              let c : times (is_resumed e r) (executed step pack d.pe l).trace ≡ one (is_resumed e r)
+              (Trace.Executed l.id l.to) = first_told e r (Trace.Executed l.id l.to) d.pe.me d.pe.count
+              (sends_in step pack d.pe.room l.to d.pe.n (OfLetter l)) in
               omega (arith, a, c));
           shelves = λ x l hand is. still (record d { pe = (shelving d.pe l).pe }) (Trace.Shelved l.id ∷ []) (shelves_still step pack d.pe x l hand is) refl (λ e r. refl);
-          forwards = λ x l q hand is. still (record d { pe = (forwarding d.pe l q).pe }) (Trace.Forwarded l.id ∷ []) (forwards_still step pack d.pe x l q hand is) refl (λ e r. refl);
-          installs = λ x packed chare hand is at. still (record d { pe = installed d.pe packed chare }) (Trace.Installed packed.index ∷ []) (installs_still step pack d.pe x packed chare hand is at) refl (λ e r. refl);
-          reports = λ note board at taken. still (record d { pe = noted d.pe; board = board }) (note_entries note) (noted_moved step d.pe (note_entries note) (note_posts step note) (note_executes step note)) refl (note_told note);
-          departs = λ x q el at. still (record d { pe = departed pack d.pe x q; words = slice_set d.words x q }) (Trace.Departed x ∷ []) (departed_moved step pack d.pe x q) refl (λ e r. refl);
+          forwards = λ x l q hand is. still (record d { pe = (forwarding d.pe l q).pe }) (Trace.Forwarded l.id ∷ [])
+              (forwards_still step pack d.pe x l q hand is) refl (λ e r. refl);
+          installs = λ x packed chare hand is at. still (record d { pe = installed d.pe packed chare }) (Trace.Installed packed.index ∷ [])
+              (installs_still step pack d.pe x packed chare hand is at) refl (λ e r. refl);
+          reports = λ note board at taken. still (record d { pe = noted d.pe; board = board }) (note_entries note)
+              (noted_moved step d.pe (note_entries note) (note_posts step note) (note_executes step note)) refl (note_told note);
+          departs = λ x q el at. still (record d { pe = departed pack d.pe x q; words = slice_set d.words x q }) (Trace.Departed x ∷ [])
+              (departed_moved step pack d.pe x q) refl (λ e r. refl);
         }

@@ -84,5 +84,6 @@ module _ {X : Type 0} where
       by false t is rest =
           let a : ◌≡◌ {A = ℕ} (if p.0 == e then 1 else 0) 0 = key_differs e p.0 t in
           let b = rest is in
-          let c : sum_by (λ (x : ℕ × X). if x.0 == e then 1 else 0) (p ∷ ps) ≡ (if p.0 == e then 1 else 0) + sum_by (λ (x : ℕ × X). if x.0 == e then 1 else 0) ps = sum_by-cons (λ (x : ℕ × X). if x.0 == e then 1 else 0) p ps in
+          let c : sum_by (λ (x : ℕ × X). if x.0 == e then 1 else 0) (p ∷ ps) ≡ (if p.0 == e then 1 else 0) + sum_by
+          (λ (x : ℕ × X). if x.0 == e then 1 else 0) ps = sum_by-cons (λ (x : ℕ × X). if x.0 == e then 1 else 0) p ps in
           omega (arith, a, b, c)

@@ -52,7 +52,8 @@ module _ {C A : Type 0} (step : Step C) (pack : C → List ℕ) (unpack : List �
   run_gains w [] last h run = subst (λ (v : After C A). WorldGains w v) (sym run) (gains_none w)
   run_gains w (event ∷ events) last h (first, rest, happens, leads, is) =
       let a : WorldGains w first = event_gains w h event first happens in
-      let b : WorldGains first.0 rest = run_gains first.0 events rest (event_kept step pack FitsInOrder PackedInOrder (order_kept step pack) unpack w event first h happens) leads in
+      let b : WorldGains first.0 rest = run_gains first.0 events rest
+      (event_kept step pack FitsInOrder PackedInOrder (order_kept step pack) unpack w event first h happens) leads in
       subst (λ (v : After C A). WorldGains w v) (sym is)
       (λ e r.
       let x = a e r in

@@ -167,7 +167,8 @@ module _ {C A : Type 0} (w : WorldView C A) (p : ℕ) (pe : PeView C) (at : slic
         new : Contains (option_to_list (note_in step pack pe.room f pe.n pe.me done)) (Finish e) → StandsFinished (with_local w p then_view) e
         new has =
             let note : note_of step pack el pe.n pe.me done ≡ Some (Finish e) = sym noted ∙ only_one (note_in step pack pe.room f pe.n pe.me done) (Finish e) has in
-            let both = finish_ends (worked step pack el pe.n done) el.index (length (pack (outcome_of step pack el pe.n done).state)) pe.me (ending_of step pack el pe.n done) e note in
+            let both = finish_ends (worked step pack el pe.n done) el.index (length (pack (outcome_of step pack el pe.n done).state)) pe.me
+            (ending_of step pack el pe.n done) e note in
             let there : ran_in step pack pe.room f pe.n pe.me done ≡ changed f (ran step pack el pe.n pe.me done) pe.room = rw is refl in
             record {
               p = p;
@@ -200,7 +201,8 @@ module _ {C A : Type 0} (w : WorldView C A) (p : ℕ) (pe : PeView C) (at : slic
     -- the note of an element that its handler finished is owed afterwards
     pub handled_notes : note_of step pack el pe.n pe.me done ≡ Some (Finish e) → IsSaid (with_local w p then_view) e
     handled_notes note =
-        mine_after then_view (Contains-append_right pe.notes (option_to_list (note_in step pack pe.room f pe.n pe.me done)) (Finish e) (its_note (note_in step pack pe.room f pe.n pe.me done) (Finish e) (noted ∙ note)))
+        mine_after then_view (Contains-append_right pe.notes (option_to_list (note_in step pack pe.room f pe.n pe.me done)) (Finish e)
+        (its_note (note_in step pack pe.room f pe.n pe.me done) (Finish e) (noted ∙ note)))
 
   -- of a report
   module _ (note : Note) (board : BoardState A) (owed : slice_get pe.notes 0 ≡ Some note) (taken : board_after w.board note ≡ Some board) where
@@ -219,12 +221,14 @@ module _ {C A : Type 0} (w : WorldView C A) (p : ℕ) (pe : PeView C) (at : slic
         by true u k =
             let same : e ≡ j = grind (arith, nat_tests) in
             let first : note ≡ Finish e = sym s ∙ ap Finish (sym same) in
-            mine_before (subst (λ (v : List Note). Contains v (Finish e)) (sym split) (subst (λ (v : Note). Contains (v ∷ drop 1 pe.notes) (Finish e)) (sym first) (is_first (Finish e) (drop 1 pe.notes))))
+            mine_before (subst (λ (v : List Note). Contains v (Finish e)) (sym split)
+            (subst (λ (v : Note). Contains (v ∷ drop 1 pe.notes) (Finish e)) (sym first) (is_first (Finish e) (drop 1 pe.notes))))
         by false u k =
             let other : e ≢ j = grind (arith, nat_tests) in
             inl (sym (get_set_other w.board.finished j e true other) ∙ k)
     says_before (Sync i r u b q) s t says =
-        let both = where_some (nat_lt q w.board.pes && (nat_lt i (elements w.board.database) && ((r == w.board.database.round) && is_none (report_of w.board.database i)))) (Some (after_report w.board i u b q)) board t in
+        let both = where_some (nat_lt q w.board.pes && (nat_lt i (elements w.board.database) &&
+        ((r == w.board.database.round) && is_none (report_of w.board.database i)))) (Some (after_report w.board i u b q)) board t in
         inl (subst (λ (v : BoardState A). SaysFinished v e) (sym (same_Some (after_report w.board i u b q) board both.1)) says)
 
     reported_told : IsSaid (with_local w p reported) e → IsSaid w e
@@ -250,7 +254,8 @@ module _ {C A : Type 0} (w : WorldView C A) (p : ℕ) (pe : PeView C) (at : slic
               let other : e ≢ j = grind (arith, nat_tests) in
               get_set_other w.board.finished j e true other ∙ says
       says_after (Sync i r u b q) t says =
-          let both = where_some (nat_lt q w.board.pes && (nat_lt i (elements w.board.database) && ((r == w.board.database.round) && is_none (report_of w.board.database i)))) (Some (after_report w.board i u b q)) board t in
+          let both = where_some (nat_lt q w.board.pes && (nat_lt i (elements w.board.database) &&
+          ((r == w.board.database.round) && is_none (report_of w.board.database i)))) (Some (after_report w.board i u b q)) board t in
           subst (λ (v : BoardState A). SaysFinished v e) (same_Some (after_report w.board i u b q) board both.1) says
 
       finish_says : board_after w.board (Finish e) ≡ Some board → SaysFinished board e
@@ -281,7 +286,8 @@ module _ {C A : Type 0} (w : WorldView C A) (p : ℕ) (pe : PeView C) (at : slic
           starts = λ f el is fresh. handled_told step pack f (Resumption 0) pe.hand el is;
           goes_on = λ f round el is waits place. handled_told step pack f (Resumption round) pe.hand el is;
           looks = λ word s. inl (quiet_before (record (local_view w pe) { pe = looked pe word }) (looked_notes pe word (hand_wants pe)) refl s);
-          flushes = λ q parcel queue front there s. inl (quiet_before (record (local_view w pe) { pe = gave_up pe; queues = slice_set w.queues q (queue ++ parcel ∷ []) }) refl refl s);
+          flushes = λ q parcel queue front there s. inl (quiet_before
+              (record (local_view w pe) { pe = gave_up pe; queues = slice_set w.queues q (queue ++ parcel ∷ []) }) refl refl s);
           delivers = λ queue rest parcel there hand is s. inl (quiet_before (record (local_view w pe) { pe = received pe parcel; queues = slice_set w.queues p rest }) refl refl s);
           executes = λ x l el hand is there started. handled_told step pack l.to (OfLetter l) None el there;
           shelves = λ x l hand is s. inl (quiet_before (record (local_view w pe) { pe = (shelving pe l).pe }) refl refl s);

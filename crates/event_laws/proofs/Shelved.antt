@@ -23,7 +23,8 @@ shelf_weighs : {C A : Type 0} (w : WorldView C A) (g : LetterWeight) (p : ℕ) (
     → Contains pe.shelf l → letter_in g no_elements (Waiting p) l ≤ world_at g no_elements w
 shelf_weighs {C} w g p pe l at (k, lt, is) =
     let any : Any (λ x. x ≡ l) pe.shelf = (k, l, lt, is, refl) in
-    let a : letter_in g no_elements (Waiting p) l ≤ sum_by (letter_in g no_elements (Waiting p)) pe.shelf = any_le (letter_in g no_elements (Waiting p)) (λ x. x ≡ l) (letter_in g no_elements (Waiting p) l) pe.shelf (λ x e. same x e) any in
+    let a : letter_in g no_elements (Waiting p) l ≤ sum_by (letter_in g no_elements (Waiting p)) pe.shelf = any_le
+    (letter_in g no_elements (Waiting p)) (λ x. x ≡ l) (letter_in g no_elements (Waiting p) l) pe.shelf (λ x e. same x e) any in
     let b : pe_at g no_elements p pe ≤ sum_from (λ q (x : PeView C). pe_at g no_elements q x) w.pes = member_from_le (λ q (x : PeView C). pe_at g no_elements q x) w.pes p pe at in
     omega (arith, a, b)
   where
@@ -55,7 +56,8 @@ module _ (words : List ℕ) (p e : ℕ) (word : slice_get words e ≡ Some p) wh
       let k = room_named words q key e a in
       let w : slice_get words e ≡ Some q = k.1 in
       let same : p ≡ q = cc in
-      let x : in_room p e (Room q key) e ≡ 1 = subst (λ (u : ℕ). in_room p e (Room q u) e ≡ 1) (sym k.0) (subst (λ (v : ℕ). in_room p e (Room v e) e ≡ 1) same (room_itself p e e)) in
+      let x : in_room p e (Room q key) e ≡ 1 = subst (λ (u : ℕ). in_room p e (Room q u) e ≡ 1) (sym k.0)
+      (subst (λ (v : ℕ). in_room p e (Room v e) e ≡ 1) same (room_itself p e e)) in
       omega (arith, b, x)
 
   nowhere : (s : Site) (i : ℕ) (b : Bool) → nat_eq i e ≡ b → misnamed words s i ≡ 0 → on_or_for p e s i ≡ 0 → at_index e s i ≡ 0
@@ -81,7 +83,9 @@ module _ {C A : Type 0} (n : ℕ) (w : WorldView C A) (trace : List TraceEntry) 
       by : slice_get w.words l.to ≡ Some p → world_at no_letters (in_room p l.to) w ≡ 0 → world_at no_letters (at_index l.to) w ≡ 1 → (m : ℕ)
           → world_at no_letters (bound_at p l.to) w ≡ m → IsBoundFor w l.to p
       by word away once zero z =
-          let x = world_zeros no_letters (in_room p l.to) no_letters (bound_at p l.to) no_letters (on_or_for p l.to) (λ s id to u v. refl) (λ s i u v. omega (arith, u, v)) w away z in
-          let y = world_zeros no_letters (misnamed w.words) no_letters (on_or_for p l.to) no_letters (at_index l.to) (λ s id to u v. refl) (λ s i u v. nowhere w.words p l.to word s i (nat_eq i l.to) refl u v) w placed.named x in
+          let x = world_zeros no_letters (in_room p l.to) no_letters (bound_at p l.to) no_letters (on_or_for p l.to) (λ s id to u v. refl)
+          (λ s i u v. omega (arith, u, v)) w away z in
+          let y = world_zeros no_letters (misnamed w.words) no_letters (on_or_for p l.to) no_letters (at_index l.to) (λ s id to u v. refl)
+          (λ s i u v. nowhere w.words p l.to word s i (nat_eq i l.to) refl u v) w placed.named x in
           absurd (omega (arith, y, once))
       by word away once (suc m) z = weighs_bound p l.to w (omega (arith, z))

@@ -166,13 +166,20 @@ module _ (g1 : LetterWeight) (k1 : ElementWeight) (g2 : LetterWeight) (k2 : Elem
   pe_zeros : {C : Type 0} (p : ℕ) (pe : PeView C) → pe_at g1 k1 p pe ≡ 0 → pe_at g2 k2 p pe ≡ 0 → pe_at g3 k3 p pe ≡ 0
   pe_zeros {C} p pe a b =
       let hand : hand_at g3 k3 p pe.hand ≡ 0 = hand_zeros p pe.hand (omega (arith, a)) (omega (arith, b)) in
-      let box : sum_by (item_out g3 k3) pe.outbox ≡ 0 = zeros_by (item_out g1 k1) (item_out g2 k2) (item_out g3 k3) pe.outbox (λ x. parcel_zeros (address_site x.address) x.parcel) (omega (arith, a)) (omega (arith, b)) in
-      let shelf : sum_by (letter_in g3 k3 (Waiting p)) pe.shelf ≡ 0 = zeros_by (letter_in g1 k1 (Waiting p)) (letter_in g2 k2 (Waiting p)) (letter_in g3 k3 (Waiting p)) pe.shelf (λ l. gs (Waiting p) l.id l.to) (omega (arith, a)) (omega (arith, b)) in
-      let room : sum_by (entry_at g3 k3 p) pe.room ≡ 0 = zeros_by (λ (x : ℕ × ElementView C). entry_at g1 k1 p x) (λ (x : ℕ × ElementView C). entry_at g2 k2 p x) (λ (x : ℕ × ElementView C). entry_at g3 k3 p x) pe.room (λ x. ks (Room p x.0) x.1.index) (omega (arith, a)) (omega (arith, b)) in
+      let box : sum_by (item_out g3 k3) pe.outbox ≡ 0 = zeros_by (item_out g1 k1) (item_out g2 k2) (item_out g3 k3) pe.outbox
+      (λ x. parcel_zeros (address_site x.address) x.parcel) (omega (arith, a)) (omega (arith, b)) in
+      let shelf : sum_by (letter_in g3 k3 (Waiting p)) pe.shelf ≡ 0 = zeros_by (letter_in g1 k1 (Waiting p)) (letter_in g2 k2 (Waiting p))
+      (letter_in g3 k3 (Waiting p)) pe.shelf (λ l. gs (Waiting p) l.id l.to) (omega (arith, a)) (omega (arith, b)) in
+      let room : sum_by (entry_at g3 k3 p) pe.room ≡ 0 = zeros_by (λ (x : ℕ × ElementView C). entry_at g1 k1 p x)
+      (λ (x : ℕ × ElementView C). entry_at g2 k2 p x) (λ (x : ℕ × ElementView C). entry_at g3 k3 p x) pe.room
+      (λ x. ks (Room p x.0) x.1.index) (omega (arith, a)) (omega (arith, b)) in
       omega (arith, hand, box, shelf, room)
 
   pub world_zeros : {C A : Type 0} (w : WorldView C A) → world_at g1 k1 w ≡ 0 → world_at g2 k2 w ≡ 0 → world_at g3 k3 w ≡ 0
   world_zeros {C} w a b =
-      let pes : sum_from (λ p (pe : PeView C). pe_at g3 k3 p pe) w.pes ≡ 0 = zeros_from (λ p (pe : PeView C). pe_at g1 k1 p pe) (λ p (pe : PeView C). pe_at g2 k2 p pe) (λ p (pe : PeView C). pe_at g3 k3 p pe) w.pes (λ p pe. pe_zeros p pe) (omega (arith, a)) (omega (arith, b)) in
-      let queues : sum_from (queue_at g3 k3) w.queues ≡ 0 = zeros_from (queue_at g1 k1) (queue_at g2 k2) (queue_at g3 k3) w.queues (λ q queue. zeros_by (parcel_at g1 k1 (Bound q)) (parcel_at g2 k2 (Bound q)) (parcel_at g3 k3 (Bound q)) queue (parcel_zeros (Bound q))) (omega (arith, a)) (omega (arith, b)) in
+      let pes : sum_from (λ p (pe : PeView C). pe_at g3 k3 p pe) w.pes ≡ 0 = zeros_from (λ p (pe : PeView C). pe_at g1 k1 p pe)
+      (λ p (pe : PeView C). pe_at g2 k2 p pe) (λ p (pe : PeView C). pe_at g3 k3 p pe) w.pes (λ p pe. pe_zeros p pe) (omega (arith, a)) (omega (arith, b)) in
+      let queues : sum_from (queue_at g3 k3) w.queues ≡ 0 = zeros_from (queue_at g1 k1) (queue_at g2 k2) (queue_at g3 k3) w.queues
+      (λ q queue. zeros_by (parcel_at g1 k1 (Bound q)) (parcel_at g2 k2 (Bound q)) (parcel_at g3 k3 (Bound q)) queue
+      (parcel_zeros (Bound q))) (omega (arith, a)) (omega (arith, b)) in
       omega (arith, pes, queues)

@@ -126,9 +126,11 @@ module _ {C A : Type 0} (n : ℕ) (w : WorldView C A) (h : Agrees n w) (one : On
 
     in_room : (pe : PeView C) → AgreesAt m pe → 1 ≤ of_pe no_letter (by_index (one_at e)) pe → 1 ≤ count_in e pe.room
     in_room pe k le =
-        let parts : 1 ≤ of_hand no_letter (by_index (one_at e)) pe.hand + (sum_by (of_item no_letter (by_index (one_at e))) pe.outbox + (sum_by (weigh no_letter) pe.shelf + count_in e pe.room)) = le in
+        let parts : 1 ≤ of_hand no_letter (by_index (one_at e))
+        pe.hand + (sum_by (of_item no_letter (by_index (one_at e))) pe.outbox + (sum_by (weigh no_letter) pe.shelf + count_in e pe.room)) = le in
         let a = hand_zero pe.hand k.hand in
-        let b : sum_by (of_item no_letter (by_index (one_at e))) pe.outbox ≡ 0 = all_zero (of_item no_letter (by_index (one_at e))) pe.outbox (λ i x below. parcel_zero _ (k.outbox i x below)) in
+        let b : sum_by (of_item no_letter (by_index (one_at e))) pe.outbox ≡ 0 = all_zero (of_item no_letter (by_index (one_at e)))
+        pe.outbox (λ i x below. parcel_zero _ (k.outbox i x below)) in
         let c : sum_by (weigh no_letter) pe.shelf ≡ 0 = sum_zero pe.shelf in
         omega (arith, parts, a, b, c)
 
@@ -144,7 +146,8 @@ module _ {C A : Type 0} (n : ℕ) (w : WorldView C A) (h : Agrees n w) (one : On
             let i : el.index ≡ e = found_index e el pe.room here.keyed f.1 in
             let k : HasReported m pe.me el = each_reported m n h.measured complete pe.me pe.notes el (of_found (AgreesWith m pe.me pe.notes) e el pe.room here.room f.1) in
             let me : pe.me ≡ p = h.places p pe at in
-            let report : report_of m e ≡ Some (k.bytes, p) = subst (λ (v : ℕ). report_of m e ≡ Some (k.bytes, v)) me (subst (λ (v : ℕ). report_of m v ≡ Some (k.bytes, pe.me)) i k.reported) in
+            let report : report_of m e ≡ Some (k.bytes, p) = subst (λ (v : ℕ). report_of m e ≡ Some (k.bytes, v)) me
+            (subst (λ (v : ℕ). report_of m v ≡ Some (k.bytes, pe.me)) i k.reported) in
             record {
               p = p;
               pe = pe;
@@ -155,7 +158,8 @@ module _ {C A : Type 0} (n : ℕ) (w : WorldView C A) (h : Agrees n w) (one : On
               stands = f.1;
               sized = size_at snapshot.sizes e (k.bytes, p) (subst (λ (v : List (Option (ℕ × ℕ))). get_or v e None ≡ Some (k.bytes, p)) (sym s.sizes_reported) report);
               loaded = subst (λ (v : List ℕ). slice_get v e ≡ Some k.units) (sym s.loads_charged) (subst (λ (v : ℕ). slice_get m.loads v ≡ Some k.units) i k.charged);
-              marked = subst (λ (v : ℕ). Contains el.marks (Synced (Sync e m.round k.units k.bytes v))) me (subst (λ (v : ℕ). Contains el.marks (Synced (Sync v m.round k.units k.bytes pe.me))) i k.marked);
+              marked = subst (λ (v : ℕ). Contains el.marks (Synced (Sync e m.round k.units k.bytes v))) me
+                  (subst (λ (v : ℕ). Contains el.marks (Synced (Sync v m.round k.units k.bytes pe.me))) i k.marked);
             }
 
 -- what is said of the snapshot of a round

@@ -130,7 +130,10 @@ module _ {C A : Type 0} (step : Step C) (pack : C → List ℕ) (p : ℕ) (d : L
         shelves = λ x l hand is. single _ (Trace.Shelved l.id) refl (λ r. refl) (λ e r k. cc);
         forwards = λ x l q hand is. single _ (Trace.Forwarded l.id) refl (λ r. refl) (λ e r k. cc);
         installs = λ x packed chare hand is at. single _ (Trace.Installed packed.index) refl (λ r. refl) (λ e r k. cc);
-        reports = λ note board at taken. record { board = inr (record { note = note; taken = taken; told = refl }); stands = λ e r some there. absurd (note_resumes_none note e r there) };
+        reports = λ note board at taken. record {
+          board = inr (record { note = note; taken = taken; told = refl });
+          stands = λ e r some there. absurd (note_resumes_none note e r there);
+        };
         departs = λ e q el at. single _ (Trace.Departed e) refl (λ r. refl) (λ x r k. cc);
       }
 

@@ -43,7 +43,8 @@ pub times_posts : (test : TraceEntry → Bool) → ((id : ℕ × ℕ) (to : ℕ)
 times_posts test none me k [] = refl
 times_posts test none me k (send ∷ sends) =
     let a : one test (Posted (me, k) send.0) ≡ 0 = one_fails test (Posted (me, k) send.0) (none (me, k) send.0) in
-    let b : times test (Posted (me, k) send.0 ∷ posts_of me (k + 1) sends) ≡ one test (Posted (me, k) send.0) + times test (posts_of me (k + 1) sends) = times-cons test (Posted (me, k) send.0) (posts_of me (k + 1) sends) in
+    let b : times test (Posted (me, k) send.0 ∷ posts_of me (k + 1) sends) ≡ one test (Posted (me, k) send.0) + times test
+    (posts_of me (k + 1) sends) = times-cons test (Posted (me, k) send.0) (posts_of me (k + 1) sends) in
     omega (arith, a, b, times_posts test none me (k + 1) sends)
 
 module _ {X : Type 0} where

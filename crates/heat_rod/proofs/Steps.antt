@@ -25,7 +25,8 @@ next_more left cells right i new xs ys before made is =
     ∙ sym (map-range_with_len_more f 0 i i (omega arith))
 
 -- and its change
-pub change_more : (most left : Float) (cells : List Float) (right : Float) (i : ℕ) (new old now : Float) → old ≡ fold greatest_f64 most (map (change_at left cells right) (range_with_len 0 i))
+pub change_more : (most left : Float) (cells : List Float) (right : Float) (i : ℕ) (new old now : Float)
+    → old ≡ fold greatest_f64 most (map (change_at left cells right) (range_with_len 0 i))
     → now ≡ greatest_f64 old new → new ≡ change_at left cells right i → now ≡ fold greatest_f64 most (map (change_at left cells right) (range_with_len 0 (i + 1)))
 change_more most left cells right i new old now before made is =
     let f = change_at left cells right in
@@ -61,7 +62,8 @@ pub beside_next : (left : Float) (cells : List Float) (i : ℕ) (d : Float) → 
 beside_next left cells i d lt = rw (add-one i) (get_or_default cells i d left lt)
 
 -- and this is its change
-pub change_is : (left : Float) (cells : List Float) (right : Float) (i : ℕ) (heat new d : Float) → i < length cells → new ≡ float_with_sign false (sub binary64 heat (get_or cells i d))
+pub change_is : (left : Float) (cells : List Float) (right : Float) (i : ℕ) (heat new d : Float) → i < length cells
+    → new ≡ float_with_sign false (sub binary64 heat (get_or cells i d))
     → heat ≡ next_at left cells right i → new ≡ change_at left cells right i
 change_is left cells right i heat new d lt is heat_is =
     is

@@ -28,7 +28,8 @@ impl<A: Allocator + Copy> Pup<A> for GhostCell {
 
     ghost unpack = { λ bytes. made (λ x. record { from_left = x.0; step = x.1; heat = x.2 }) (⟦<(bool, u32, f64) as Pup<A>>⟧.unpack bytes) };
 
-    ghost round_trip = { (struct_trips (λ g. (g.from_left, g.step, g.heat)) (λ x. record { from_left = x.0; step = x.1; heat = x.2 }) (λ _. refl) (three_trips bool_trips u32_trips f64_trips)).trip };
+    ghost round_trip = { (struct_trips (λ g. (g.from_left, g.step, g.heat)) (λ x. record { from_left = x.0; step = x.1; heat = x.2 }) (λ _. refl)
+        (three_trips bool_trips u32_trips f64_trips)).trip };
 
     fn packed_len(&self) -> u32 {
         Fields::<A>::fields_len(&(&self.from_left, &self.step, &self.heat))

@@ -31,5 +31,6 @@ slot_again : (s : Slot) → slot_of (slot_parts s) ≡ s
 slot_again Empty = refl
 slot_again (Filled value) = refl
 
-pub slot_trips : RoundTrip (λ s. ((slot_parts s).0 < 2 ^ 32) × ((slot_parts s).1 < 2 ^ 64)) (λ s. Unit {0} × Unit {0}) (λ s. to_be_bytes w32 (slot_parts s).0 ++ to_be_bytes w64 (slot_parts s).1) (λ bytes. made slot_of (unpack_pair unpack_u32 unpack_u64 bytes))
+pub slot_trips : RoundTrip (λ s. ((slot_parts s).0 < 2 ^ 32) × ((slot_parts s).1 < 2 ^ 64)) (λ s. Unit {0} × Unit {0})
+    (λ s. to_be_bytes w32 (slot_parts s).0 ++ to_be_bytes w64 (slot_parts s).1) (λ bytes. made slot_of (unpack_pair unpack_u32 unpack_u64 bytes))
 slot_trips = struct_trips slot_parts slot_of slot_again (pair_trips u32_trips u64_trips)

@@ -177,7 +177,8 @@ Nothing = Unit {0}
 
 abbrev pub AreCounted : StripView → Type 0
 AreCounted s =
-    Nothing × (Nothing × (Nothing × (Nothing × (Nothing × ((Nothing × Nothing) × ((Nothing × Nothing) × ((Nothing × Nothing) × ((Nothing × Nothing) × (IsCounted s.cells × All (λ _. Nothing) s.cells)))))))))
+    Nothing × (Nothing × (Nothing × (Nothing × (Nothing
+    × ((Nothing × Nothing) × ((Nothing × Nothing) × ((Nothing × Nothing) × ((Nothing × Nothing) × (IsCounted s.cells × All (λ _. Nothing) s.cells)))))))))
 
 all_nothing : (xs : List ℕ) → All (λ _. Nothing) xs
 all_nothing xs = λ k d inside. tt
@@ -189,5 +190,7 @@ cells_len (x ∷ xs) = grind (arith, flat_map-cons, length-append, cells_len xs)
 -- every strip packs, into 72 bytes and 8 for each cell
 pub strip_packs : (s : StripView) → is_strip s ≡ true → AreCounted s × (length (strip_pack s) ≤ STATE_BYTES)
 strip_packs s right =
-    let cells : length s.cells ≤ CELLS = grind (arith, nat_tests, right) in
-    ((tt, (tt, (tt, (tt, (tt, ((tt, tt), ((tt, tt), ((tt, tt), ((tt, tt), (omega (arith, cells), all_nothing s.cells)))))))))), grind (arith, length-append, cells_len s.cells, cells))
+    let cells : length s.cells ≤ CELLS = grind (arith, nat_tests, right) in (
+      (tt, (tt, (tt, (tt, (tt, ((tt, tt), ((tt, tt), ((tt, tt), ((tt, tt), (omega (arith, cells), all_nothing s.cells)))))))))),
+      grind (arith, length-append, cells_len s.cells, cells),
+    )

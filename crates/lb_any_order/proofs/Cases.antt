@@ -86,7 +86,8 @@ lesser_moves refined fewest (InAnyOrder f) most as_many (same, no_more) =
 fewest_within : {A : Type 0} (loads : List ℕ) (sizes : List (ℕ × ℕ)) (pes tolerance : ℕ) (f : Fewest A) → IsFewest loads sizes pes tolerance f
     → peak loads f.reordered.cuts ≤ limit_of f.reordered.least.bottleneck tolerance
 fewest_within loads sizes pes tolerance f few =
-    subst (λ t. peak loads f.reordered.cuts ≤ limit_of f.reordered.least.bottleneck t) few.tolerance_is (peak_within loads pes (reordered_limit f.reordered) f.reordered.cuts few.right.plan.divides few.right.plan.within)
+    subst (λ t. peak loads f.reordered.cuts ≤ limit_of f.reordered.least.bottleneck t) few.tolerance_is
+    (peak_within loads pes (reordered_limit f.reordered) f.reordered.cuts few.right.plan.divides few.right.plan.within)
 
 pub within : {A : Type 0} (loads : List ℕ) (sizes : List (ℕ × ℕ)) (pes tolerance : ℕ) (refined : Refined A) (fewest : Fewest A) (r : Reordering A)
     → refined_bottleneck refined ≡ peak loads (refined_cuts refined) → refined_bottleneck refined ≤ limit_of (least_load refined) tolerance

@@ -37,8 +37,10 @@ module _ {A : Type 0} (loads : List ℕ) (sizes : List (ℕ × ℕ)) (pes tolera
       whole loads sizes pes tolerance r names present decided order within
   nothing_moves (InAnyOrder f) names present few order within =
       let counted : length names ≡ pes = order.naming.counted in
-      let in_order : NoneAbove loads pes (limit_of f.reordered.least.bottleneck tolerance) present = subst (λ n. NoneAbove loads n (limit_of f.reordered.least.bottleneck tolerance) present) counted within.within in
-      let below : NoneAbove loads pes (reordered_limit f.reordered) present = subst (λ t. NoneAbove loads pes (limit_of f.reordered.least.bottleneck t) present) (sym few.tolerance_is) in_order in
+      let in_order : NoneAbove loads pes (limit_of f.reordered.least.bottleneck tolerance) present = subst
+      (λ n. NoneAbove loads n (limit_of f.reordered.least.bottleneck tolerance) present) counted within.within in
+      let below : NoneAbove loads pes (reordered_limit f.reordered) present = subst
+      (λ t. NoneAbove loads pes (limit_of f.reordered.least.bottleneck t) present) (sym few.tolerance_is) in_order in
       let divides : IsDivision 0 (length loads) pes present = subst (λ n. IsDivision 0 (length loads) n present) counted within.divides in
       let less = few.fewest.fewest present names (record { divides = divides; within = below; naming = order.naming }) in
       omega (arith, few.moved_is, less, none_moves sizes names present order.in_order)

@@ -13,7 +13,9 @@ use Rattle.lb_certificates.proofs.HeldTables.{cost_by_table, moved_by_table}
 use Rattle.lb_certificates.proofs.NoFlaws.{first_by_number}
 
 -- the sum of the prices is the last that is looked at
-pub held_gap_is_first : (blocks : ℕ) (held names : List ℕ) (u v : List ℤ) → 0 < blocks → IsNaming blocks names → length u ≡ blocks → length v ≡ blocks → ((b p : ℕ) → b < blocks → p < blocks → (price_at u b +ℤ price_at v p) ≤ℤ pos (held_cost blocks held b p)) → price_sum u +ℤ price_sum v ≢ pos (held_moved blocks held names) → IsFirst (HasHeldFlaw blocks held names u v) PriceGap
+pub held_gap_is_first : (blocks : ℕ) (held names : List ℕ) (u v : List ℤ) → 0 < blocks → IsNaming blocks names → length u ≡ blocks
+    → length v ≡ blocks → ((b p : ℕ) → b < blocks → p < blocks → (price_at u b +ℤ price_at v p) ≤ℤ pos (held_cost blocks held b p))
+    → price_sum u +ℤ price_sum v ≢ pos (held_moved blocks held names) → IsFirst (HasHeldFlaw blocks held names u v) PriceGap
 held_gap_is_first blocks held names u v some naming counted_u counted_v low wrong =
     first_by_number (HasHeldFlaw blocks held names u v) PriceGap refl wrong lower
   where
@@ -51,7 +53,8 @@ module _ (blocks : ℕ) (sizes : List (ℕ × ℕ)) (cuts held names : List ℕ)
       let proved : Proves blocks (block_cost sizes cuts) (bytes_moved sizes cuts names) u v = record {
         block_prices = h.proved.block_prices;
         pe_prices = h.proved.pe_prices;
-        low = λ b p block pe. subst (λ cost. (price_at u b +ℤ price_at v p) ≤ℤ pos cost) (cost_by_table blocks sizes cuts held b p square table block pe) (h.proved.low b p block pe);
+        low = λ b p block pe. subst (λ cost. (price_at u b +ℤ price_at v p) ≤ℤ pos cost)
+            (cost_by_table blocks sizes cuts held b p square table block pe) (h.proved.low b p block pe);
         adds_up = h.proved.adds_up ∙ ap pos (moved_by_table blocks sizes cuts held names square table h.naming);
       } in
       record {
@@ -69,28 +72,35 @@ module _ (blocks : ℕ) (sizes : List (ℕ × ℕ)) (cuts held names : List ℕ)
   table_named square table h =
       let same : blocks_between cuts ≡ blocks = counted table in
       let naming : IsNaming blocks names = subst (λ n. IsNaming n names) same h.naming in
-      let proved : Proves blocks (block_cost sizes cuts) (bytes_moved sizes cuts names) u v = subst (λ n. Proves n (block_cost sizes cuts) (bytes_moved sizes cuts names) u v) same h.proved in
+      let proved : Proves blocks (block_cost sizes cuts) (bytes_moved sizes cuts names) u v = subst
+      (λ n. Proves n (block_cost sizes cuts) (bytes_moved sizes cuts names) u v) same h.proved in
       record {
         some_block = omega (arith, same, h.blocks.some_block);
         naming = naming;
         proved = record {
           block_prices = proved.block_prices;
           pe_prices = proved.pe_prices;
-          low = λ b p block pe. subst (λ cost. (price_at u b +ℤ price_at v p) ≤ℤ pos cost) (sym (cost_by_table blocks sizes cuts held b p square table block pe)) (proved.low b p block pe);
+          low = λ b p block pe. subst (λ cost. (price_at u b +ℤ price_at v p) ≤ℤ pos cost)
+              (sym (cost_by_table blocks sizes cuts held b p square table block pe)) (proved.low b p block pe);
           adds_up = proved.adds_up ∙ ap pos (sym (moved_by_table blocks sizes cuts held names square table naming));
         };
       }
 
   -- an answer by the table accepts the namings of the blocks that are proved
-  pub blocks_of_answer : (answer : Result ℕ Flaw) → length held ≡ blocks * blocks → IsHeld blocks sizes cuts held → OnOk answer (IsNamedBy blocks held names u v) → IfErr answer (IsFirst (HasHeldFlaw blocks held names u v)) → IsOk answer ↔ IsNamedWithin blocks sizes cuts names u v
+  pub blocks_of_answer : (answer : Result ℕ Flaw) → length held ≡ blocks * blocks → IsHeld blocks sizes cuts held
+      → OnOk answer (IsNamedBy blocks held names u v) → IfErr answer (IsFirst (HasHeldFlaw blocks held names u v))
+      → IsOk answer ↔ IsNamedWithin blocks sizes cuts names u v
   blocks_of_answer (Ok _) square table named first = (λ _. named_by_table square table named, λ _. refl)
   blocks_of_answer (Err flaw) square table named first =
       (λ accepted. absurd cc, λ h. absurd (held_flawless blocks held names u v (table_named square table h) flaw first.applies_itself))
 
-  pub moved_of_answer : (answer : Result ℕ Flaw) → length held ≡ blocks * blocks → IsHeld blocks sizes cuts held → OnOk answer (IsNamedBy blocks held names u v) → IfOk answer (λ moved. moved ≡ held_moved blocks held names) → IfOk answer (λ moved. moved ≡ bytes_moved sizes cuts names)
+  pub moved_of_answer : (answer : Result ℕ Flaw) → length held ≡ blocks * blocks → IsHeld blocks sizes cuts held
+      → OnOk answer (IsNamedBy blocks held names u v) → IfOk answer (λ moved. moved ≡ held_moved blocks held names)
+      → IfOk answer (λ moved. moved ≡ bytes_moved sizes cuts names)
   moved_of_answer (Ok _) square table named moved = moved ∙ moved_by_table blocks sizes cuts held names square table named.naming
   moved_of_answer (Err _) square table named moved = tt
 
-  pub cheapest_of_answer : (answer : Result ℕ Flaw) → length held ≡ blocks * blocks → IsHeld blocks sizes cuts held → OnOk answer (IsNamedBy blocks held names u v) → OnOk answer (IsCheapest sizes cuts blocks names)
+  pub cheapest_of_answer : (answer : Result ℕ Flaw) → length held ≡ blocks * blocks → IsHeld blocks sizes cuts held
+      → OnOk answer (IsNamedBy blocks held names u v) → OnOk answer (IsCheapest sizes cuts blocks names)
   cheapest_of_answer answer square table named =
       on_ok_weaker answer (λ h. subst (λ n. IsCheapest sizes cuts n names) (counted table) (cheapest_from_named sizes cuts names u v (named_by_table square table h))) named

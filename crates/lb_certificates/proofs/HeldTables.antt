@@ -44,7 +44,8 @@ on_all n (size ∷ sizes) placed =
     let here : total n (λ p. bytes_at size p) ≡ size.0 = pick_one n size.1 size.0 (placed 0 size (omega arith)) in
     let rest : total n (λ p. sum_by (λ size. bytes_at size p) sizes) ≡ sum_by (λ size. size.0) sizes = on_all n sizes (λ k d inside. placed (suc k) d (omega (arith, inside))) in
     let both = total_add n (λ p. bytes_at size p) (λ p. sum_by (λ size. bytes_at size p) sizes) in
-    let split : total n (λ p. sum_by (λ size. bytes_at size p) (size ∷ sizes)) ≡ total n (λ p. bytes_at size p + sum_by (λ size. bytes_at size p) sizes) = total_same n _ _ (λ p _. sum_by-cons (λ size. bytes_at size p) size sizes) in
+    let split : total n (λ p. sum_by (λ size. bytes_at size p) (size ∷ sizes)) ≡ total n
+    (λ p. bytes_at size p + sum_by (λ size. bytes_at size p) sizes) = total_same n _ _ (λ p _. sum_by-cons (λ size. bytes_at size p) size sizes) in
     omega (arith, here, rest, both, split, sum_by-cons (λ (s : ℕ × ℕ). s.0) size sizes)
 
 -- each byte is on a PE or moves there
@@ -68,13 +69,16 @@ all_moved_or_held (size ∷ sizes) p =
     )
 
 -- what a block costs by the table of its elements
-pub cost_by_table : (blocks : ℕ) (sizes : List (ℕ × ℕ)) (cuts held : List ℕ) (b p : ℕ) → length held ≡ blocks * blocks → IsHeld blocks sizes cuts held → b < blocks → p < blocks → held_cost blocks held b p ≡ block_cost sizes cuts b p
+pub cost_by_table : (blocks : ℕ) (sizes : List (ℕ × ℕ)) (cuts held : List ℕ) (b p : ℕ) → length held ≡ blocks * blocks
+    → IsHeld blocks sizes cuts held → b < blocks → p < blocks → held_cost blocks held b p ≡ block_cost sizes cuts b p
 cost_by_table blocks sizes cuts held b p square table block pe =
     let first : ℕ = slice_index cuts b in
     let count : ℕ = slice_index cuts (b + 1) - first in
     let elements : List (ℕ × ℕ) = take count (drop first sizes) in
-    let placed : All (λ size. size.1 < blocks) elements = All-take (λ (size : ℕ × ℕ). size.1 < blocks) count (drop first sizes) (All-drop (λ (size : ℕ × ℕ). size.1 < blocks) first sizes table.placed) in
-    let entries : total blocks (λ q. slice_index held (b * blocks + q)) ≡ total blocks (λ q. sum_by (λ size. bytes_at size q) elements) = total_same blocks _ _ (λ q below. table.exact b q block below) in
+    let placed : All (λ size. size.1 < blocks) elements = All-take (λ (size : ℕ × ℕ). size.1 < blocks) count (drop first sizes)
+    (All-drop (λ (size : ℕ × ℕ). size.1 < blocks) first sizes table.placed) in
+    let entries : total blocks (λ q. slice_index held (b * blocks + q)) ≡ total blocks
+    (λ q. sum_by (λ size. bytes_at size q) elements) = total_same blocks _ _ (λ q below. table.exact b q block below) in
     omega (
       arith,
       row_sum blocks held b square block,
@@ -86,6 +90,8 @@ cost_by_table blocks sizes cuts held b p square table block pe =
     )
 
 -- and what a naming moves
-pub moved_by_table : (blocks : ℕ) (sizes : List (ℕ × ℕ)) (cuts held names : List ℕ) → length held ≡ blocks * blocks → IsHeld blocks sizes cuts held → IsNaming blocks names → held_moved blocks held names ≡ bytes_moved sizes cuts names
+pub moved_by_table : (blocks : ℕ) (sizes : List (ℕ × ℕ)) (cuts held names : List ℕ) → length held ≡ blocks * blocks
+    → IsHeld blocks sizes cuts held → IsNaming blocks names → held_moved blocks held names ≡ bytes_moved sizes cuts names
 moved_by_table blocks sizes cuts held names square table naming =
-    total_same blocks _ _ (λ b inside. cost_by_table blocks sizes cuts held b (slice_index names b) square table inside (naming.below b inside)) ∙ sym (moved_is_cost sizes cuts names blocks table.divides)
+    total_same blocks _ _ (λ b inside. cost_by_table blocks sizes cuts held b (slice_index names b) square table inside
+    (naming.below b inside)) ∙ sym (moved_is_cost sizes cuts names blocks table.divides)

@@ -10,7 +10,8 @@ pub zip_counted : (bytes places : List ℕ) → length places ≡ length bytes �
 zip_counted bytes places paired = omega (arith, length-zip bytes places, paired)
 
 -- one of the pairs
-pub pair_at : (bytes places : List ℕ) (i : ℕ) → length places ≡ length bytes → i < length bytes → (slice_index bytes i, slice_index places i) ≡ get_or (zip bytes places) i (slice_index bytes i, slice_index places i)
+pub pair_at : (bytes places : List ℕ) (i : ℕ) → length places ≡ length bytes → i < length bytes
+    → (slice_index bytes i, slice_index places i) ≡ get_or (zip bytes places) i (slice_index bytes i, slice_index places i)
 pair_at bytes places i paired inside =
     let within : i < length (zip bytes places) = omega (arith, inside, zip_counted bytes places paired) in
     sym (get_or_default (zip bytes places) i (slice_index bytes i, slice_index places i) (0, 0) within ∙ get_or-zip bytes places i (0, 0) inside (omega (arith, inside, paired)))

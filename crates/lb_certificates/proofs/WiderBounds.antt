@@ -6,6 +6,7 @@ pub wider_blocks : (most more : ℕ) (sizes : List (ℕ × ℕ)) (cuts : List �
 wider_blocks most more sizes cuts wider h =
     record { some_block = h.some_block; few_blocks = omega (arith, wider, h.few_blocks); divides = h.divides }
 
-pub wider_named : (most more : ℕ) (sizes : List (ℕ × ℕ)) (cuts names : List ℕ) (u v : List ℤ) → most ≤ more → IsNamedWithin most sizes cuts names u v → IsNamedWithin more sizes cuts names u v
+pub wider_named : (most more : ℕ) (sizes : List (ℕ × ℕ)) (cuts names : List ℕ) (u v : List ℤ) → most ≤ more
+    → IsNamedWithin most sizes cuts names u v → IsNamedWithin more sizes cuts names u v
 wider_named most more sizes cuts names u v wider h =
     record { blocks = wider_blocks most more sizes cuts wider h.blocks; naming = h.naming; proved = h.proved }

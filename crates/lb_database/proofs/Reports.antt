@@ -60,7 +60,8 @@ pub same_reports : {X : Type 0} (reports : List (Option X)) (i : ℕ) (report : 
 same_reports reports i report stood = ap (λ r. slice_set reports i r) stood ∙ set-get_or reports i report
 
 -- with the report of an element that had none, one less is missing
-count_less : {X : Type 0} (reports : List (Option X)) (i : ℕ) (x : X) (report : Option X) → i < length reports → report ≡ get_or reports i report → false ≡ is_some report → count_by is_none (slice_set reports i (Some x)) + 1 ≡ count_by is_none reports
+count_less : {X : Type 0} (reports : List (Option X)) (i : ℕ) (x : X) (report : Option X) → i < length reports
+    → report ≡ get_or reports i report → false ≡ is_some report → count_by is_none (slice_set reports i (Some x)) + 1 ≡ count_by is_none reports
 count_less reports i x None inside stood none =
     let counted = sum_by-set (λ r. cond (is_none r) 1 0) reports i (Some x) None inside in
     let more = rw (sym stood) at counted in
@@ -68,11 +69,14 @@ count_less reports i x None inside stood none =
 count_less reports i x (Some y) inside stood none = cc
 
 -- where a report was missing, the number of missing ones is not 0
-pub some_missing : {X : Type 0} (reports : List (Option X)) (i : ℕ) (x : X) (report : Option X) (missing : ℕ) → i < length reports → report ≡ get_or reports i report → false ≡ is_some report → missing ≡ count_by is_none reports → 1 ≤ missing
+pub some_missing : {X : Type 0} (reports : List (Option X)) (i : ℕ) (x : X) (report : Option X) (missing : ℕ) → i < length reports
+    → report ≡ get_or reports i report → false ≡ is_some report → missing ≡ count_by is_none reports → 1 ≤ missing
 some_missing reports i x report missing inside stood none counted = omega (arith, counted, count_less reports i x report inside stood none)
 
 -- with its report this number is one less
-pub missing_less : {X : Type 0} (reports : List (Option X)) (i : ℕ) (x : X) (report : Option X) (missing : ℕ) → i < length reports → report ≡ get_or reports i report → false ≡ is_some report → missing ≡ count_by is_none reports → missing - 1 ≡ count_by is_none (slice_set reports i (Some x))
+pub missing_less : {X : Type 0} (reports : List (Option X)) (i : ℕ) (x : X) (report : Option X) (missing : ℕ) → i < length reports
+    → report ≡ get_or reports i report → false ≡ is_some report → missing ≡ count_by is_none reports
+    → missing - 1 ≡ count_by is_none (slice_set reports i (Some x))
 missing_less reports i x report missing inside stood none counted = omega (arith, counted, count_less reports i x report inside stood none)
 
 -- with one more report within the limit, what is measured keeps the limits
@@ -91,7 +95,8 @@ measured_more m i bytes place fits measured = record {
 -- what holds of each report holds of each size that was reported
 pub each_there : {X : Type 0} (P : X → Type 0) (sizes : List X) (reports : List (Option X)) → map Some sizes ≡ reports → All (λ report. IfSome report P) reports → All P sizes
 each_there P sizes reports same all k d inside =
-    let there : IfSome (get_or (map Some sizes) k (Some d)) P = subst (λ list. IfSome (get_or list k (Some d)) P) (sym same) (all k (Some d) (omega (arith, ap length same, length-map sizes Some))) in
+    let there : IfSome (get_or (map Some sizes) k (Some d)) P = subst (λ list. IfSome (get_or list k (Some d)) P) (sym same)
+    (all k (Some d) (omega (arith, ap length same, length-map sizes Some))) in
     subst (λ o. IfSome o P) (get_or-map Some sizes k d (Some d) inside) there
 
 -- sizes that were all reported are within the limits of a snapshot's
@@ -102,7 +107,8 @@ sizes_there sizes reports same within = record {
 }
 
 -- loads and sizes of elements that have all reported, and are on PEs below pes, make a snapshot
-pub placed_there : (m : Measured) (pes : ℕ) (loads : List ℕ) (sizes : List (ℕ × ℕ)) → loads ≡ m.loads → map Some sizes ≡ m.reports → length m.loads ≡ length m.reports → 0 < pes → pes ≤ PES → StandBelow pes m → IsTaken pes loads sizes
+pub placed_there : (m : Measured) (pes : ℕ) (loads : List ℕ) (sizes : List (ℕ × ℕ)) → loads ≡ m.loads → map Some sizes ≡ m.reports
+    → length m.loads ≡ length m.reports → 0 < pes → pes ≤ PES → StandBelow pes m → IsTaken pes loads sizes
 placed_there m pes loads sizes kept same paired some few below = record {
   some_pe = some;
   few_pes = few;

@@ -44,7 +44,8 @@ begun_to_target begun known long rest fits =
     }
 
 -- up to the end of the kind of the floor
-pub begun_to_kind : (begun : List ℕ) (target from : ℕ) → IsBegun begun → 8 ≤ length begun → target ≡ target_in begun → from ≡ kind_at target → (rest : List ℕ) → length begun + length rest ≤ from + 4 → MayBegin (begun ++ rest)
+pub begun_to_kind : (begun : List ℕ) (target from : ℕ) → IsBegun begun → 8 ≤ length begun → target ≡ target_in begun → from ≡ kind_at target
+    → (rest : List ℕ) → length begun + length rest ≤ from + 4 → MayBegin (begun ++ rest)
 begun_to_kind begun target from known long is from_is rest fits =
     let at_4 : word_at (begun ++ rest) 4 ≡ target_in begun = word_at-append begun rest 4 long in
     let all : length (begun ++ rest) ≤ kind_at (target_in begun) + 4 = rw length-append (omega arith) in
@@ -63,7 +64,8 @@ begun_to_kind begun target from known long is from_is rest fits =
         omega arith
 
 -- bytes whose fields with a rule are known
-may_begin : (xs : List ℕ) (target kind : ℕ) → flag_in xs ≡ 1 → target_in xs ≡ target → word_at xs (kind_at target) ≡ kind → 0 < target → target ≤ PES → kind ≤ 1 → length xs ≤ plan_len target kind → MayBegin xs
+may_begin : (xs : List ℕ) (target kind : ℕ) → flag_in xs ≡ 1 → target_in xs ≡ target → word_at xs (kind_at target) ≡ kind → 0 < target
+    → target ≤ PES → kind ≤ 1 → length xs ≤ plan_len target kind → MayBegin xs
 may_begin xs target kind flag target_is kind_is some few good within =
     let kind_there : kind_in xs ≡ kind = ap (λ t. word_at xs (kind_at t)) target_is ∙ kind_is in
     let end : plan_len target kind ≡ plan_len (target_in xs) (kind_in xs) = ap (λ t. plan_len t kind) (sym target_is) ∙ ap (plan_len (target_in xs)) (sym kind_there) in
@@ -76,7 +78,9 @@ may_begin xs target kind flag target_is kind_is some few good within =
     }
 
 -- up to the end of the decision
-pub begun_to_end : (begun : List ℕ) (target kind from end : ℕ) → IsBegun begun → target ≡ target_in begun → from ≡ kind_at target → kind ≡ word_at begun from → from + 4 ≤ length begun → end ≡ plan_len target kind → (rest : List ℕ) → length begun + length rest ≤ end → MayBegin (begun ++ rest)
+pub begun_to_end : (begun : List ℕ) (target kind from end : ℕ) → IsBegun begun → target ≡ target_in begun → from ≡ kind_at target
+    → kind ≡ word_at begun from → from + 4 ≤ length begun → end ≡ plan_len target kind → (rest : List ℕ) → length begun + length rest ≤ end
+    → MayBegin (begun ++ rest)
 begun_to_end begun target kind from end known is from_is kind_is long end_is rest fits =
     let there : kind_at (target_in begun) ≡ from = ap kind_at (sym is) ∙ sym from_is in
     let reached : kind_at (target_in begun) + 4 ≤ length begun = subst (λ n. n + 4 ≤ length begun) (sym there) long in
@@ -129,7 +133,8 @@ waits_for_kind count text target known short =
     )
 
 -- for the number of moves
-pub waits_for_moves : (count : ℕ) (text : List ℕ) (target kind : ℕ) → IsFloored text target kind → length text < plan_len target kind → IsBegun text × (judge (ending count) text ≡ Unfinished)
+pub waits_for_moves : (count : ℕ) (text : List ℕ) (target kind : ℕ) → IsFloored text target kind → length text < plan_len target kind
+    → IsBegun text × (judge (ending count) text ≡ Unfinished)
 waits_for_moves count text target kind known short =
     let target_is : target_in text ≡ target = known.opened.target_is in
     let kind_is : kind_in text ≡ kind = ap (λ t. word_at text (kind_at t)) target_is ∙ known.kind_is in
@@ -145,7 +150,8 @@ waits_for_moves count text target kind known short =
     )
 
 -- the kind of the floor that a call read
-pub floored_by : (text : List ℕ) (target from kind : ℕ) → IsOpened text target → from ≡ kind_at target → from + 4 ≤ length text → kind ≡ from_be_bytes w32 (take (length text - from) (drop from text)) → kind ≤ 1 → IsFloored text target kind
+pub floored_by : (text : List ℕ) (target from kind : ℕ) → IsOpened text target → from ≡ kind_at target → from + 4 ≤ length text
+    → kind ≡ from_be_bytes w32 (take (length text - from) (drop from text)) → kind ≤ 1 → IsFloored text target kind
 floored_by text target from kind known from_is long is good =
     record {
       opened = known;
@@ -155,7 +161,8 @@ floored_by text target from kind known from_is long is good =
     }
 
 -- all bytes up to the moves have come, and no more
-pub whole_by : (text : List ℕ) (target kind end : ℕ) → MayBegin text → IsFloored text target kind → end ≡ plan_len target kind → end ≤ length text → length text ≡ plan_len target kind
+pub whole_by : (text : List ℕ) (target kind end : ℕ) → MayBegin text → IsFloored text target kind → end ≡ plan_len target kind
+    → end ≤ length text → length text ≡ plan_len target kind
 whole_by text target kind end begun known end_is long =
     let target_is : target_in text ≡ target = known.opened.target_is in
     let kind_is : kind_in text ≡ kind = ap (λ t. word_at text (kind_at t)) target_is ∙ known.kind_is in

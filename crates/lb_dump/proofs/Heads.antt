@@ -59,24 +59,28 @@ magic_short (a ∷ []) has short = magic_byte_taken 76 second a [] (has.first (l
 magic_short (a ∷ b ∷ []) has short =
     magic_byte_taken 76 second a (b ∷ []) (has.first (lit< tt)) ∙ magic_byte_taken 66 third b [] (has.second (lit< tt)) ∙ magic_byte_short 68 fourth
 magic_short (a ∷ b ∷ c ∷ []) has short =
-    magic_byte_taken 76 second a (b ∷ c ∷ []) (has.first (lit< tt)) ∙ magic_byte_taken 66 third b (c ∷ []) (has.second (lit< tt)) ∙ magic_byte_taken 68 fourth c [] (has.third (lit< tt))
+    magic_byte_taken 76 second a (b ∷ c ∷ []) (has.first (lit< tt)) ∙ magic_byte_taken 66 third b (c ∷ []) (has.second (lit< tt))
+    ∙ magic_byte_taken 68 fourth c [] (has.third (lit< tt))
     ∙ field_short w8 (λ byte. unless (eqb byte 49 || eqb byte 50) Magic) (λ byte. cond (eqb byte 49) (body w32 (λ _. End)) (body w64 ending)) [] (lit< tt)
 magic_short (a ∷ b ∷ c ∷ d ∷ rest) has short = absurd (omega arith)
 
-pub magic_taken : (text : List ℕ) (v : Verdict) → 3 < length text → HasMagic text → ((w : Width) (after : ℕ → Layout) → judge (body w after) (drop 4 text) ≡ v) → judge dump text ≡ v
+pub magic_taken : (text : List ℕ) (v : Verdict) → 3 < length text → HasMagic text
+    → ((w : Width) (after : ℕ → Layout) → judge (body w after) (drop 4 text) ≡ v) → judge dump text ≡ v
 magic_taken [] v long has all = absurd (omega arith)
 magic_taken (a ∷ []) v long has all = absurd (omega arith)
 magic_taken (a ∷ b ∷ []) v long has all = absurd (omega arith)
 magic_taken (a ∷ b ∷ c ∷ []) v long has all = absurd (omega arith)
 magic_taken (a ∷ b ∷ c ∷ d ∷ rest) v long has all =
-    magic_byte_taken 76 second a (b ∷ c ∷ d ∷ rest) (has.first (omega arith)) ∙ magic_byte_taken 66 third b (c ∷ d ∷ rest) (has.second (omega arith)) ∙ magic_byte_taken 68 fourth c (d ∷ rest) (has.third (omega arith))
+    magic_byte_taken 76 second a (b ∷ c ∷ d ∷ rest) (has.first (omega arith))
+    ∙ magic_byte_taken 66 third b (c ∷ d ∷ rest) (has.second (omega arith)) ∙ magic_byte_taken 68 fourth c (d ∷ rest) (has.third (omega arith))
     ∙ fourth_taken d rest v (has.fourth (omega arith)) all
 
 -- one of the first three is wrong, or the fourth
 abbrev pub first_bytes : List ℕ
 first_bytes = 76 ∷ 66 ∷ 68 ∷ []
 
-pub magic_wrong : (text : List ℕ) (k : ℕ) → k < 3 → k < length text → ((j : ℕ) → j < k → slice_index text j ≡ slice_index first_bytes j) → (slice_index text k ≡ slice_index first_bytes k → ⊥)
+pub magic_wrong : (text : List ℕ) (k : ℕ) → k < 3 → k < length text → ((j : ℕ) → j < k → slice_index text j ≡ slice_index first_bytes j)
+    → (slice_index text k ≡ slice_index first_bytes k → ⊥)
     → judge dump text ≡ Broken Magic
 magic_wrong [] k few inside before wrong = absurd (omega arith)
 magic_wrong (a ∷ rest) zero few inside before wrong = magic_byte_broken 76 second a rest wrong
@@ -87,13 +91,15 @@ magic_wrong (a ∷ b ∷ c ∷ rest) (suc (suc zero)) few inside before wrong =
     magic_byte_taken 76 second a (b ∷ c ∷ rest) (before 0 (lit< tt)) ∙ magic_byte_taken 66 third b (c ∷ rest) (before 1 (lit< tt)) ∙ magic_byte_broken 68 fourth c rest wrong
 magic_wrong (a ∷ b ∷ c ∷ rest) (suc (suc (suc k))) few inside before wrong = absurd (omega arith)
 
-pub fourth_wrong : (text : List ℕ) → 3 < length text → ((j : ℕ) → j < 3 → slice_index text j ≡ slice_index first_bytes j) → (slice_index text 3 ≡ 49 → ⊥) → (slice_index text 3 ≡ 50 → ⊥) → judge dump text ≡ Broken Magic
+pub fourth_wrong : (text : List ℕ) → 3 < length text → ((j : ℕ) → j < 3 → slice_index text j ≡ slice_index first_bytes j)
+    → (slice_index text 3 ≡ 49 → ⊥) → (slice_index text 3 ≡ 50 → ⊥) → judge dump text ≡ Broken Magic
 fourth_wrong [] inside before not_1 not_2 = absurd (omega arith)
 fourth_wrong (a ∷ []) inside before not_1 not_2 = absurd (omega arith)
 fourth_wrong (a ∷ b ∷ []) inside before not_1 not_2 = absurd (omega arith)
 fourth_wrong (a ∷ b ∷ c ∷ []) inside before not_1 not_2 = absurd (omega arith)
 fourth_wrong (a ∷ b ∷ c ∷ d ∷ rest) inside before not_1 not_2 =
-    magic_byte_taken 76 second a (b ∷ c ∷ d ∷ rest) (before 0 (lit< tt)) ∙ magic_byte_taken 66 third b (c ∷ d ∷ rest) (before 1 (lit< tt)) ∙ magic_byte_taken 68 fourth c (d ∷ rest) (before 2 (lit< tt))
+    magic_byte_taken 76 second a (b ∷ c ∷ d ∷ rest) (before 0 (lit< tt)) ∙ magic_byte_taken 66 third b (c ∷ d ∷ rest) (before 1 (lit< tt))
+    ∙ magic_byte_taken 68 fourth c (d ∷ rest) (before 2 (lit< tt))
     ∙ fourth_broken d rest not_1 not_2
 
 -- a number of PEs within the limits, and one that is not
@@ -115,24 +121,30 @@ module _ (w : Width) (after : ℕ → Layout) (text : List ℕ) where
   step_taken : 4 ≤ length text → judge (body w after) text ≡ judge (pes_field w after) (drop 4 text)
   step_taken long = field_taken w32 (λ _. None) (λ _. pes_field w after) text long refl
 
-  pes_taken : 8 ≤ length text → 0 < from_be_bytes w32 (drop 4 text) → from_be_bytes w32 (drop 4 text) ≤ PES → judge (body w after) text ≡ judge (count_field w after (from_be_bytes w32 (drop 4 text))) (drop 8 text)
+  pes_taken : 8 ≤ length text → 0 < from_be_bytes w32 (drop 4 text) → from_be_bytes w32 (drop 4 text) ≤ PES
+      → judge (body w after) text ≡ judge (count_field w after (from_be_bytes w32 (drop 4 text))) (drop 8 text)
   pes_taken long some few =
       step_taken (omega arith)
-      ∙ field_taken w32 (λ n. unless (ltb 0 n && leb n PES) Procs) (count_field w after) (drop 4 text) (omega (arith, length-drop 4 text)) (pes_kept (from_be_bytes w32 (drop 4 text)) some few)
+      ∙ field_taken w32 (λ n. unless (ltb 0 n && leb n PES) Procs) (count_field w after) (drop 4 text) (omega (arith, length-drop 4 text))
+      (pes_kept (from_be_bytes w32 (drop 4 text)) some few)
       ∙ ap (judge (count_field w after (from_be_bytes w32 (drop 4 text)))) (drop-drop 4 4 text)
 
   pub procs_break : 8 ≤ length text → (from_be_bytes w32 (drop 4 text) ≡ 0) ⊎ (PES < from_be_bytes w32 (drop 4 text)) → judge (body w after) text ≡ Broken Procs
   procs_break long bad =
       step_taken (omega arith)
-      ∙ field_broken w32 (λ n. unless (ltb 0 n && leb n PES) Procs) (count_field w after) (drop 4 text) Procs (omega (arith, length-drop 4 text)) (pes_broken (from_be_bytes w32 (drop 4 text)) bad)
+      ∙ field_broken w32 (λ n. unless (ltb 0 n && leb n PES) Procs) (count_field w after) (drop 4 text) Procs
+      (omega (arith, length-drop 4 text)) (pes_broken (from_be_bytes w32 (drop 4 text)) bad)
 
-  pub count_breaks : 12 ≤ length text → 0 < from_be_bytes w32 (drop 4 text) → from_be_bytes w32 (drop 4 text) ≤ PES → ELEMENTS < from_be_bytes w32 (drop 8 text) → judge (body w after) text ≡ Broken Count
+  pub count_breaks : 12 ≤ length text → 0 < from_be_bytes w32 (drop 4 text) → from_be_bytes w32 (drop 4 text) ≤ PES
+      → ELEMENTS < from_be_bytes w32 (drop 8 text) → judge (body w after) text ≡ Broken Count
   count_breaks long some few bad =
       pes_taken (omega arith) some few
-      ∙ field_broken w32 (λ count. unless (leb count ELEMENTS) Count) (λ count. elements w (from_be_bytes w32 (drop 4 text)) 0 count (after count)) (drop 8 text) Count (omega (arith, length-drop 8 text))
+      ∙ field_broken w32 (λ count. unless (leb count ELEMENTS) Count)
+      (λ count. elements w (from_be_bytes w32 (drop 4 text)) 0 count (after count)) (drop 8 text) Count (omega (arith, length-drop 8 text))
       (gives_fault (leb (from_be_bytes w32 (drop 8 text)) ELEMENTS) Count (lt-leb (from_be_bytes w32 (drop 8 text)) ELEMENTS bad))
 
-  pub body_unfinished : length text < 12 → (8 ≤ length text → (0 < from_be_bytes w32 (drop 4 text)) × (from_be_bytes w32 (drop 4 text) ≤ PES)) → judge (body w after) text ≡ Unfinished
+  pub body_unfinished : length text < 12 → (8 ≤ length text → (0 < from_be_bytes w32 (drop 4 text))
+      × (from_be_bytes w32 (drop 4 text) ≤ PES)) → judge (body w after) text ≡ Unfinished
   body_unfinished short good =
       elim (cases_lt (length text) 4) [
         | inl less ↦ field_short w32 (λ _. None) (λ _. pes_field w after) text less
@@ -140,7 +152,8 @@ module _ (w : Width) (after : ℕ → Layout) (text : List ℕ) where
           | inl less ↦ step_taken long ∙ field_short w32 (λ n. unless (ltb 0 n && leb n PES) Procs) (count_field w after) (drop 4 text) (omega (arith, length-drop 4 text))
           | inr longer ↦
               pes_taken longer (good longer).0 (good longer).1
-              ∙ field_short w32 (λ count. unless (leb count ELEMENTS) Count) (λ count. elements w (from_be_bytes w32 (drop 4 text)) 0 count (after count)) (drop 8 text) (omega (arith, length-drop 8 text))
+              ∙ field_short w32 (λ count. unless (leb count ELEMENTS) Count)
+              (λ count. elements w (from_be_bytes w32 (drop 4 text)) 0 count (after count)) (drop 8 text) (omega (arith, length-drop 8 text))
         ]
       ]
 
@@ -159,7 +172,8 @@ module _ (text : List ℕ) (procs : ℕ) (has : HasMagic text) (is : procs ≡ f
 
   pub procs_wrong : 12 ≤ length text → (procs ≡ 0) ⊎ (PES < procs) → judge dump text ≡ Broken Procs
   procs_wrong long bad =
-      magic_taken text (Broken Procs) (omega arith) has (λ w after. procs_break w after (drop 4 text) (omega (arith, length-drop 4 text)) (subst (λ n. (n ≡ 0) ⊎ (PES < n)) procs_at bad))
+      magic_taken text (Broken Procs) (omega arith) has (λ w after. procs_break w after (drop 4 text) (omega (arith, length-drop 4 text))
+      (subst (λ n. (n ≡ 0) ⊎ (PES < n)) procs_at bad))
 
   pub count_wrong : (count : ℕ) → 16 ≤ length text → 0 < procs → procs ≤ PES → count ≡ from_be_bytes w32 (drop 12 text) → ELEMENTS < count → judge dump text ≡ Broken Count
   count_wrong count long some few count_is bad =
@@ -181,7 +195,8 @@ pub head_respelled : (bytes : List ℕ) (h : Head) → length bytes ≡ 16 → A
 head_respelled bytes h len are has last step procs count =
     front bytes h.format (omega arith) has last
     ∙ ap (λ rest. magic_of h.format ++ rest)
-    (three_words (drop 4 bytes) h.step h.procs h.count (omega (arith, length-drop 4 bytes)) (bytes_behind 4 bytes are) step (procs ∙ ap (from_be_bytes w32) (sym (drop-drop 4 4 bytes))) (count ∙ ap (from_be_bytes w32) (sym (drop-drop 8 4 bytes))))
+    (three_words (drop 4 bytes) h.step h.procs h.count (omega (arith, length-drop 4 bytes)) (bytes_behind 4 bytes are) step
+    (procs ∙ ap (from_be_bytes w32) (sym (drop-drop 4 4 bytes))) (count ∙ ap (from_be_bytes w32) (sym (drop-drop 8 4 bytes))))
   where
     magic_is : (a b c d : ℕ) (rest : List ℕ) (format : Format) → a ≡ 76 → b ≡ 66 → c ≡ 68 → d ≡ fourth_byte format → (a ∷ b ∷ c ∷ d ∷ rest) ≡ magic_of format ++ rest
     magic_is a b c d rest Lbd1 first second third fourth = cc

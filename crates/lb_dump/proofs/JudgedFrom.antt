@@ -9,7 +9,8 @@ use Rattle.dump_format.specs.declared.error.DumpError.{DumpError}
 use Rattle.dump_format.proofs.Judging.{field_broken, field_short, field_taken, numbers_taken}
 
 -- a field whose number keeps its rule, from here to there
-pub field_at : (w : Width) (fault : ℕ → Option DumpError) (next : ℕ → Layout) (text : List ℕ) (at to n : ℕ) → to ≡ at + byte_len w → to ≤ length text → from_be_bytes w (drop at text) ≡ n → fault n ≡ None → judge (Field w fault next) (drop at text) ≡ judge (next n) (drop to text)
+pub field_at : (w : Width) (fault : ℕ → Option DumpError) (next : ℕ → Layout) (text : List ℕ) (at to n : ℕ) → to ≡ at + byte_len w
+    → to ≤ length text → from_be_bytes w (drop at text) ≡ n → fault n ≡ None → judge (Field w fault next) (drop at text) ≡ judge (next n) (drop to text)
 field_at w fault next text at to n is long number kept =
     let here : byte_len w ≤ length (drop at text) = rw length-drop (omega arith) in
     field_taken w fault next (drop at text) here (ap fault number ∙ kept)
@@ -17,13 +18,15 @@ field_at w fault next text at to n is long number kept =
     ∙ ap (judge (next n)) (drop-drop (byte_len w) at text ∙ ap (λ i. drop i text) (sym is))
 
 -- a field whose number breaks its rule
-pub broken_at : (w : Width) (fault : ℕ → Option DumpError) (next : ℕ → Layout) (text : List ℕ) (at n : ℕ) (e : DumpError) → at + byte_len w ≤ length text → from_be_bytes w (drop at text) ≡ n → fault n ≡ Some e → judge (Field w fault next) (drop at text) ≡ Broken e
+pub broken_at : (w : Width) (fault : ℕ → Option DumpError) (next : ℕ → Layout) (text : List ℕ) (at n : ℕ) (e : DumpError)
+    → at + byte_len w ≤ length text → from_be_bytes w (drop at text) ≡ n → fault n ≡ Some e → judge (Field w fault next) (drop at text) ≡ Broken e
 broken_at w fault next text at n e long number broken =
     let here : byte_len w ≤ length (drop at text) = rw length-drop (omega arith) in
     field_broken w fault next (drop at text) e here (ap fault number ∙ broken)
 
 -- numbers without a rule, from here to there
-pub numbers_at : (w : Width) (k : ℕ) (next : Layout) (text : List ℕ) (at to : ℕ) → to ≡ at + k * byte_len w → to ≤ length text → judge (numbers w k next) (drop at text) ≡ judge next (drop to text)
+pub numbers_at : (w : Width) (k : ℕ) (next : Layout) (text : List ℕ) (at to : ℕ) → to ≡ at + k * byte_len w → to ≤ length text
+    → judge (numbers w k next) (drop at text) ≡ judge next (drop to text)
 numbers_at w k next text at to is long =
     let here : k * byte_len w ≤ length (drop at text) = rw length-drop (omega arith) in
     ap (judge (numbers w k next)) (sym (take-append-drop (k * byte_len w) (drop at text)))

@@ -16,7 +16,8 @@ use Rattle.dump_format.proofs.Spelling.{plan_length, stops_bytes}
 use Rattle.lb_dump.specs.Plans.{IsMade, floor_kind, plan_bytes, plan_len, word_at}
 
 -- from what the calls of the reader read
-pub made_by : {A : Type 0} (bytes : List ℕ) (count : ℕ) (r : Recorded A) (m end : ℕ) → bytes ≡ word 1 ++ plan_bytes r (word_at bytes (length bytes - 4)) → ((elements : ℕ) → IsRecorded elements r) → AreFields r → r.decision.moves ≡ []
+pub made_by : {A : Type 0} (bytes : List ℕ) (count : ℕ) (r : Recorded A) (m end : ℕ) → bytes ≡ word 1
+    ++ plan_bytes r (word_at bytes (length bytes - 4)) → ((elements : ℕ) → IsRecorded elements r) → AreFields r → r.decision.moves ≡ []
     → length bytes ≡ end → m ≡ word_at bytes (end - 4) → m ≤ count → IsMade bytes count r m
 made_by bytes count r m end spelled recorded fields none whole is few =
     record {
@@ -73,7 +74,8 @@ filled_fields r m fields =
     }
 
 -- the moves of a decision follow its bytes
-pub made_judged : {A : Type 0} (count : ℕ) (r : Recorded A) (m : ℕ) (bytes more : List ℕ) → count ≤ ELEMENTS → IsMade bytes count r m → judge (ending count) (bytes ++ more) ≡ judge (moves count 0 m) more
+pub made_judged : {A : Type 0} (count : ℕ) (r : Recorded A) (m : ℕ) (bytes more : List ℕ) → count ≤ ELEMENTS → IsMade bytes count r m
+    → judge (ending count) (bytes ++ more) ≡ judge (moves count 0 m) more
 made_judged count r m bytes more few made =
     ap (λ it. judge (ending count) (it ++ more)) made.spelled
     ∙ ap (judge (ending count)) (append_assoc (word 1) (plan_bytes r m) more)
@@ -91,8 +93,10 @@ stops_are Zero target = omega arith
 stops_are (Fence stops) target = omega arith
 
 -- the length of the bytes of a decision, up to its moves
-pub made_length : {A : Type 0} (bytes : List ℕ) (count : ℕ) (r : Recorded A) (m : ℕ) → IsMade bytes count r m → length bytes ≡ plan_len r.target (floor_kind r.decision.division.floor)
+pub made_length : {A : Type 0} (bytes : List ℕ) (count : ℕ) (r : Recorded A) (m : ℕ) → IsMade bytes count r m
+    → length bytes ≡ plan_len r.target (floor_kind r.decision.division.floor)
 made_length bytes count r m made =
     let recorded : IsRecorded count (filled r m) = filled_recorded count r m made.recorded made.few_moves in
-    let plan : length (plan_bytes r m) ≡ 32 + 24 * r.target + stops_bytes r.decision.division.floor r.target = ap length (filled_text r m) ∙ plan_length count (filled r m) recorded in
+    let plan : length (plan_bytes r m) ≡ 32 + 24 * r.target + stops_bytes r.decision.division.floor r.target = ap length (filled_text r m)
+    ∙ plan_length count (filled r m) recorded in
     ap length made.spelled ∙ (length-append (word 1) (plan_bytes r m) ∙ (ap (λ n. 4 + n) plan ∙ (omega arith ∙ stops_are r.decision.division.floor r.target)))

@@ -20,7 +20,8 @@ next_move count k n some =
 
 module _ (count all : ℕ) (list : List (ℕ × ℕ × ℕ)) (few : count ≤ ELEMENTS) (kept : AreMoves count list) where
   -- these moves, and then more
-  pub moves_read : (more : List ℕ) → length list ≤ all → judge (move_fields count 0 all) (moves_text list ++ more) ≡ judge (move_fields count (length list) (all - length list)) more
+  pub moves_read : (more : List ℕ) → length list ≤ all
+      → judge (move_fields count 0 all) (moves_text list ++ more) ≡ judge (move_fields count (length list) (all - length list)) more
   moves_read more within =
       let left : all ≡ length list + (all - length list) = omega arith in
       let at : 0 + length list ≡ length list = omega arith in
@@ -29,17 +30,21 @@ module _ (count all : ℕ) (list : List (ℕ × ℕ × ℕ)) (few : count ≤ EL
       ∙ ap (λ k. judge (move_fields count k (all - length list)) more) at
 
   -- these moves, and the next one
-  pub next_move_read : (more : List ℕ) → length list < all → judge (move_fields count 0 all) (moves_text list ++ more) ≡ judge (move count (length list) (move_fields count (length list + 1) (all - length list - 1))) more
+  pub next_move_read : (more : List ℕ) → length list < all
+      → judge (move_fields count 0 all) (moves_text list ++ more) ≡ judge
+      (move count (length list) (move_fields count (length list + 1) (all - length list - 1))) more
   next_move_read more inside = moves_read more (omega arith) ∙ ap (λ l. judge l more) (next_move count (length list) (all - length list) (omega arith))
 
   -- the fault of the next move, whatever follows
-  pub next_move_breaks : (front after : List ℕ) (e : DumpError) → length list < all → BreaksMove count (length list) front e → judge (move_fields count 0 all) (moves_text list ++ (front ++ after)) ≡ Broken e
+  pub next_move_breaks : (front after : List ℕ) (e : DumpError) → length list < all → BreaksMove count (length list) front e
+      → judge (move_fields count 0 all) (moves_text list ++ (front ++ after)) ≡ Broken e
   next_move_breaks front after e inside breaks =
       let rest : Layout = move_fields count (length list + 1) (all - length list - 1) in
       next_move_read (front ++ after) inside ∙ broken_stays (move count (length list) rest) front after e (breaks rest)
 
 -- The fault of the move after those that were taken is that of the text.
-pub move_fault_behind : (count all : ℕ) (list old : List (ℕ × ℕ × ℕ)) (n : ℕ) (front after rest bytes : List ℕ) (e : DumpError) → count ≤ ELEMENTS → AreMoves count list → length list < all → n ≡ length list
+pub move_fault_behind : (count all : ℕ) (list old : List (ℕ × ℕ × ℕ)) (n : ℕ) (front after rest bytes : List ℕ) (e : DumpError)
+    → count ≤ ELEMENTS → AreMoves count list → length list < all → n ≡ length list
     → BreaksMove count n front e → rest ≡ front ++ after → moves_text list ++ rest ≡ moves_text old ++ bytes → judge (move_fields count 0 all) (moves_text old ++ bytes) ≡ Broken e
 move_fault_behind count all list old n front after rest bytes e few kept inside at breaks parts joined =
     ap (judge (move_fields count 0 all)) (sym joined ∙ ap (λ t. moves_text list ++ t) parts)

@@ -42,19 +42,24 @@ abbrev pub PricesRead : List ℤ → List ℕ → List ℕ → Type 0
 PricesRead items rest all = AreRead price (λ z. FitsSigned w64 z) items rest all
 
 -- one number more
-read_more : {X : Type 0} (text : X → List ℕ) (Within : X → Type 0) (items : List X) (x : X) (rest first behind all : List ℕ) → AreRead text Within items rest all → rest ≡ first ++ behind → text x ≡ first → Within x → AreRead text Within (items ++ x ∷ []) behind all
+read_more : {X : Type 0} (text : X → List ℕ) (Within : X → Type 0) (items : List X) (x : X) (rest first behind all : List ℕ)
+    → AreRead text Within items rest all → rest ≡ first ++ behind → text x ≡ first → Within x → AreRead text Within (items ++ x ∷ []) behind all
 read_more text Within items x rest first behind all read split is inside =
     record {
-      spelled = ap (λ front. front ++ behind) (flat_map_push text items x) ∙ (append_assoc (flat_map text items) (text x) behind ∙ (ap (λ mid. flat_map text items ++ (mid ++ behind)) is ∙ (ap (λ end. flat_map text items ++ end) (sym split) ∙ read.spelled)));
+      spelled = ap (λ front. front ++ behind) (flat_map_push text items x)
+          ∙ (append_assoc (flat_map text items) (text x) behind
+          ∙ (ap (λ mid. flat_map text items ++ (mid ++ behind)) is ∙ (ap (λ end. flat_map text items ++ end) (sym split) ∙ read.spelled)));
       range = All-push Within items x read.range inside;
     }
 
 -- the bytes of the next number
-next_bytes : {X : Type 0} (text : X → List ℕ) (Within : X → Type 0) (items : List X) (rest first behind all : List ℕ) → AreBytes all → AreRead text Within items rest all → rest ≡ first ++ behind → AreBytes first
+next_bytes : {X : Type 0} (text : X → List ℕ) (Within : X → Type 0) (items : List X) (rest first behind all : List ℕ) → AreBytes all
+    → AreRead text Within items rest all → rest ≡ first ++ behind → AreBytes first
 next_bytes text Within items rest first behind all known read split =
     bytes_between (flat_map text items) first behind all (ap (λ end. flat_map text items ++ end) (sym split) ∙ read.spelled) known
 
-pub words_more : (items new : List ℕ) (n : ℕ) (rest first behind all : List ℕ) → AreBytes all → WordsRead items rest all → rest ≡ first ++ behind → length first ≡ 4 → n ≡ from_be_bytes w32 first → n < 2 ^ 32 → new ≡ items ++ n ∷ [] → WordsRead new behind all
+pub words_more : (items new : List ℕ) (n : ℕ) (rest first behind all : List ℕ) → AreBytes all → WordsRead items rest all → rest ≡ first
+    ++ behind → length first ≡ 4 → n ≡ from_be_bytes w32 first → n < 2 ^ 32 → new ≡ items ++ n ∷ [] → WordsRead new behind all
 words_more items new n rest first behind all known read split four is small grown =
     let bytes : AreBytes first = next_bytes word (λ m. m < 2 ^ 32) items rest first behind all known read split in
     let more : WordsRead (items ++ n ∷ []) behind all = read_more word (λ m. m < 2 ^ 32) items n rest first behind all read split (be_bytes_4 first n four bytes.small is) small in
@@ -63,12 +68,16 @@ words_more items new n rest first behind all known read split four is small grow
 price_is : (n : ℕ) (z : ℤ) (first : List ℕ) → AreBytes first → length first ≡ 8 → n < 2 ^ 64 → n ≡ from_be_bytes w64 first → z ≡ cast_signed w64 n → price z ≡ first
 price_is n z first known eight small is cast = ap price cast ∙ (ap (to_be_bytes w64) (of_z-to_z w64 n small) ∙ be_bytes_8 first n eight known.small is)
 
-pub prices_more : (items new : List ℤ) (n : ℕ) (z : ℤ) (rest first behind all : List ℕ) → AreBytes all → PricesRead items rest all → rest ≡ first ++ behind → length first ≡ 8 → n ≡ from_be_bytes w64 first → n < 2 ^ 64 → z ≡ cast_signed w64 n → FitsSigned w64 z → new ≡ items ++ cast_signed w64 (cast_unsigned w64 z) ∷ [] → PricesRead new behind all
+pub prices_more : (items new : List ℤ) (n : ℕ) (z : ℤ) (rest first behind all : List ℕ) → AreBytes all → PricesRead items rest all
+    → rest ≡ first ++ behind → length first ≡ 8 → n ≡ from_be_bytes w64 first → n < 2 ^ 64 → z ≡ cast_signed w64 n → FitsSigned w64 z
+    → new ≡ items ++ cast_signed w64 (cast_unsigned w64 z) ∷ [] → PricesRead new behind all
 prices_more items new n z rest first behind all known read split eight is small cast fits grown =
     let bytes : AreBytes first = next_bytes price (λ y. FitsSigned w64 y) items rest first behind all known read split in
-    let more : PricesRead (items ++ z ∷ []) behind all = read_more price (λ y. FitsSigned w64 y) items z rest first behind all read split (price_is n z first bytes eight small is cast) fits in
+    let more : PricesRead (items ++ z ∷ []) behind all = read_more price (λ y. FitsSigned w64 y) items z rest first behind all read split
+    (price_is n z first bytes eight small is cast) fits in
     subst (λ it. PricesRead it behind all) (sym (grown ∙ ap (λ y. items ++ y ∷ []) (to_z-of_z w64 z fits))) more
 
 -- where nothing is left
-pub all_read : {X : Type 0} (text : X → List ℕ) (Within : X → Type 0) (items : List X) (rest all : List ℕ) → AreRead text Within items rest all → length rest ≡ 0 → flat_map text items ≡ all
+pub all_read : {X : Type 0} (text : X → List ℕ) (Within : X → Type 0) (items : List X) (rest all : List ℕ)
+    → AreRead text Within items rest all → length rest ≡ 0 → flat_map text items ≡ all
 all_read text Within items rest all read none = sym (append-nil (flat_map text items)) ∙ (ap (λ end. flat_map text items ++ end) (sym (nil_from_length rest none)) ∙ read.spelled)

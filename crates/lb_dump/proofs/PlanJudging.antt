@@ -27,7 +27,8 @@ short_flag count text short = field_short w32 (λ flag. unless (nat_le flag 1) F
 
 pub broken_flag : (count : ℕ) (text : List ℕ) → 4 ≤ length text → 1 < flag_in text → judge (ending count) text ≡ Broken Flag
 broken_flag count text long high =
-    broken_at w32 (λ flag. unless (nat_le flag 1) Flag) (λ flag. if flag == 0 then End else decision count) text 0 (flag_in text) Flag long refl (gives_fault (nat_le (flag_in text) 1) Flag (lt-leb (flag_in text) 1 high))
+    broken_at w32 (λ flag. unless (nat_le flag 1) Flag) (λ flag. if flag == 0 then End else decision count) text 0 (flag_in text) Flag long
+    refl (gives_fault (nat_le (flag_in text) 1) Flag (lt-leb (flag_in text) 1 high))
 
 flagged : (count : ℕ) (text : List ℕ) → 4 ≤ length text → flag_in text ≡ 1 → judge (ending count) text ≡ judge (decision count) (drop 4 text)
 flagged count text long flag = field_at w32 (λ flag. unless (nat_le flag 1) Flag) (λ flag. if flag == 0 then End else decision count) text 0 4 1 refl long flag refl
@@ -49,7 +50,8 @@ many_targets count text target long flag is high =
     ∙ broken_at w32 (λ t. unless (nat_lt 0 t && nat_le t PES) Target) (λ t. lists count t) text 4 target Target long is
     (gives_fault (nat_lt 0 target && nat_le target PES) Target (and_right (nat_lt 0 target) (nat_le target PES) (lt-leb target PES high)))
 
-pub broken_target : (count : ℕ) (text : List ℕ) (target : ℕ) → 8 ≤ length text → flag_in text ≡ 1 → target ≡ target_in text → (target ≡ 0) ⊎ (PES < target) → judge (ending count) text ≡ Broken Target
+pub broken_target : (count : ℕ) (text : List ℕ) (target : ℕ) → 8 ≤ length text → flag_in text ≡ 1 → target ≡ target_in text
+    → (target ≡ 0) ⊎ (PES < target) → judge (ending count) text ≡ Broken Target
 broken_target count text target long flag is (inl none) = no_target count text long flag (sym is ∙ none)
 broken_target count text target long flag is (inr many) = many_targets count text target long flag (sym is) many
 
@@ -64,9 +66,11 @@ pub record IsOpened (text : List ℕ) (target : ℕ) : Type 0 where
 opened : (count : ℕ) (text : List ℕ) (target : ℕ) → IsOpened text target → judge (ending count) text ≡ judge (lists count target) (drop 8 text)
 opened count text target known =
     let long = known.long in
-    let good : (nat_lt 0 target && nat_le target PES) ≡ true = and_from (nat_lt 0 target) (nat_le target PES) (lt-ltb 0 target known.some_target) (le-leb target PES known.few_targets) in
+    let good : (nat_lt 0 target && nat_le target PES) ≡ true = and_from (nat_lt 0 target) (nat_le target PES)
+    (lt-ltb 0 target known.some_target) (le-leb target PES known.few_targets) in
     flagged count text (omega arith) known.flag
-    ∙ field_at w32 (λ t. unless (nat_lt 0 t && nat_le t PES) Target) (λ t. lists count t) text 4 8 target refl long known.target_is (gives_none (nat_lt 0 target && nat_le target PES) Target good)
+    ∙ field_at w32 (λ t. unless (nat_lt 0 t && nat_le t PES) Target) (λ t. lists count t) text 4 8 target refl long known.target_is
+    (gives_none (nat_lt 0 target && nat_le target PES) Target good)
 
 -- up to the kind of the floor
 pub short_lists : (count : ℕ) (text : List ℕ) (target : ℕ) → IsOpened text target → length text < kind_at target + 4 → judge (ending count) text ≡ Unfinished
@@ -76,17 +80,20 @@ short_lists count text target known short =
     (needs_field w32 (λ kind. unless (nat_le kind 1) Floor) (λ kind. after_floor count target kind))) in
     opened count text target known ∙ short_at (lists count target) (8 + ((target + 1) * 4 + 4)) text 8 needs known.long (omega arith)
 
-to_floor : (count : ℕ) (text : List ℕ) (target : ℕ) → IsOpened text target → kind_at target ≤ length text → judge (ending count) text ≡ judge (floor_field count target) (drop (kind_at target) text)
+to_floor : (count : ℕ) (text : List ℕ) (target : ℕ) → IsOpened text target → kind_at target ≤ length text
+    → judge (ending count) text ≡ judge (floor_field count target) (drop (kind_at target) text)
 to_floor count text target known long =
     opened count text target known
     ∙ field_at w64 (λ _. None) (λ _. numbers w32 (target + 1) (floor_field count target)) text 8 16 (from_be_bytes w64 (drop 8 text)) refl (omega arith) refl refl
     ∙ numbers_at w32 (target + 1) (floor_field count target) text 16 (kind_at target) (omega arith) long
 
-pub broken_floor : (count : ℕ) (text : List ℕ) (target from kind : ℕ) → IsOpened text target → from ≡ kind_at target → from + 4 ≤ length text → kind ≡ word_at text from → 1 < kind → judge (ending count) text ≡ Broken Floor
+pub broken_floor : (count : ℕ) (text : List ℕ) (target from kind : ℕ) → IsOpened text target → from ≡ kind_at target
+    → from + 4 ≤ length text → kind ≡ word_at text from → 1 < kind → judge (ending count) text ≡ Broken Floor
 broken_floor count text target from kind known from_is long is high =
     let there : kind_at target + 4 ≤ length text = subst (λ n. n + 4 ≤ length text) from_is long in
     to_floor count text target known (omega arith)
-    ∙ broken_at w32 (λ k. unless (nat_le k 1) Floor) (λ k. after_floor count target k) text (kind_at target) kind Floor there (ap (word_at text) (sym from_is) ∙ sym is) (gives_fault (nat_le kind 1) Floor (lt-leb kind 1 high))
+    ∙ broken_at w32 (λ k. unless (nat_le k 1) Floor) (λ k. after_floor count target k) text (kind_at target) kind Floor there
+    (ap (word_at text) (sym from_is) ∙ sym is) (gives_fault (nat_le kind 1) Floor (lt-leb kind 1 high))
 
 -- a kind of a floor that keeps its rule
 pub record IsFloored (text : List ℕ) (target kind : ℕ) : Type 0 where
@@ -95,11 +102,13 @@ pub record IsFloored (text : List ℕ) (target kind : ℕ) : Type 0 where
   pub kind_is : word_at text (kind_at target) ≡ kind
   pub good : kind ≤ 1
 
-floored : (count : ℕ) (text : List ℕ) (target kind : ℕ) → IsFloored text target kind → judge (ending count) text ≡ judge (after_floor count target kind) (drop (kind_at target + 4) text)
+floored : (count : ℕ) (text : List ℕ) (target kind : ℕ) → IsFloored text target kind
+    → judge (ending count) text ≡ judge (after_floor count target kind) (drop (kind_at target + 4) text)
 floored count text target kind is =
     let long = is.long in
     to_floor count text target is.opened (omega arith)
-    ∙ field_at w32 (λ k. unless (nat_le k 1) Floor) (λ k. after_floor count target k) text (kind_at target) (kind_at target + 4) kind refl long is.kind_is (gives_none (nat_le kind 1) Floor (le-leb kind 1 is.good))
+    ∙ field_at w32 (λ k. unless (nat_le k 1) Floor) (λ k. after_floor count target k) text (kind_at target) (kind_at target + 4) kind refl
+    long is.kind_is (gives_none (nat_le kind 1) Floor (le-leb kind 1 is.good))
 
 -- the number of stops, and their bytes
 abbrev stops : ℕ → ℕ → ℕ
@@ -126,9 +135,11 @@ short_plan count text target kind is short =
     let needs : Needs (stops kind target * 4 + (target * 4 + (target * 8 + (target * 8 + (8 + 4))))) (after_floor count target kind) =
     needs_numbers w32 (stops kind target) names (target * 4 + (target * 8 + (target * 8 + (8 + 4)))) needs_names in
     floored count text target kind is
-    ∙ short_at (after_floor count target kind) (stops kind target * 4 + (target * 4 + (target * 8 + (target * 8 + (8 + 4))))) text (kind_at target + 4) needs is.long (omega (arith, stops_len kind target))
+    ∙ short_at (after_floor count target kind) (stops kind target * 4 + (target * 4 + (target * 8 + (target * 8 + (8 + 4))))) text
+    (kind_at target + 4) needs is.long (omega (arith, stops_len kind target))
 
-to_moves : (count : ℕ) (text : List ℕ) (target kind : ℕ) → IsFloored text target kind → length text ≡ plan_len target kind → judge (ending count) text ≡ judge (move_count count) (drop (length text - 4) text)
+to_moves : (count : ℕ) (text : List ℕ) (target kind : ℕ) → IsFloored text target kind → length text ≡ plan_len target kind
+    → judge (ending count) text ≡ judge (move_count count) (drop (length text - 4) text)
 to_moves count text target kind is whole =
     let rest : Layout = any w64 (λ _. move_count count) in
     let v : Layout = numbers w64 target rest in
@@ -143,10 +154,13 @@ to_moves count text target kind is whole =
     ∙ numbers_at w32 target u text names_at (names_at + target * 4) refl (omega arith)
     ∙ numbers_at w64 target v text (names_at + target * 4) (names_at + target * 4 + target * 8) refl (omega arith)
     ∙ numbers_at w64 target rest text (names_at + target * 4 + target * 8) (names_at + target * 4 + target * 8 + target * 8) refl (omega arith)
-    ∙ field_at w64 (λ _. None) (λ _. move_count count) text (names_at + target * 4 + target * 8 + target * 8) (length text - 4) (from_be_bytes w64 (drop (names_at + target * 4 + target * 8 + target * 8) text)) (omega arith) (omega arith) refl refl
+    ∙ field_at w64 (λ _. None) (λ _. move_count count) text (names_at + target * 4 + target * 8 + target * 8) (length text - 4)
+    (from_be_bytes w64 (drop (names_at + target * 4 + target * 8 + target * 8) text)) (omega arith) (omega arith) refl refl
 
-pub broken_moves : (count : ℕ) (text : List ℕ) (target kind end n : ℕ) → IsFloored text target kind → length text ≡ plan_len target kind → end ≡ plan_len target kind → n ≡ word_at text (end - 4) → count < n → judge (ending count) text ≡ Broken MoveCount
+pub broken_moves : (count : ℕ) (text : List ℕ) (target kind end n : ℕ) → IsFloored text target kind → length text ≡ plan_len target kind
+    → end ≡ plan_len target kind → n ≡ word_at text (end - 4) → count < n → judge (ending count) text ≡ Broken MoveCount
 broken_moves count text target kind end n floored whole end_is is high =
     let there : end - 4 ≡ length text - 4 = ap (λ e. e - 4) (end_is ∙ sym whole) in
     to_moves count text target kind floored whole
-    ∙ broken_at w32 (λ m. unless (nat_le m count) MoveCount) (λ m. moves count 0 m) text (length text - 4) n MoveCount (omega arith) (ap (word_at text) (sym there) ∙ sym is) (gives_fault (nat_le n count) MoveCount (lt-leb n count high))
+    ∙ broken_at w32 (λ m. unless (nat_le m count) MoveCount) (λ m. moves count 0 m) text (length text - 4) n MoveCount (omega arith)
+    (ap (word_at text) (sym there) ∙ sym is) (gives_fault (nat_le n count) MoveCount (lt-leb n count high))

@@ -13,7 +13,8 @@ use Rattle.dump_format.proofs.Bytes.{AreBytes, bytes_behind, bytes_left, bytes_r
 use Rattle.lb_dump.proofs.NumbersRead.{behind_part, word-append, word_at-append}
 
 -- the length of the floor that begins at an offset
-pub floor_whole : (bytes rest : List ℕ) (at count : ℕ) → rest ≡ drop at bytes → length bytes ≡ at + floor_len (word_at bytes at) count → length rest ≡ floor_len (word_at rest 0) count
+pub floor_whole : (bytes rest : List ℕ) (at count : ℕ) → rest ≡ drop at bytes → length bytes ≡ at + floor_len (word_at bytes at) count
+    → length rest ≡ floor_len (word_at rest 0) count
 floor_whole bytes rest at count is whole =
     let here : length (drop at bytes) ≡ floor_len (word_at bytes at) count = rw length-drop (omega arith) in
     ap length is ∙ (here ∙ ap (λ it. floor_len (from_be_bytes w32 it) count) (sym is))
@@ -42,7 +43,8 @@ pub prices_read : {A : Type 0} (bytes first second : List ℕ) (us vs : List ℤ
     → flat_map price vs ≡ second → length vs ≡ blocks → ArePrices vs → prices.v ≡ vs → ArePricesIn bytes blocks prices
 prices_read bytes first second us vs blocks prices split u_spelled u_counted u_range u_is v_spelled v_counted v_range v_is =
     record {
-      spelled = split ∙ (ap (λ it. it ++ second) (sym u_spelled ∙ ap (flat_map price) (sym u_is)) ∙ ap (λ it. flat_map price prices.u ++ it) (sym v_spelled ∙ ap (flat_map price) (sym v_is)));
+      spelled = split ∙ (ap (λ it. it ++ second) (sym u_spelled ∙ ap (flat_map price) (sym u_is))
+          ∙ ap (λ it. flat_map price prices.u ++ it) (sym v_spelled ∙ ap (flat_map price) (sym v_is)));
       block_prices = ap length u_is ∙ u_counted;
       block_range = subst ArePrices (sym u_is) u_range;
       pe_prices = ap length v_is ∙ v_counted;
@@ -75,14 +77,18 @@ front_kind bytes front back blocks cut =
     ∙ ap (λ n. word_at bytes (kind_at n)) (sym cut.target)))
 
 -- and the length of that part
-pub front_whole : (bytes front back : List ℕ) (blocks : ℕ) → Cut bytes front back blocks → length (take (length front - 8) (drop 8 front)) ≡ 8 + 4 * (blocks + 1) + floor_len (word_at (take (length front - 8) (drop 8 front)) (8 + 4 * (blocks + 1))) (blocks + 1)
+pub front_whole : (bytes front back : List ℕ) (blocks : ℕ) → Cut bytes front back blocks
+    → length (take (length front - 8) (drop 8 front)) ≡ 8 + 4 * (blocks + 1) + floor_len
+    (word_at (take (length front - 8) (drop 8 front)) (8 + 4 * (blocks + 1))) (blocks + 1)
 front_whole bytes front back blocks cut =
     let len : length front ≡ 16 + 4 * (blocks + 1) + floor_len (kind_in bytes) (blocks + 1) = front_len bytes front back blocks cut in
-    let part : length (take (length front - 8) (drop 8 front)) ≡ 8 + 4 * (blocks + 1) + floor_len (kind_in bytes) (blocks + 1) = ap length (take_rest front 8) ∙ (length-drop 8 front ∙ omega arith) in
+    let part : length (take (length front - 8) (drop 8 front)) ≡ 8 + 4 * (blocks + 1) + floor_len (kind_in bytes) (blocks + 1) = ap length
+    (take_rest front 8) ∙ (length-drop 8 front ∙ omega arith) in
     part ∙ ap (λ kind. 8 + 4 * (blocks + 1) + floor_len kind (blocks + 1)) (sym (front_kind bytes front back blocks cut))
 
 -- the flag and the target, and then that part
-front_is : (bytes front back : List ℕ) (blocks : ℕ) → Cut bytes front back blocks → AreBytes bytes → flag_in bytes ≡ 1 → front ≡ word 1 ++ (word blocks ++ take (length front - 8) (drop 8 front))
+front_is : (bytes front back : List ℕ) (blocks : ℕ) → Cut bytes front back blocks → AreBytes bytes → flag_in bytes ≡ 1 → front ≡ word 1
+    ++ (word blocks ++ take (length front - 8) (drop 8 front))
 front_is bytes front back blocks cut known flag =
     let len : length front ≡ 16 + 4 * (blocks + 1) + floor_len (kind_in bytes) (blocks + 1) = front_len bytes front back blocks cut in
     let four : 4 ≤ length front = omega arith in
@@ -102,7 +108,8 @@ last_is numbers moved known twelve is =
     long_first numbers moved known (omega arith) is ∙ ap (λ it. long moved ++ it) (last_word (drop 8 numbers) (word_at numbers 8) four (bytes_behind 8 numbers known) refl)
 
 -- where the number of moves begins
-last_at : (bytes back numbers : List ℕ) (from behind : ℕ) → back ≡ drop from bytes → numbers ≡ drop behind back → from + behind + 12 ≡ length bytes → word_at numbers 8 ≡ word_at bytes (length bytes - 4)
+last_at : (bytes back numbers : List ℕ) (from behind : ℕ) → back ≡ drop from bytes → numbers ≡ drop behind back
+    → from + behind + 12 ≡ length bytes → word_at numbers 8 ≡ word_at bytes (length bytes - 4)
 last_at bytes back numbers from behind back_is numbers_is end =
     let there : from + (behind + 8) ≡ length bytes - 4 = omega arith in
     ap (λ it. word_at it 8) numbers_is ∙ ap (from_be_bytes w32)
@@ -126,11 +133,16 @@ plan_spelled bytes front back lists numbers behind many r cut known flag divisio
     let end : (length bytes - behind) + many + 12 ≡ length bytes = omega arith in
     let numbers_are : AreBytes numbers = bytes_right lists numbers (subst AreBytes split (bytes_right front back (subst AreBytes cut.split known))) in
     let last : numbers ≡ long r.decision.moved ++ word (word_at bytes (length bytes - 4)) =
-    last_is numbers r.decision.moved numbers_are len moved ∙ ap (λ n. long r.decision.moved ++ word n) (last_at bytes back numbers (length bytes - behind) many back_is numbers_is end) in
+    last_is numbers r.decision.moved numbers_are len moved
+    ∙ ap (λ n. long r.decision.moved ++ word n) (last_at bytes back numbers (length bytes - behind) many back_is numbers_is end) in
     let first : front ≡ word 1 ++ (word r.target ++ (long r.decision.division.bottleneck ++ (flat_map word r.decision.division.cuts ++ floor_text r.decision.division.floor))) =
     front_is bytes front back r.target cut known flag ∙ ap (λ it. word 1 ++ (word r.target ++ it)) division.spelled in
-    let second : back ≡ (flat_map word r.decision.naming ++ (flat_map price r.decision.prices.u ++ flat_map price r.decision.prices.v)) ++ (long r.decision.moved ++ word (word_at bytes (length bytes - 4))) =
-    split ∙ (ap (λ it. it ++ numbers) named.spelled ∙ ap (λ it. (flat_map word r.decision.naming ++ (flat_map price r.decision.prices.u ++ flat_map price r.decision.prices.v)) ++ it) last) in
-    cut.split ∙ (ap (λ it. it ++ back) first ∙ (ap (λ it. (word 1 ++ (word r.target ++ (long r.decision.division.bottleneck ++ (flat_map word r.decision.division.cuts ++ floor_text r.decision.division.floor)))) ++ it) second
+    let second : back ≡ (flat_map word r.decision.naming ++ (flat_map price r.decision.prices.u ++ flat_map price r.decision.prices.v))
+    ++ (long r.decision.moved ++ word (word_at bytes (length bytes - 4))) =
+    split ∙ (ap (λ it. it ++ numbers) named.spelled ∙ ap
+    (λ it. (flat_map word r.decision.naming ++ (flat_map price r.decision.prices.u ++ flat_map price r.decision.prices.v)) ++ it) last) in
+    cut.split ∙ (ap (λ it. it ++ back) first ∙ (ap (λ it. (word 1
+    ++ (word r.target ++ (long r.decision.division.bottleneck
+    ++ (flat_map word r.decision.division.cuts ++ floor_text r.decision.division.floor)))) ++ it) second
     ∙ joined (word 1) (word r.target) (long r.decision.division.bottleneck) (flat_map word r.decision.division.cuts) (floor_text r.decision.division.floor)
     (flat_map word r.decision.naming) (flat_map price r.decision.prices.u) (flat_map price r.decision.prices.v) (long r.decision.moved) (word (word_at bytes (length bytes - 4)))))

@@ -20,7 +20,8 @@ use Rattle.lb_dump.proofs.Standing.{left, no_element}
 use Rattle.lb_dump.proofs.Steps.{broken_behind, comes_behind, fresh_elements, head_comes, left_breaks, no_move_begun, none_yet, plan_comes}
 
 -- before the head is whole there is no other part
-pub at_head : {A : Type 0} (head : Option Head) (loads : List ℕ) (sizes : List (ℕ × ℕ)) (plan : Plan A) (list : List (ℕ × ℕ × ℕ)) (begun : List ℕ) → IsAt head loads sizes plan list begun → head ≡ None
+pub at_head : {A : Type 0} (head : Option Head) (loads : List ℕ) (sizes : List (ℕ × ℕ)) (plan : Plan A) (list : List (ℕ × ℕ × ℕ))
+    (begun : List ℕ) → IsAt head loads sizes plan list begun → head ≡ None
     → (plan ≡ Begun) × IsAtHead loads sizes list begun
 at_head None loads sizes Begun list begun at none = (refl, at)
 at_head None loads sizes Nothing list begun at none = absurd at
@@ -39,13 +40,20 @@ module _ (A : Type 0) (head : Option Head) (loads : List ℕ) (sizes : List (ℕ
   head_short = old.short
 
   -- more bytes of the head
-  pub head_goes_on : (start rest next_begun : List ℕ) → bytes ≡ start ++ rest → next_begun ≡ begun ++ start → length (begun ++ start) < 16 → judge dump (begun ++ start) ≡ Unfinished
+  pub head_goes_on : (start rest next_begun : List ℕ) → bytes ≡ start ++ rest → next_begun ≡ begun ++ start → length (begun ++ start) < 16
+      → judge dump (begun ++ start) ≡ Unfinished
       → ((front_text head loads sizes plan list ++ next_begun) ++ rest ≡ (front_text head loads sizes plan list ++ begun) ++ bytes) × IsAt head loads sizes plan list next_begun
   head_goes_on start rest next_begun parts grown short unfinished = (
     ap (λ (t : List ℕ). (front_text head loads sizes plan list ++ t) ++ rest) grown ∙ comes_behind (front_text head loads sizes plan list) begun start rest bytes parts,
     subst (λ (x : Option Head). IsAt x loads sizes plan list next_begun) (sym headless)
         (subst (λ (p : Plan A). IsAt None loads sizes p list next_begun) (sym fresh)
-        (record { no_loads = old.no_loads; no_sizes = old.no_sizes; no_moves = old.no_moves; short = subst (λ (t : List ℕ). length t < 16) (sym grown) short; unfinished = subst (λ (t : List ℕ). judge dump t ≡ Unfinished) (sym grown) unfinished })),
+        (record {
+          no_loads = old.no_loads;
+          no_sizes = old.no_sizes;
+          no_moves = old.no_moves;
+          short = subst (λ (t : List ℕ). length t < 16) (sym grown) short;
+          unfinished = subst (λ (t : List ℕ). judge dump t ≡ Unfinished) (sym grown) unfinished;
+        })),
   )
 
   -- the head is whole
@@ -61,14 +69,16 @@ module _ (A : Type 0) (head : Option Head) (loads : List ℕ) (sizes : List (ℕ
   )
 
   -- a fault of the head
-  pub head_breaks : (start rest : List ℕ) (e : DumpError) → bytes ≡ start ++ rest → IsBroken (begun ++ start) e → IsBroken ((front_text head loads sizes plan list ++ begun) ++ bytes) e
+  pub head_breaks : (start rest : List ℕ) (e : DumpError) → bytes ≡ start ++ rest → IsBroken (begun ++ start) e
+      → IsBroken ((front_text head loads sizes plan list ++ begun) ++ bytes) e
   head_breaks start rest e parts broken =
       broken_behind (front_text head loads sizes plan list) begun start rest bytes e parts
       (left_breaks A head loads sizes plan list begun (begun ++ start) e held
       (subst (λ (x : Option Head). judge (left x (length loads) plan (length list)) (begun ++ start) ≡ Broken e) (sym headless) broken))
 
 -- after all elements of LBD2 a plan has begun
-pub at_plan : {A : Type 0} (head : Option Head) (loads : List ℕ) (sizes : List (ℕ × ℕ)) (plan : Plan A) (list : List (ℕ × ℕ × ℕ)) (begun : List ℕ) (h : Head) → IsAt head loads sizes plan list begun → head ≡ Some h → plan ≡ Begun
+pub at_plan : {A : Type 0} (head : Option Head) (loads : List ℕ) (sizes : List (ℕ × ℕ)) (plan : Plan A) (list : List (ℕ × ℕ × ℕ))
+    (begun : List ℕ) (h : Head) → IsAt head loads sizes plan list begun → head ≡ Some h → plan ≡ Begun
     → IsAtElements h loads sizes list begun
 at_plan None loads sizes plan list begun h at headed none = absurd (let e = headed in cc)
 at_plan (Some k) loads sizes Begun list begun h at headed none =
@@ -106,11 +116,17 @@ module _ (A : Type 0) (head : Option Head) (loads : List ℕ) (sizes : List (ℕ
             ∙ ap (λ (t : List ℕ). (front_text head loads sizes plan list ++ t) ++ rest) grown ∙ comes_behind (front_text head loads sizes plan list) begun start rest bytes parts,
         subst (λ (x : Option Head). IsAt x loads sizes next list next_begun) (sym headed)
             (subst (λ (p : Plan A). IsAt (Some h) loads sizes p list next_begun) (sym more)
-            (record { some = at.some; no_moves = at.no_moves; element = λ missing. absurd (omega (arith, missing, all)); plan = λ _. plan_of_wide h.format h.count next_begun wide begins.0 begins.1 })),
+            (record {
+              some = at.some;
+              no_moves = at.no_moves;
+              element = λ missing. absurd (omega (arith, missing, all));
+              plan = λ _. plan_of_wide h.format h.count next_begun wide begins.0 begins.1;
+            })),
       )
 
   -- a fault of the plan
-  pub plan_breaks : (start rest next_begun : List ℕ) (e : DumpError) → bytes ≡ start ++ rest → next_begun ≡ begun ++ start → judge (ending h.count) next_begun ≡ Broken e → IsBroken ((front_text head loads sizes plan list ++ begun) ++ bytes) e
+  pub plan_breaks : (start rest next_begun : List ℕ) (e : DumpError) → bytes ≡ start ++ rest → next_begun ≡ begun ++ start
+      → judge (ending h.count) next_begun ≡ Broken e → IsBroken ((front_text head loads sizes plan list ++ begun) ++ bytes) e
   plan_breaks start rest next_begun e parts grown broken =
       broken_behind (front_text head loads sizes plan list) begun start rest bytes e parts
       (left_breaks A head loads sizes plan list begun (begun ++ start) e held

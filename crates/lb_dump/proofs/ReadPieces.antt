@@ -28,7 +28,8 @@ fed_fault A text e start new fresh feeds =
     ]
 
 -- a fault of a piece is the fault of all bytes that the reader had, or memory was refused
-pub fed_broken : (old now after : Option (List ℕ)) (text piece : List ℕ) (dump new : Progress) (e : DumpError) → dump ≡ Ok text → Consumes old now text → Consumes now after piece → Feeds dump piece (Err e) new → IfSome old (λ bytes. (e ≡ OutOfMemory) ⊎ IsFault bytes e)
+pub fed_broken : (old now after : Option (List ℕ)) (text piece : List ℕ) (dump new : Progress) (e : DumpError) → dump ≡ Ok text
+    → Consumes old now text → Consumes now after piece → Feeds dump piece (Err e) new → IfSome old (λ bytes. (e ≡ OutOfMemory) ⊎ IsFault bytes e)
 fed_broken None now after text piece dump new e is_text so_far came fed = tt
 fed_broken (Some bytes) now after text piece dump new e is_text so_far came fed =
     all_of after (Consumes-trans (Some bytes) now after text piece so_far came)
@@ -45,7 +46,8 @@ fed_broken (Some bytes) now after text piece dump new e is_text so_far came fed 
         ]
 
 -- the fault of all bytes, or out of memory, or that the reader failed
-pub faulted : (old : Option (List ℕ)) (result : Result ⊤ DumpError) (e : DumpError) → result ≡ Err e → IfSome old (λ bytes. (e ≡ OutOfMemory) ⊎ IsFault bytes e) → IfErr result (λ f. IfSome old (λ bytes. (f ≡ Read) ⊎ ((f ≡ OutOfMemory) ⊎ IsFault bytes f)))
+pub faulted : (old : Option (List ℕ)) (result : Result ⊤ DumpError) (e : DumpError) → result ≡ Err e
+    → IfSome old (λ bytes. (e ≡ OutOfMemory) ⊎ IsFault bytes e) → IfErr result (λ f. IfSome old (λ bytes. (f ≡ Read) ⊎ ((f ≡ OutOfMemory) ⊎ IsFault bytes f)))
 faulted None (Ok a) e is fault = tt
 faulted None (Err f) e is fault = tt
 faulted (Some bytes) result e is fault = subst (λ (r : Result ⊤ DumpError). IfErr r (λ f. (f ≡ Read) ⊎ ((f ≡ OutOfMemory) ⊎ IsFault bytes f))) (sym is) (inr fault)
@@ -68,13 +70,16 @@ answer_at_end text (Ok d) ends = ends
 answer_at_end text (Err e) ends = inr (ap (λ v. fault_found v (length text)) ends.1 ∙ ap Some (sym ends.0))
 
 -- the fault of all bytes is an answer to them, unless the reader failed
-pub fault_answers : (A : Type 0) (old : Option (List ℕ)) (e : DumpError) → IfSome old (λ bytes. (e ≡ Read) ⊎ ((e ≡ OutOfMemory) ⊎ IsFault bytes e)) → IfSome old (λ bytes. (◌≡◌ {A = Result (Dumped A) DumpError} (Err e) (Err Read)) ⊎ IsAnswer {A = A} bytes (Err e))
+pub fault_answers : (A : Type 0) (old : Option (List ℕ)) (e : DumpError)
+    → IfSome old (λ bytes. (e ≡ Read) ⊎ ((e ≡ OutOfMemory) ⊎ IsFault bytes e))
+    → IfSome old (λ bytes. (◌≡◌ {A = Result (Dumped A) DumpError} (Err e) (Err Read)) ⊎ IsAnswer {A = A} bytes (Err e))
 fault_answers A None e fault = tt
 fault_answers A (Some bytes) e (inl failed) = inl (ap Err failed)
 fault_answers A (Some bytes) e (inr fault) = inr fault
 
 -- the answer at the end of the text is one to all bytes, where the text is all that the reader had
-pub all_answered : {A : Type 0} (old new : Option (List ℕ)) (text : List ℕ) (result : Result (Dumped A) DumpError) → Consumes old new text → IsAtEnd new → EndsText text result → IfSome old (λ bytes. (result ≡ Err Read) ⊎ IsAnswer bytes result)
+pub all_answered : {A : Type 0} (old new : Option (List ℕ)) (text : List ℕ) (result : Result (Dumped A) DumpError) → Consumes old new text
+    → IsAtEnd new → EndsText text result → IfSome old (λ bytes. (result ≡ Err Read) ⊎ IsAnswer bytes result)
 all_answered None new text result came end ends = tt
 all_answered (Some bytes) None text result came end ends = absurd came
 all_answered (Some bytes) (Some rest) text result came end ends =

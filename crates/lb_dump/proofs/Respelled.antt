@@ -12,14 +12,18 @@ two_words bytes m n len are first second =
     ∙ ap (λ rest. word m ++ rest) (last_word (drop 4 bytes) n (omega (arith, length-drop 4 bytes)) (bytes_behind 4 bytes are) second)
 
 -- three numbers, of which the first has four bytes, or eight
-pub three_words : (bytes : List ℕ) (l m n : ℕ) → length bytes ≡ 12 → AreBytes bytes → l ≡ from_be_bytes w32 bytes → m ≡ from_be_bytes w32 (drop 4 bytes) → n ≡ from_be_bytes w32 (drop 8 bytes)
+pub three_words : (bytes : List ℕ) (l m n : ℕ) → length bytes ≡ 12 → AreBytes bytes → l ≡ from_be_bytes w32 bytes
+    → m ≡ from_be_bytes w32 (drop 4 bytes) → n ≡ from_be_bytes w32 (drop 8 bytes)
     → bytes ≡ word l ++ (word m ++ word n)
 three_words bytes l m n len are first second third =
     word_first bytes l are (omega arith) first
-    ∙ ap (λ rest. word l ++ rest) (two_words (drop 4 bytes) m n (omega (arith, length-drop 4 bytes)) (bytes_behind 4 bytes are) second (third ∙ ap (from_be_bytes w32) (sym (drop-drop 4 4 bytes))))
+    ∙ ap (λ rest. word l ++ rest) (two_words (drop 4 bytes) m n (omega (arith, length-drop 4 bytes)) (bytes_behind 4 bytes are) second
+    (third ∙ ap (from_be_bytes w32) (sym (drop-drop 4 4 bytes))))
 
-pub long_and_words : (bytes : List ℕ) (l m n : ℕ) → length bytes ≡ 16 → AreBytes bytes → l ≡ from_be_bytes w64 bytes → m ≡ from_be_bytes w32 (drop 8 bytes) → n ≡ from_be_bytes w32 (drop 12 bytes)
+pub long_and_words : (bytes : List ℕ) (l m n : ℕ) → length bytes ≡ 16 → AreBytes bytes → l ≡ from_be_bytes w64 bytes
+    → m ≡ from_be_bytes w32 (drop 8 bytes) → n ≡ from_be_bytes w32 (drop 12 bytes)
     → bytes ≡ long l ++ (word m ++ word n)
 long_and_words bytes l m n len are first second third =
     long_first bytes l are (omega arith) first
-    ∙ ap (λ rest. long l ++ rest) (two_words (drop 8 bytes) m n (omega (arith, length-drop 8 bytes)) (bytes_behind 8 bytes are) second (third ∙ ap (from_be_bytes w32) (sym (drop-drop 4 8 bytes))))
+    ∙ ap (λ rest. long l ++ rest) (two_words (drop 8 bytes) m n (omega (arith, length-drop 8 bytes)) (bytes_behind 8 bytes are) second
+    (third ∙ ap (from_be_bytes w32) (sym (drop-drop 4 8 bytes))))

@@ -60,7 +60,8 @@ behind_all h loads sizes more some all =
     ∙ ap (λ l. judge l more) (no_element (load_width h.format) h.procs (length loads) (h.count - length loads) (behind h.format h.count) (omega arith))
 
 -- the fields that are left are the ones to judge what follows by
-pub front_judged : {A : Type 0} (head : Option Head) (loads : List ℕ) (sizes : List (ℕ × ℕ)) (plan : Plan A) (list : List (ℕ × ℕ × ℕ)) (begun more : List ℕ) → IsAt head loads sizes plan list begun
+pub front_judged : {A : Type 0} (head : Option Head) (loads : List ℕ) (sizes : List (ℕ × ℕ)) (plan : Plan A) (list : List (ℕ × ℕ × ℕ))
+    (begun more : List ℕ) → IsAt head loads sizes plan list begun
     → judge dump (front_text head loads sizes plan list ++ more) ≡ judge (left head (length loads) plan (length list)) more
 unfolding front_text
 front_judged None loads sizes Begun list begun more at = rw at.no_moves refl
@@ -86,7 +87,8 @@ pub element_left : (h : Head) (loads : List ℕ) (begun : List ℕ) → length l
     → judge (elements (load_width h.format) h.procs (length loads) (h.count - length loads) (behind h.format h.count)) begun ≡ Unfinished
 element_left h loads begun missing is =
     rw (next_element (load_width h.format) h.procs (length loads) (h.count - length loads) (behind h.format h.count) (omega arith))
-    (element_unfinished h.format h.procs (length loads) (elements (load_width h.format) h.procs (length loads + 1) (h.count - length loads - 1) (behind h.format h.count)) begun is.short is.load is.size)
+    (element_unfinished h.format h.procs (length loads)
+    (elements (load_width h.format) h.procs (length loads + 1) (h.count - length loads - 1) (behind h.format h.count)) begun is.short is.load is.size)
 
 pub move_left : (count all k : ℕ) (begun : List ℕ) → k < all → HasBegunMove count begun → judge (moves count k (all - k)) begun ≡ Unfinished
 move_left count all k begun missing is =
@@ -114,7 +116,8 @@ module _ (A : Type 0) where
   head_found loads sizes Nothing list begun at = absurd at
   head_found loads sizes (Made r all) list begun at = absurd at
 
-  pub element_found : (h : Head) (loads : List ℕ) (sizes : List (ℕ × ℕ)) (plan : Plan A) (list : List (ℕ × ℕ × ℕ)) (begun : List ℕ) → IsAt (Some h) loads sizes plan list begun → length loads < h.count
+  pub element_found : (h : Head) (loads : List ℕ) (sizes : List (ℕ × ℕ)) (plan : Plan A) (list : List (ℕ × ℕ × ℕ)) (begun : List ℕ)
+      → IsAt (Some h) loads sizes plan list begun → length loads < h.count
       → judge dump (front_text (Some h) loads sizes plan list ++ begun) ≡ Unfinished
   element_found h loads sizes Begun list begun at missing = front_judged (Some h) loads sizes Begun list begun begun at ∙ element_left h loads begun missing (at.element missing)
   element_found h loads sizes Nothing list begun at missing = absurd (omega (arith, at.all))
@@ -127,11 +130,13 @@ module _ (A : Type 0) where
       front_judged {A = A} (Some h) loads sizes Begun list begun begun at
       ∙ ap (λ l. judge l begun) (no_element (load_width h.format) h.procs (length loads) (h.count - length loads) (behind h.format h.count) (omega arith))
 
-  pub narrow_found : (h : Head) (loads : List ℕ) (sizes : List (ℕ × ℕ)) (list : List (ℕ × ℕ × ℕ)) (begun : List ℕ) → IsAt {A = A} (Some h) loads sizes Begun list begun → length loads ≡ h.count → h.format ≡ Lbd1
+  pub narrow_found : (h : Head) (loads : List ℕ) (sizes : List (ℕ × ℕ)) (list : List (ℕ × ℕ × ℕ)) (begun : List ℕ)
+      → IsAt {A = A} (Some h) loads sizes Begun list begun → length loads ≡ h.count → h.format ≡ Lbd1
       → judge dump (front_text {A = A} (Some h) loads sizes Begun list ++ begun) ≡ Whole
   narrow_found h loads sizes list begun at all narrow = plan_at h loads sizes list begun at all ∙ narrow_end h.format h.count begun narrow (at.plan all)
 
-  pub plan_found : (h : Head) (loads : List ℕ) (sizes : List (ℕ × ℕ)) (list : List (ℕ × ℕ × ℕ)) (begun : List ℕ) → IsAt {A = A} (Some h) loads sizes Begun list begun → length loads ≡ h.count → h.format ≡ Lbd2
+  pub plan_found : (h : Head) (loads : List ℕ) (sizes : List (ℕ × ℕ)) (list : List (ℕ × ℕ × ℕ)) (begun : List ℕ)
+      → IsAt {A = A} (Some h) loads sizes Begun list begun → length loads ≡ h.count → h.format ≡ Lbd2
       → judge dump (front_text {A = A} (Some h) loads sizes Begun list ++ begun) ≡ Unfinished
   plan_found h loads sizes list begun at all wide = plan_at h loads sizes list begun at all ∙ plan_left h.format h.count begun wide (at.plan all)
 
@@ -140,29 +145,36 @@ module _ (A : Type 0) where
   unfolding judge
   nothing_found h loads sizes list begun at = front_judged {A = A} (Some h) loads sizes Nothing list begun begun at ∙ ap (judge End) at.no_bytes
 
-  pub move_found : (h : Head) (loads : List ℕ) (sizes : List (ℕ × ℕ)) (r : Recorded A) (all : ℕ) (list : List (ℕ × ℕ × ℕ)) (begun : List ℕ) → IsAt (Some h) loads sizes (Made r all) list begun → length list < all
+  pub move_found : (h : Head) (loads : List ℕ) (sizes : List (ℕ × ℕ)) (r : Recorded A) (all : ℕ) (list : List (ℕ × ℕ × ℕ)) (begun : List ℕ)
+      → IsAt (Some h) loads sizes (Made r all) list begun → length list < all
       → judge dump (front_text (Some h) loads sizes (Made r all) list ++ begun) ≡ Unfinished
-  move_found h loads sizes r all list begun at missing = front_judged (Some h) loads sizes (Made r all) list begun begun at ∙ move_left h.count all (length list) begun missing (at.move missing)
+  move_found h loads sizes r all list begun at missing = front_judged (Some h) loads sizes (Made r all) list begun begun at
+      ∙ move_left h.count all (length list) begun missing (at.move missing)
 
-  pub all_found : (h : Head) (loads : List ℕ) (sizes : List (ℕ × ℕ)) (r : Recorded A) (all : ℕ) (list : List (ℕ × ℕ × ℕ)) (begun : List ℕ) → IsAt (Some h) loads sizes (Made r all) list begun → length list ≡ all
+  pub all_found : (h : Head) (loads : List ℕ) (sizes : List (ℕ × ℕ)) (r : Recorded A) (all : ℕ) (list : List (ℕ × ℕ × ℕ)) (begun : List ℕ)
+      → IsAt (Some h) loads sizes (Made r all) list begun → length list ≡ all
       → judge dump (front_text (Some h) loads sizes (Made r all) list ++ begun) ≡ Whole
-  all_found h loads sizes r all list begun at none = front_judged (Some h) loads sizes (Made r all) list begun begun at ∙ no_move_left h.count all (length list) begun none (at.no_bytes none)
+  all_found h loads sizes r all list begun at none = front_judged (Some h) loads sizes (Made r all) list begun begun at
+      ∙ no_move_left h.count all (length list) begun none (at.no_bytes none)
 
 -- The same, where what the reader holds is given by equations.
 module _ (A : Type 0) where
-  pub found_head : (head : Option Head) (loads : List ℕ) (sizes : List (ℕ × ℕ)) (plan : Plan A) (list : List (ℕ × ℕ × ℕ)) (begun : List ℕ) → IsAt head loads sizes plan list begun → head ≡ None
+  pub found_head : (head : Option Head) (loads : List ℕ) (sizes : List (ℕ × ℕ)) (plan : Plan A) (list : List (ℕ × ℕ × ℕ)) (begun : List ℕ)
+      → IsAt head loads sizes plan list begun → head ≡ None
       → judge dump (front_text head loads sizes plan list ++ begun) ≡ Unfinished
   found_head None loads sizes plan list begun at none = head_found A loads sizes plan list begun at
   found_head (Some h) loads sizes plan list begun at none = absurd (let e = none in cc)
 
-  pub found_element : (head : Option Head) (loads : List ℕ) (sizes : List (ℕ × ℕ)) (plan : Plan A) (list : List (ℕ × ℕ × ℕ)) (begun : List ℕ) (h : Head) → IsAt head loads sizes plan list begun → head ≡ Some h → length loads < h.count
+  pub found_element : (head : Option Head) (loads : List ℕ) (sizes : List (ℕ × ℕ)) (plan : Plan A) (list : List (ℕ × ℕ × ℕ))
+      (begun : List ℕ) (h : Head) → IsAt head loads sizes plan list begun → head ≡ Some h → length loads < h.count
       → judge dump (front_text head loads sizes plan list ++ begun) ≡ Unfinished
   found_element None loads sizes plan list begun h at is missing = absurd (let e = is in cc)
   found_element (Some k) loads sizes plan list begun h at is missing =
       let same : h ≡ k = cc in
       element_found A k loads sizes plan list begun at (subst (λ (x : Head). length loads < x.count) same missing)
 
-  pub found_narrow : (head : Option Head) (loads : List ℕ) (sizes : List (ℕ × ℕ)) (plan : Plan A) (list : List (ℕ × ℕ × ℕ)) (begun : List ℕ) (h : Head) → IsAt head loads sizes plan list begun → head ≡ Some h → h.count ≤ length loads → plan ≡ Begun → h.format ≡ Lbd1
+  pub found_narrow : (head : Option Head) (loads : List ℕ) (sizes : List (ℕ × ℕ)) (plan : Plan A) (list : List (ℕ × ℕ × ℕ)) (begun : List ℕ)
+      (h : Head) → IsAt head loads sizes plan list begun → head ≡ Some h → h.count ≤ length loads → plan ≡ Begun → h.format ≡ Lbd1
       → judge dump (front_text head loads sizes plan list ++ begun) ≡ Whole
   found_narrow None loads sizes plan list begun h at is enough fresh narrow = absurd (let e = is in cc)
   found_narrow (Some k) loads sizes Begun list begun h at is enough fresh narrow =
@@ -171,7 +183,8 @@ module _ (A : Type 0) where
   found_narrow (Some k) loads sizes Nothing list begun h at is enough fresh narrow = absurd (let e = fresh in cc)
   found_narrow (Some k) loads sizes (Made r all) list begun h at is enough fresh narrow = absurd (let e = fresh in cc)
 
-  pub found_plan : (head : Option Head) (loads : List ℕ) (sizes : List (ℕ × ℕ)) (plan : Plan A) (list : List (ℕ × ℕ × ℕ)) (begun : List ℕ) (h : Head) → IsAt head loads sizes plan list begun → head ≡ Some h → h.count ≤ length loads → plan ≡ Begun → h.format ≡ Lbd2
+  pub found_plan : (head : Option Head) (loads : List ℕ) (sizes : List (ℕ × ℕ)) (plan : Plan A) (list : List (ℕ × ℕ × ℕ)) (begun : List ℕ)
+      (h : Head) → IsAt head loads sizes plan list begun → head ≡ Some h → h.count ≤ length loads → plan ≡ Begun → h.format ≡ Lbd2
       → judge dump (front_text head loads sizes plan list ++ begun) ≡ Unfinished
   found_plan None loads sizes plan list begun h at is enough fresh wide = absurd (let e = is in cc)
   found_plan (Some k) loads sizes Begun list begun h at is enough fresh wide =
@@ -180,28 +193,33 @@ module _ (A : Type 0) where
   found_plan (Some k) loads sizes Nothing list begun h at is enough fresh wide = absurd (let e = fresh in cc)
   found_plan (Some k) loads sizes (Made r all) list begun h at is enough fresh wide = absurd (let e = fresh in cc)
 
-  pub found_nothing : (head : Option Head) (loads : List ℕ) (sizes : List (ℕ × ℕ)) (plan : Plan A) (list : List (ℕ × ℕ × ℕ)) (begun : List ℕ) → IsAt head loads sizes plan list begun → plan ≡ Nothing
+  pub found_nothing : (head : Option Head) (loads : List ℕ) (sizes : List (ℕ × ℕ)) (plan : Plan A) (list : List (ℕ × ℕ × ℕ))
+      (begun : List ℕ) → IsAt head loads sizes plan list begun → plan ≡ Nothing
       → judge dump (front_text head loads sizes plan list ++ begun) ≡ Whole
   found_nothing head loads sizes Begun list begun at none = absurd (let e = none in cc)
   found_nothing None loads sizes Nothing list begun at none = absurd at
   found_nothing (Some h) loads sizes Nothing list begun at none = nothing_found A h loads sizes list begun at
   found_nothing head loads sizes (Made r all) list begun at none = absurd (let e = none in cc)
 
-  pub found_moves : (head : Option Head) (loads : List ℕ) (sizes : List (ℕ × ℕ)) (plan : Plan A) (list : List (ℕ × ℕ × ℕ)) (begun : List ℕ) (r : Recorded A) (all : ℕ) → IsAt head loads sizes plan list begun → plan ≡ Made r all
-      → MatchBool (nat_le all (length list)) (judge dump (front_text head loads sizes plan list ++ begun) ≡ Whole) (judge dump (front_text head loads sizes plan list ++ begun) ≡ Unfinished)
+  pub found_moves : (head : Option Head) (loads : List ℕ) (sizes : List (ℕ × ℕ)) (plan : Plan A) (list : List (ℕ × ℕ × ℕ)) (begun : List ℕ)
+      (r : Recorded A) (all : ℕ) → IsAt head loads sizes plan list begun → plan ≡ Made r all
+      → MatchBool (nat_le all (length list)) (judge dump (front_text head loads sizes plan list ++ begun) ≡ Whole)
+      (judge dump (front_text head loads sizes plan list ++ begun) ≡ Unfinished)
   found_moves head loads sizes Begun list begun r all at made = absurd (let e = made in cc)
   found_moves head loads sizes Nothing list begun r all at made = absurd (let e = made in cc)
   found_moves None loads sizes (Made q n) list begun r all at made = absurd at
   found_moves (Some h) loads sizes (Made q n) list begun r all at made =
       let same : all ≡ n = cc in
-      subst (λ m. MatchBool (nat_le m (length list)) (judge dump (front_text (Some h) loads sizes (Made q n) list ++ begun) ≡ Whole) (judge dump (front_text (Some h) loads sizes (Made q n) list ++ begun) ≡ Unfinished)) (sym same)
+      subst (λ m. MatchBool (nat_le m (length list)) (judge dump (front_text (Some h) loads sizes (Made q n) list ++ begun) ≡ Whole)
+      (judge dump (front_text (Some h) loads sizes (Made q n) list ++ begun) ≡ Unfinished)) (sym same)
       (elim (cases_lt (length list) n) [
         | inl missing ↦ rw (lt-leb n (length list) missing) (move_found A h loads sizes q n list begun at missing)
         | inr enough ↦ rw (le-leb n (length list) enough) (all_found A h loads sizes q n list begun at (omega (arith, at.few_moves)))
       ])
 
   -- a text that is not whole lacks a move, or a plan
-  pub move_missing : (head : Option Head) (loads : List ℕ) (sizes : List (ℕ × ℕ)) (plan : Plan A) (list : List (ℕ × ℕ × ℕ)) (begun : List ℕ) (r : Recorded A) (all : ℕ) → IsAt head loads sizes plan list begun → plan ≡ Made r all
+  pub move_missing : (head : Option Head) (loads : List ℕ) (sizes : List (ℕ × ℕ)) (plan : Plan A) (list : List (ℕ × ℕ × ℕ)) (begun : List ℕ)
+      (r : Recorded A) (all : ℕ) → IsAt head loads sizes plan list begun → plan ≡ Made r all
       → judge dump (front_text head loads sizes plan list ++ begun) ≡ Unfinished → length list < all
   move_missing head loads sizes Begun list begun r all at made unfinished = absurd (let e = made in cc)
   move_missing head loads sizes Nothing list begun r all at made unfinished = absurd (let e = made in cc)
@@ -213,7 +231,8 @@ module _ (A : Type 0) where
         | inr enough ↦ absurd (let found = all_found A h loads sizes q n list begun at (omega (arith, at.few_moves, enough)) in cc)
       ]
 
-  pub all_elements : (head : Option Head) (loads : List ℕ) (sizes : List (ℕ × ℕ)) (plan : Plan A) (list : List (ℕ × ℕ × ℕ)) (begun : List ℕ) (h : Head) → IsAt head loads sizes plan list begun → head ≡ Some h → h.count ≤ length loads → length loads ≡ h.count
+  pub all_elements : (head : Option Head) (loads : List ℕ) (sizes : List (ℕ × ℕ)) (plan : Plan A) (list : List (ℕ × ℕ × ℕ)) (begun : List ℕ)
+      (h : Head) → IsAt head loads sizes plan list begun → head ≡ Some h → h.count ≤ length loads → length loads ≡ h.count
   all_elements None loads sizes plan list begun h at is enough = absurd (let e = is in cc)
   all_elements (Some k) loads sizes Begun list begun h at is enough =
       let same : h ≡ k = cc in
@@ -225,7 +244,8 @@ module _ (A : Type 0) where
       let same : h ≡ k = cc in
       omega (arith, ap (λ (x : Head). x.count) same, at.all)
 
-  pub plan_missing : (head : Option Head) (loads : List ℕ) (sizes : List (ℕ × ℕ)) (plan : Plan A) (list : List (ℕ × ℕ × ℕ)) (begun : List ℕ) (h : Head) → IsAt head loads sizes plan list begun → head ≡ Some h → h.count ≤ length loads → plan ≡ Begun
+  pub plan_missing : (head : Option Head) (loads : List ℕ) (sizes : List (ℕ × ℕ)) (plan : Plan A) (list : List (ℕ × ℕ × ℕ)) (begun : List ℕ)
+      (h : Head) → IsAt head loads sizes plan list begun → head ≡ Some h → h.count ≤ length loads → plan ≡ Begun
       → judge dump (front_text head loads sizes plan list ++ begun) ≡ Unfinished → h.format ≡ Lbd2
   plan_missing head loads sizes plan list begun h at is enough fresh unfinished = by_format h.format refl
     where
@@ -233,7 +253,8 @@ module _ (A : Type 0) where
       by_format Lbd1 narrow = absurd (let found = found_narrow head loads sizes plan list begun h at is enough fresh narrow in cc)
       by_format Lbd2 wide = wide
 
-  pub plan_begun : (head : Option Head) (loads : List ℕ) (sizes : List (ℕ × ℕ)) (plan : Plan A) (list : List (ℕ × ℕ × ℕ)) (begun : List ℕ) → IsAt head loads sizes plan list begun → (plan ≡ Begun) ⊎ (plan ≡ Nothing)
+  pub plan_begun : (head : Option Head) (loads : List ℕ) (sizes : List (ℕ × ℕ)) (plan : Plan A) (list : List (ℕ × ℕ × ℕ)) (begun : List ℕ)
+      → IsAt head loads sizes plan list begun → (plan ≡ Begun) ⊎ (plan ≡ Nothing)
       → judge dump (front_text head loads sizes plan list ++ begun) ≡ Unfinished → plan ≡ Begun
   plan_begun head loads sizes plan list begun at (inl fresh) unfinished = fresh
   plan_begun head loads sizes plan list begun at (inr none) unfinished = absurd (let found = found_nothing head loads sizes plan list begun at none in cc)
@@ -244,7 +265,8 @@ told_by true P Q R S told if_so if_not = if_so told
 told_by false P Q R S told if_so if_not = if_not told
 
 -- nothing is wrong with the text so far
-pub held_good : (A : Type 0) (head : Option Head) (loads : List ℕ) (sizes : List (ℕ × ℕ)) (plan : Plan A) (list : List (ℕ × ℕ × ℕ)) (begun : List ℕ) → IsAt head loads sizes plan list begun → IsGood (front_text head loads sizes plan list ++ begun)
+pub held_good : (A : Type 0) (head : Option Head) (loads : List ℕ) (sizes : List (ℕ × ℕ)) (plan : Plan A) (list : List (ℕ × ℕ × ℕ))
+    (begun : List ℕ) → IsAt head loads sizes plan list begun → IsGood (front_text head loads sizes plan list ++ begun)
 held_good A None loads sizes plan list begun at = inr (head_found A loads sizes plan list begun at)
 held_good A (Some h) loads sizes Begun list begun at =
     elim (cases_lt (length loads) h.count) [

@@ -66,7 +66,8 @@ comes_behind front begun start rest bytes e =
     rw (e, append_assoc front (begun ++ start) rest, append_assoc begun start rest, append_assoc front begun (start ++ rest)) refl
 
 -- a fault that they bring is the fault of all bytes
-pub broken_behind : (front begun start rest bytes : List ℕ) (e : DumpError) → bytes ≡ start ++ rest → IsBroken (front ++ (begun ++ start)) e → IsBroken ((front ++ begun) ++ bytes) e
+pub broken_behind : (front begun start rest bytes : List ℕ) (e : DumpError) → bytes ≡ start ++ rest → IsBroken (front ++ (begun ++ start)) e
+    → IsBroken ((front ++ begun) ++ bytes) e
 broken_behind front begun start rest bytes e parts broken =
     subst (λ t. IsBroken t e) (comes_behind front begun start rest bytes parts) (broken_stays dump (front ++ (begun ++ start)) rest e broken)
 
@@ -77,38 +78,59 @@ module _ (A : Type 0) where
   head_comes h start e = append-nil _ ∙ front_elements A h [] [] ∙ append-nil (head_text h) ∙ sym e
 
   -- the text once more elements are whole
-  pub elements_come : (h : Head) (loads next_loads : List ℕ) (sizes next_sizes : List (ℕ × ℕ)) (rest bytes : List ℕ) → elements_of h next_loads next_sizes ++ rest ≡ elements_of h loads sizes ++ bytes
+  pub elements_come : (h : Head) (loads next_loads : List ℕ) (sizes next_sizes : List (ℕ × ℕ)) (rest bytes : List ℕ)
+      → elements_of h next_loads next_sizes ++ rest ≡ elements_of h loads sizes ++ bytes
       → front_text {A = A} (Some h) next_loads next_sizes Begun [] ++ rest ≡ front_text {A = A} (Some h) loads sizes Begun [] ++ bytes
   elements_come h loads next_loads sizes next_sizes rest bytes joined =
-      rw (front_elements A h next_loads next_sizes, front_elements A h loads sizes, append_assoc (head_text h) (elements_of h next_loads next_sizes) rest, append_assoc (head_text h) (elements_of h loads sizes) bytes)
+      rw (
+        front_elements A h next_loads next_sizes,
+        front_elements A h loads sizes,
+        append_assoc (head_text h) (elements_of h next_loads next_sizes) rest,
+        append_assoc (head_text h) (elements_of h loads sizes) bytes,
+      )
       (ap (λ (t : List ℕ). head_text h ++ t) joined)
 
   -- a fault among the elements is the fault of the text
-  pub elements_break : (h : Head) (loads : List ℕ) (sizes : List (ℕ × ℕ)) (bytes : List ℕ) (e : DumpError) → IsHead h → judge (body_of h) (elements_of h loads sizes ++ bytes) ≡ Broken e
+  pub elements_break : (h : Head) (loads : List ℕ) (sizes : List (ℕ × ℕ)) (bytes : List ℕ) (e : DumpError) → IsHead h
+      → judge (body_of h) (elements_of h loads sizes ++ bytes) ≡ Broken e
       → IsBroken (front_text {A = A} (Some h) loads sizes Begun [] ++ bytes) e
   elements_break h loads sizes bytes e is broken =
       rw (front_elements A h loads sizes, append_assoc (head_text h) (elements_of h loads sizes) bytes) (head_read h is (elements_of h loads sizes ++ bytes) ∙ broken)
 
   -- a fault of what has begun, judged by the fields that are left, is the fault of the text
-  pub left_breaks : (head : Option Head) (loads : List ℕ) (sizes : List (ℕ × ℕ)) (plan : Plan A) (list : List (ℕ × ℕ × ℕ)) (begun bytes : List ℕ) (e : DumpError) → IsAt head loads sizes plan list begun
+  pub left_breaks : (head : Option Head) (loads : List ℕ) (sizes : List (ℕ × ℕ)) (plan : Plan A) (list : List (ℕ × ℕ × ℕ))
+      (begun bytes : List ℕ) (e : DumpError) → IsAt head loads sizes plan list begun
       → judge (left head (length loads) plan (length list)) bytes ≡ Broken e → IsBroken (front_text head loads sizes plan list ++ bytes) e
   left_breaks head loads sizes plan list begun bytes e at broken = front_judged head loads sizes plan list begun bytes at ∙ broken
 
   -- the text once the plan is whole
-  pub plan_comes : (h : Head) (loads : List ℕ) (sizes : List (ℕ × ℕ)) (plan : Plan A) (bytes : List ℕ) → plan_part plan ≡ bytes → front_text (Some h) loads sizes plan [] ++ [] ≡ front_text {A = A} (Some h) loads sizes Begun [] ++ bytes
+  pub plan_comes : (h : Head) (loads : List ℕ) (sizes : List (ℕ × ℕ)) (plan : Plan A) (bytes : List ℕ) → plan_part plan ≡ bytes
+      → front_text (Some h) loads sizes plan [] ++ [] ≡ front_text {A = A} (Some h) loads sizes Begun [] ++ bytes
   unfolding front_text
   plan_comes h loads sizes plan bytes e =
-      rw (append-nil (head_text h ++ (elements_of h loads sizes ++ (plan_part plan ++ []))), append-nil (plan_part plan), append-nil (elements_of h loads sizes), append_assoc (head_text h) (elements_of h loads sizes) bytes, e) refl
+      rw (
+        append-nil (head_text h ++ (elements_of h loads sizes ++ (plan_part plan ++ []))),
+        append-nil (plan_part plan),
+        append-nil (elements_of h loads sizes),
+        append_assoc (head_text h) (elements_of h loads sizes) bytes,
+        e,
+      ) refl
 
   -- the text once more moves are whole
-  pub moves_come : (head : Option Head) (loads : List ℕ) (sizes : List (ℕ × ℕ)) (plan : Plan A) (list next : List (ℕ × ℕ × ℕ)) (rest bytes : List ℕ) → moves_text next ++ rest ≡ moves_text list ++ bytes
+  pub moves_come : (head : Option Head) (loads : List ℕ) (sizes : List (ℕ × ℕ)) (plan : Plan A) (list next : List (ℕ × ℕ × ℕ))
+      (rest bytes : List ℕ) → moves_text next ++ rest ≡ moves_text list ++ bytes
       → front_text head loads sizes plan next ++ rest ≡ front_text head loads sizes plan list ++ bytes
   unfolding front_text
   moves_come head loads sizes plan list next rest bytes joined =
-      rw (behind_front (head_part head) (elements_part head loads sizes) (plan_part plan) (moves_text next) rest, behind_front (head_part head) (elements_part head loads sizes) (plan_part plan) (moves_text list) bytes, joined) refl
+      rw (
+        behind_front (head_part head) (elements_part head loads sizes) (plan_part plan) (moves_text next) rest,
+        behind_front (head_part head) (elements_part head loads sizes) (plan_part plan) (moves_text list) bytes,
+        joined,
+      ) refl
 
   -- a fault among the moves is the fault of the text
-  pub moves_break : (h : Head) (loads : List ℕ) (sizes : List (ℕ × ℕ)) (r : Recorded A) (all : ℕ) (list : List (ℕ × ℕ × ℕ)) (begun bytes : List ℕ) (e : DumpError) → IsAtMoves h loads sizes r all list begun
+  pub moves_break : (h : Head) (loads : List ℕ) (sizes : List (ℕ × ℕ)) (r : Recorded A) (all : ℕ) (list : List (ℕ × ℕ × ℕ))
+      (begun bytes : List ℕ) (e : DumpError) → IsAtMoves h loads sizes r all list begun
       → judge (moves h.count 0 all) (moves_text list ++ bytes) ≡ Broken e → IsBroken (front_text (Some h) loads sizes (Made r all) list ++ bytes) e
   moves_break h loads sizes r all list begun bytes e at broken =
       let none : IsAtMoves h loads sizes r all [] [] = record {
@@ -125,7 +147,8 @@ module _ (A : Type 0) where
         no_bytes = λ whole. refl;
       } in
       subst (λ t. IsBroken t e) (moves_come (Some h) loads sizes (Made r all) list [] (moves_text list ++ bytes) bytes refl)
-      (left_breaks (Some h) loads sizes (Made r all) [] [] (moves_text list ++ bytes) e none (ap (λ n. judge (moves h.count 0 n) (moves_text list ++ bytes)) (omega arith) ∙ broken))
+      (left_breaks (Some h) loads sizes (Made r all) [] [] (moves_text list ++ bytes) e none
+      (ap (λ n. judge (moves h.count 0 n) (moves_text list ++ bytes)) (omega arith) ∙ broken))
 
 -- two lists, taken from the start of what begins with them
 pub take_two : (n : ℕ) (first second rest : List ℕ) → n ≡ length first + length second → take n (first ++ (second ++ rest)) ≡ first ++ second
@@ -138,7 +161,8 @@ unfolding front_text
 none_held A = (refl, record { no_loads = refl; no_sizes = refl; no_moves = refl; short = omega arith; unfinished = field_short w8 _ _ [] (omega arith) })
 
 -- nothing may follow a text that is whole
-field_trails : (w : Width) (fault : ℕ → Option DumpError) (next : ℕ → Layout) (text more : List ℕ) → ((n : ℕ) (rest : List ℕ) → judge (next n) rest ≡ Whole → judge (next n) (rest ++ more) ≡ Broken Trailing)
+field_trails : (w : Width) (fault : ℕ → Option DumpError) (next : ℕ → Layout) (text more : List ℕ)
+    → ((n : ℕ) (rest : List ℕ) → judge (next n) rest ≡ Whole → judge (next n) (rest ++ more) ≡ Broken Trailing)
     → judge (Field w fault next) text ≡ Whole → judge (Field w fault next) (text ++ more) ≡ Broken Trailing
 field_trails w fault next text more trails whole =
     elim (cases_lt (length text) (byte_len w)) [

@@ -33,7 +33,8 @@ snapshot_kept h loads sizes some =
 
 module _ {A : Type 0} where
   -- a decision with its moves may be recorded beside its snapshot
-  pub moves_recorded : (h : Head) (loads : List ℕ) (sizes : List (ℕ × ℕ)) (r : Recorded A) (all : ℕ) (list : List (ℕ × ℕ × ℕ)) (begun : List ℕ) → IsAtMoves h loads sizes r all list begun
+  pub moves_recorded : (h : Head) (loads : List ℕ) (sizes : List (ℕ × ℕ)) (r : Recorded A) (all : ℕ) (list : List (ℕ × ℕ × ℕ))
+      (begun : List ℕ) → IsAtMoves h loads sizes r all list begun
       → IsRecorded (length loads) (with_moves r list)
   moves_recorded h loads sizes r all list begun at =
       record {
@@ -64,12 +65,14 @@ module _ {A : Type 0} where
       }
 
 -- the head of a text whose elements are all whole
-head_spelled : (h : Head) (loads : List ℕ) (sizes : List (ℕ × ℕ)) (rest : List ℕ) → length loads ≡ h.count → head_text h ++ rest ≡ magic_of h.format ++ (snapshot_head (taken_of h loads sizes) ++ rest)
+head_spelled : (h : Head) (loads : List ℕ) (sizes : List (ℕ × ℕ)) (rest : List ℕ) → length loads ≡ h.count → head_text h
+    ++ rest ≡ magic_of h.format ++ (snapshot_head (taken_of h loads sizes) ++ rest)
 head_spelled h loads sizes rest all =
     ap (λ n. (magic_of h.format ++ (word h.step ++ (word h.procs ++ word n))) ++ rest) (sym all) ∙ append_assoc (magic_of h.format) (snapshot_head (taken_of h loads sizes)) rest
 
 -- a text of LBD1
-pub narrow_text : (A : Type 0) (h : Head) (loads : List ℕ) (sizes : List (ℕ × ℕ)) (list : List (ℕ × ℕ × ℕ)) (begun : List ℕ) → IsAtElements h loads sizes list begun → length loads ≡ h.count → h.format ≡ Lbd1
+pub narrow_text : (A : Type 0) (h : Head) (loads : List ℕ) (sizes : List (ℕ × ℕ)) (list : List (ℕ × ℕ × ℕ)) (begun : List ℕ)
+    → IsAtElements h loads sizes list begun → length loads ≡ h.count → h.format ≡ Lbd1
     → IsLbd1 (taken_of h loads sizes) (front_text {A = A} (Some h) loads sizes Begun list ++ begun)
 narrow_text A h loads sizes list begun at all narrow =
     record {
@@ -108,7 +111,8 @@ module _ {A : Type 0} where
   plan_spelled r all list whole = ap (λ n. plan_bytes r n) (sym whole)
 
   -- a text of LBD2 with a decision
-  pub decided_text : (h : Head) (loads : List ℕ) (sizes : List (ℕ × ℕ)) (r : Recorded A) (all : ℕ) (list : List (ℕ × ℕ × ℕ)) (begun : List ℕ) → IsAtMoves h loads sizes r all list begun → length list ≡ all
+  pub decided_text : (h : Head) (loads : List ℕ) (sizes : List (ℕ × ℕ)) (r : Recorded A) (all : ℕ) (list : List (ℕ × ℕ × ℕ))
+      (begun : List ℕ) → IsAtMoves h loads sizes r all list begun → length list ≡ all
       → IsLbd2 (record { snapshot = taken_of h loads sizes; recorded = Some (with_moves r list) }) (front_text (Some h) loads sizes (Made r all) list ++ begun)
   unfolding front_text
   decided_text h loads sizes r all list begun at whole =
@@ -121,12 +125,15 @@ module _ {A : Type 0} where
         };
         spelled =
             rw (at.no_bytes whole, append-nil (front_text (Some h) loads sizes (Made r all) list))
-            (ap (λ (t : List ℕ). head_text h ++ (elements_of h loads sizes ++ t)) (append_assoc (word 1) (plan_bytes r all) (moves_text list) ∙ ap (λ (t : List ℕ). word 1 ++ (t ++ moves_text list)) (plan_spelled r all list whole))
+            (ap (λ (t : List ℕ). head_text h ++ (elements_of h loads sizes ++ t))
+            (append_assoc (word 1) (plan_bytes r all) (moves_text list)
+            ∙ ap (λ (t : List ℕ). word 1 ++ (t ++ moves_text list)) (plan_spelled r all list whole))
             ∙ wide_front h loads sizes (word 1 ++ (plan_text (with_moves r list) ++ moves_text list)) at.all at.wide);
       }
 
   -- a text that is whole has all its elements and all its moves
-  all_elements : (h : Head) (loads : List ℕ) (sizes : List (ℕ × ℕ)) (plan : Plan A) (list : List (ℕ × ℕ × ℕ)) (begun : List ℕ) → IsAt (Some h) loads sizes plan list begun → length loads ≤ h.count
+  all_elements : (h : Head) (loads : List ℕ) (sizes : List (ℕ × ℕ)) (plan : Plan A) (list : List (ℕ × ℕ × ℕ)) (begun : List ℕ)
+      → IsAt (Some h) loads sizes plan list begun → length loads ≤ h.count
       → IsWhole (front_text (Some h) loads sizes plan list ++ begun) → length loads ≡ h.count
   all_elements h loads sizes plan list begun at few whole =
       elim (cases_lt (length loads) h.count) [

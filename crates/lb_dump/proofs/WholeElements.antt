@@ -29,17 +29,20 @@ narrow_read Lbd1 bytes load size place is whole fits first second third =
 narrow_read Lbd2 bytes load size place is whole fits first second third = cc
 
 pub wide_read : (format : Format) (bytes : List ℕ) (load size place : ℕ) → format ≡ Lbd2 → length bytes ≡ element_len format → load < 2 ^ 64 → load ≡ from_be_bytes w64 bytes
-    → size ≡ from_be_bytes w32 (take (length bytes - 8) (drop 8 bytes)) → place ≡ from_be_bytes w32 (take (length bytes - 12) (drop 12 bytes)) → AreRead format bytes load size place
+    → size ≡ from_be_bytes w32 (take (length bytes - 8) (drop 8 bytes))
+    → place ≡ from_be_bytes w32 (take (length bytes - 12) (drop 12 bytes)) → AreRead format bytes load size place
 wide_read Lbd1 bytes load size place is whole fits first second third = cc
 wide_read Lbd2 bytes load size place is whole fits first second third =
     record { whole = whole; fits = fits; load_is = first; size_is = number_from bytes 8 8 size second refl; place_is = number_from bytes 12 12 place third refl }
 
-respelled : (format : Format) (bytes : List ℕ) (load size place : ℕ) → AreBytes bytes → AreRead format bytes load size place → bytes ≡ element_text (load_width format) load (size, place)
+respelled : (format : Format) (bytes : List ℕ) (load size place : ℕ) → AreBytes bytes → AreRead format bytes load size place
+    → bytes ≡ element_text (load_width format) load (size, place)
 respelled Lbd1 bytes load size place are read = three_words bytes load size place read.whole are read.load_is read.size_is read.place_is
 respelled Lbd2 bytes load size place are read = long_and_words bytes load size place read.whole are read.load_is read.size_is read.place_is
 
 -- the first fault of these numbers is that of the element
-first_breaks : (format : Format) (procs i : ℕ) (bytes : List ℕ) (load size place : ℕ) (e : DumpError) → AreRead format bytes load size place → IsFirst procs i load size place e → BreaksElement format procs i bytes e
+first_breaks : (format : Format) (procs i : ℕ) (bytes : List ℕ) (load size place : ℕ) (e : DumpError) → AreRead format bytes load size place
+    → IsFirst procs i load size place e → BreaksElement format procs i bytes e
 first_breaks format procs i bytes load size place e read first =
     let all : byte_len (load_width format) + 8 ≤ length bytes = omega (arith, len_of format, read.whole) in
     let load_fits : load ≤ LOAD → from_be_bytes (load_width format) bytes ≤ LOAD = subst (λ n. n ≤ LOAD) read.load_is in
@@ -54,18 +57,21 @@ first_breaks format procs i bytes load size place e read first =
     ]
 
 -- what is judged are the numbers of the element
-pub text_judged : (format : Format) (bytes : List ℕ) (load size place : ℕ) (r : Result (ℕ × ℕ × ℕ) DumpError) → AreBytes bytes → AreRead format bytes load size place → IfOk r (λ numbers. numbers ≡ (load, size, place))
+pub text_judged : (format : Format) (bytes : List ℕ) (load size place : ℕ) (r : Result (ℕ × ℕ × ℕ) DumpError) → AreBytes bytes
+    → AreRead format bytes load size place → IfOk r (λ numbers. numbers ≡ (load, size, place))
     → IfOk r (λ numbers. bytes ≡ element_text (load_width format) numbers.0 (numbers.1, numbers.2))
 text_judged format bytes load size place (Ok numbers) are read is =
     respelled format bytes load size place are read ∙ ap (λ (n : ℕ × ℕ × ℕ). element_text (load_width format) n.0 (n.1, n.2)) (sym is)
 text_judged format bytes load size place (Err e) are read is = tt
 
-pub width_judged : (format : Format) (bytes : List ℕ) (load size place : ℕ) (r : Result (ℕ × ℕ × ℕ) DumpError) → AreRead format bytes load size place → IfOk r (λ numbers. numbers ≡ (load, size, place))
+pub width_judged : (format : Format) (bytes : List ℕ) (load size place : ℕ) (r : Result (ℕ × ℕ × ℕ) DumpError)
+    → AreRead format bytes load size place → IfOk r (λ numbers. numbers ≡ (load, size, place))
     → IfOk r (λ numbers. numbers.0 < 2 ^ bits (load_width format))
 width_judged format bytes load size place (Ok numbers) read is = subst (λ (n : ℕ × ℕ × ℕ). n.0 < 2 ^ bits (load_width format)) (sym is) read.fits
 width_judged format bytes load size place (Err e) read is = tt
 
-pub fault_judged : (format : Format) (procs i : ℕ) (bytes : List ℕ) (load size place : ℕ) (r : Result (ℕ × ℕ × ℕ) DumpError) → AreRead format bytes load size place → IfErr r (λ e. IsFirst procs i load size place e)
+pub fault_judged : (format : Format) (procs i : ℕ) (bytes : List ℕ) (load size place : ℕ) (r : Result (ℕ × ℕ × ℕ) DumpError)
+    → AreRead format bytes load size place → IfErr r (λ e. IsFirst procs i load size place e)
     → IfErr r (λ e. BreaksElement format procs i bytes e)
 fault_judged format procs i bytes load size place (Ok numbers) read fault = tt
 fault_judged format procs i bytes load size place (Err e) read fault = first_breaks format procs i bytes load size place e read fault

@@ -75,7 +75,8 @@ one_more_written n blocks cuts names places filled b division inside counted is_
           get_or-append_right (take first places) (filled ++ behind) first k 0 front later
           ∙ get_or_append_left filled behind 0 (k - first) (omega (arith, below, later, long))
           ∙ ap (λ (xs : List ℕ). slice_index xs (k - first)) is_filled
-          ∙ get_or-replicate block (k - first) (slice_index names b) 0 (omega (arith, below, later, length-between places first (slice_index cuts (b + 1)) (omega (arith, stays n blocks cuts b division inside, counted))))
+          ∙ get_or-replicate block (k - first) (slice_index names b) 0
+          (omega (arith, below, later, length-between places first (slice_index cuts (b + 1)) (omega (arith, stays n blocks cuts b division inside, counted))))
           ∙ sym (planned_in n blocks cuts names b k division inside later below)
     ]
 
@@ -89,9 +90,19 @@ one_more_right n blocks cuts names places b division inside counted all before k
     elim (cases_lt k first) [
       | inl earlier ↦ before k earlier
       | inr later ↦
-          let there : k - first < length (between first (slice_index cuts (b + 1)) places) = omega (arith, length-between places first (slice_index cuts (b + 1)) (omega (arith, stays n blocks cuts b division inside, counted)), stays n blocks cuts b division inside, counted, below, later) in
-          let shifted : slice_index (between first (slice_index cuts (b + 1)) places) (k - first) ≡ slice_index places k = get_or-between places first (slice_index cuts (b + 1)) (k - first) 0 (omega (arith, below, later)) ∙ ap (slice_index places) (omega (arith, later)) in
-          sym shifted ∙ All-get_or (λ place. place ≡ slice_index names b) (between first (slice_index cuts (b + 1)) places) (k - first) 0 there all ∙ sym (planned_in n blocks cuts names b k division inside later below)
+          let there : k - first < length (between first (slice_index cuts (b + 1)) places) = omega (
+            arith,
+            length-between places first (slice_index cuts (b + 1))
+                (omega (arith, stays n blocks cuts b division inside, counted)),
+            stays n blocks cuts b division inside,
+            counted,
+            below,
+            later,
+          ) in
+          let shifted : slice_index (between first (slice_index cuts (b + 1)) places) (k - first) ≡ slice_index places k = get_or-between
+          places first (slice_index cuts (b + 1)) (k - first) 0 (omega (arith, below, later)) ∙ ap (slice_index places) (omega (arith, later)) in
+          sym shifted ∙ All-get_or (λ place. place ≡ slice_index names b) (between first (slice_index cuts (b + 1)) places) (k - first) 0
+          there all ∙ sym (planned_in n blocks cuts names b k division inside later below)
     ]
 
 -- where all places are right, those of a block are all its name
@@ -102,7 +113,14 @@ all_of_block n blocks cuts names places b division inside counted placed =
     let first : ℕ = slice_index cuts b in
     let end : ℕ = slice_index cuts (b + 1) in
     All-from_get_or (λ place. place ≡ slice_index names b) (between first end places) 0 (λ i there.
-    let below : first + i < end = omega (arith, there, length-between places first end (omega (arith, stays n blocks cuts b division inside, counted)), stays n blocks cuts b division inside, rises n blocks cuts b division inside, counted) in
+    let below : first + i < end = omega (
+      arith,
+      there,
+      length-between places first end (omega (arith, stays n blocks cuts b division inside, counted)),
+      stays n blocks cuts b division inside,
+      rises n blocks cuts b division inside,
+      counted,
+    ) in
     get_or-between places first end i 0 (omega (arith, below))
     ∙ placed (first + i) (omega (arith, below, stays n blocks cuts b division inside))
     ∙ planned_in n blocks cuts names b (first + i) division inside (omega arith) below)

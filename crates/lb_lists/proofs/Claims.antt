@@ -53,7 +53,8 @@ best_from_right run pes claim right =
     let counted : blocks_between claim.cuts ≡ pes = omega (arith, right.division.divides.counted) in
     record {
       least = least_from_certified run.loads pes (claimed_division claim) right.division;
-      cheapest = subst (λ n. IsCheapest (sizes_of run) claim.cuts n claim.names) counted (cheapest_from_named (sizes_of run) claim.cuts claim.names claim.block_prices claim.pe_prices right.named);
+      cheapest = subst (λ n. IsCheapest (sizes_of run) claim.cuts n claim.names) counted
+          (cheapest_from_named (sizes_of run) claim.cuts claim.names claim.block_prices claim.pe_prices right.named);
       moved = right.moved;
       placed = right.placed;
     }

@@ -42,7 +42,9 @@ zipped_division bytes places cuts blocks =
 moved_by_matrix : (sizes : List (ℕ × ℕ)) (cuts names : List ℕ) (t : Table) → IsDivision 0 (length sizes) (blocks_between cuts) cuts
     → IsTableOf sizes cuts t → IsNaming t.blocks names → naming_cost t.blocks (cost_at t) names ≡ bytes_moved sizes cuts names
 moved_by_matrix sizes cuts names t division matrix naming =
-    let by_block : naming_cost t.blocks (cost_at t) names ≡ naming_cost t.blocks (block_cost sizes cuts) names = total_same t.blocks (λ b. cost_at t b (slice_index names b)) (λ b. block_cost sizes cuts b (slice_index names b)) (λ b inside. matrix.exact b (slice_index names b) inside (naming.below b inside)) in
+    let by_block : naming_cost t.blocks (cost_at t) names ≡ naming_cost t.blocks (block_cost sizes cuts) names = total_same t.blocks
+    (λ b. cost_at t b (slice_index names b)) (λ b. block_cost sizes cuts b (slice_index names b))
+    (λ b inside. matrix.exact b (slice_index names b) inside (naming.below b inside)) in
     by_block ∙ ap (λ n. naming_cost n (block_cost sizes cuts) names) matrix.counted ∙ sym (moved_is_cost sizes cuts names (blocks_between cuts) division)
 
 pub bytes_by_cost : (sizes : List (ℕ × ℕ)) (cuts names : List ℕ) (moved : ℕ) (t : Table) → IsDivision 0 (length sizes) (blocks_between cuts) cuts
@@ -55,7 +57,8 @@ pub least_by_matrix : (sizes : List (ℕ × ℕ)) (cuts names : List ℕ) (t : T
     → IsTableOf sizes cuts t → IsFirstCheapest t.blocks (naming_cost t.blocks (cost_at t)) names
     → IsLeastNaming sizes cuts (blocks_between cuts) names
 least_by_matrix sizes cuts names t division matrix least =
-    let there : IsFirstCheapest t.blocks (bytes_moved sizes cuts) names = least_by t.blocks (bytes_moved sizes cuts) (naming_cost t.blocks (cost_at t)) names (λ others naming. moved_by_matrix sizes cuts others t division matrix naming) least in
+    let there : IsFirstCheapest t.blocks (bytes_moved sizes cuts) names = least_by t.blocks (bytes_moved sizes cuts)
+    (naming_cost t.blocks (cost_at t)) names (λ others naming. moved_by_matrix sizes cuts others t division matrix naming) least in
     subst (λ n. IsFirstCheapest n (bytes_moved sizes cuts) names) matrix.counted there
 
 -- prices that prove a naming by the matrix prove what it moves
@@ -67,7 +70,9 @@ proved_by_matrix sizes cuts names u v t division matrix naming proved =
     record {
       block_prices = proved.block_prices ∙ counted;
       pe_prices = proved.pe_prices ∙ counted;
-      low = λ b p block pe. subst (λ cost. (price_at u b +ℤ price_at v p) ≤ℤ pos cost) (matrix.exact b p (omega (arith, block, counted)) (omega (arith, pe, counted))) (proved.low b p (omega (arith, block, counted)) (omega (arith, pe, counted)));
+      low = λ b p block pe. subst (λ cost. (price_at u b +ℤ price_at v p) ≤ℤ pos cost)
+          (matrix.exact b p (omega (arith, block, counted)) (omega (arith, pe, counted)))
+          (proved.low b p (omega (arith, block, counted)) (omega (arith, pe, counted)));
       adds_up = proved.adds_up ∙ ap pos (moved_by_matrix sizes cuts names t division matrix naming);
     }
 

@@ -62,11 +62,16 @@ first_in_run most sizes cuts names u v flaw few wider first =
 pub in_division : {A : Type 0} (run : Listed) (pes : ℕ) (claim : Claimed) (loads : List ℕ) (sizes : List (ℕ × ℕ)) (d : Division A) (names : List ℕ) (u v : List ℤ) (flaw : Flaw)
     → ArePartsOf run claim loads sizes d names u v → IsFirst (HasFlaw loads pes d) flaw → IsFirstFlaw run pes claim flaw
 in_division {A = A} run pes claim loads sizes d names u v flaw parts first =
-    inl (first_claimed A run.loads pes claim.bottleneck claim.cuts claim.stops flaw (of_division run claim loads sizes d names u v (λ l e. IsFirst (HasFlaw l pes e) flaw) parts first))
+    inl (first_claimed A run.loads pes claim.bottleneck claim.cuts claim.stops flaw
+    (of_division run claim loads sizes d names u v (λ l e. IsFirst (HasFlaw l pes e) flaw) parts first))
 
-pub in_naming : {A : Type 0} (run : Listed) (pes : ℕ) (claim : Claimed) (loads : List ℕ) (sizes : List (ℕ × ℕ)) (d : Division A) (names : List ℕ) (u v : List ℤ) (most : ℕ) (flaw : Flaw)
+pub in_naming : {A : Type 0} (run : Listed) (pes : ℕ) (claim : Claimed) (loads : List ℕ) (sizes : List (ℕ × ℕ)) (d : Division A)
+    (names : List ℕ) (u v : List ℤ) (most : ℕ) (flaw : Flaw)
     → ArePartsOf run claim loads sizes d names u v → IsCertified loads pes d → pes ≤ most → most ≤ PES
     → IsFirst (HasNamingFlawWithin most sizes d.cuts names u v) flaw → IsFirstFlaw run pes claim flaw
 in_naming run pes claim loads sizes d names u v most flaw parts holds few wider first =
     let in_run = first_in_run most sizes d.cuts names u v flaw (omega (arith, holds.divides.counted, few)) wider first in
-    inr (inl (certified run pes claim loads sizes d names u v parts holds, of_naming run claim loads sizes d names u v (λ s c n x y. IsFirst (HasNamingFlawWithin PES s c n x y) flaw) parts in_run))
+    inr (inl (
+      certified run pes claim loads sizes d names u v parts holds,
+      of_naming run claim loads sizes d names u v (λ s c n x y. IsFirst (HasNamingFlawWithin PES s c n x y) flaw) parts in_run,
+    ))

@@ -13,7 +13,8 @@ first_steps-more : (at : ℕ) (rows : List (List (ℕ × ℕ))) (steps : List (�
     → first_steps at (rows ++ steps ∷ []) ≡ first_steps at rows ++ (at + length (all_steps rows ++ steps)) ∷ []
 first_steps-more at [] steps = refl
 first_steps-more at (row ∷ rows) steps =
-    let same : at + length row + length (all_steps rows ++ steps) ≡ at + length (row ++ all_steps rows ++ steps) = omega (arith, length-append (row ++ all_steps rows) steps, length-append row (all_steps rows), length-append (all_steps rows) steps) in
+    let same : at + length row + length (all_steps rows ++ steps) ≡ at + length (row ++ all_steps rows ++ steps) = omega
+    (arith, length-append (row ++ all_steps rows) steps, length-append row (all_steps rows), length-append (all_steps rows) steps) in
     ap (λ more. at ∷ more) (first_steps-more (at + length row) rows steps ∙ ap (λ n. first_steps (at + length row) rows ++ n ∷ []) same)
 
 -- a first step for each block, and one number more

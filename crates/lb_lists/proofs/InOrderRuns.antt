@@ -38,8 +38,14 @@ told_in_order {A} run pes tolerance kept k priced is =
     let counted : length kept.refinement.order ≡ pes = is.order.naming.counted in
     let order_is : k.refinement.order ≡ kept.refinement.order = ap (λ (x : Refinement A). x.order) priced.refinement in
     let cuts_are : k.refinement.cuts ≡ kept.refinement.cuts = ap (λ (x : Refinement A). x.cuts) priced.refinement in
-    let proved : AreProved run.loads (sizes_of run) kept.refinement.order (limit_of kept.refinement.least.bottleneck tolerance) kept.refinement.cuts kept.refinement.heights = subst (λ t. AreProved run.loads (sizes_of run) kept.refinement.order (limit_of kept.refinement.least.bottleneck t) kept.refinement.cuts kept.refinement.heights) is.tolerance_is is.right.proved in
-    let nearest : AreNearest run.loads (sizes_of run) kept.refinement.order kept.refinement.present (limit_of kept.refinement.least.bottleneck tolerance) kept.refinement.cuts = subst (λ t. AreNearest run.loads (sizes_of run) kept.refinement.order kept.refinement.present (limit_of kept.refinement.least.bottleneck t) kept.refinement.cuts) is.tolerance_is is.nearest in
+    let proved : AreProved run.loads (sizes_of run) kept.refinement.order (limit_of kept.refinement.least.bottleneck tolerance)
+    kept.refinement.cuts kept.refinement.heights = subst
+    (λ t. AreProved run.loads (sizes_of run) kept.refinement.order (limit_of kept.refinement.least.bottleneck t) kept.refinement.cuts
+    kept.refinement.heights) is.tolerance_is is.right.proved in
+    let nearest : AreNearest run.loads (sizes_of run) kept.refinement.order kept.refinement.present
+    (limit_of kept.refinement.least.bottleneck tolerance) kept.refinement.cuts = subst
+    (λ t. AreNearest run.loads (sizes_of run) kept.refinement.order kept.refinement.present
+    (limit_of kept.refinement.least.bottleneck t) kept.refinement.cuts) is.tolerance_is is.nearest in
     record {
       certified = certified_by_stops run.loads pes k.refinement.least (subst (λ (x : Refinement A). IsCertified run.loads pes x.least) r is.right.least);
       chosen = chosen_by_stops run.loads pes k.refinement.least (subst (λ (x : Refinement A). IsChosen run.loads pes x.least) r is.chosen);
@@ -47,7 +53,8 @@ told_in_order {A} run pes tolerance kept k priced is =
       proved = subst (λ (x : Refinement A). AreProved run.loads (sizes_of run) x.order (limit_of x.least.bottleneck tolerance) x.cuts x.heights) r proved;
       nearest = subst (λ (x : Refinement A). AreNearest run.loads (sizes_of run) x.order x.present (limit_of x.least.bottleneck tolerance) x.cuts) r nearest;
       names_are = priced.naming ∙ sym order_is;
-      moved = priced.moved ∙ is.moved_is ∙ ap (λ c. bytes_moved (sizes_of run) c kept.refinement.order) (sym cuts_are) ∙ ap (bytes_moved (sizes_of run) k.refinement.cuts) (sym priced.naming);
+      moved = priced.moved ∙ is.moved_is ∙ ap (λ c. bytes_moved (sizes_of run) c kept.refinement.order) (sym cuts_are)
+          ∙ ap (bytes_moved (sizes_of run) k.refinement.cuts) (sym priced.naming);
       no_block_prices = priced.block_prices ∙ ap (λ n. replicate n (pos 0)) counted;
       no_pe_prices = priced.pe_prices ∙ ap (λ n. replicate n (pos 0)) counted;
     }

@@ -65,5 +65,6 @@ light bits power loads few fits small =
     let together : 63 - bits + bits ≡ 63 = omega (arith, few) in
     let whole : 2 ^ (63 - bits) * 2 ^ bits ≡ 2 ^ 63 = sym (pow-add 2 (63 - bits) bits) ∙ ap (λ k. 2 ^ k) together in
     let next : 2 ^ bits ≡ 2 ^ bits - 1 + 1 = omega (arith, pow_pos bits) in
-    let split : 2 ^ (63 - bits) * 2 ^ bits ≡ 2 ^ (63 - bits) * (2 ^ bits - 1) + 2 ^ (63 - bits) * 1 = ap (λ m. 2 ^ (63 - bits) * m) next ∙ mul-add (2 ^ (63 - bits)) (2 ^ bits - 1) 1 in
+    let split : 2 ^ (63 - bits) * 2 ^ bits ≡ 2 ^ (63 - bits) * (2 ^ bits - 1) + 2 ^ (63 - bits) * 1 = ap (λ m. 2 ^ (63 - bits) * m) next
+    ∙ mul-add (2 ^ (63 - bits)) (2 ^ bits - 1) 1 in
     omega (arith, counts_add_up (2 ^ bits - 1) power loads small, most, whole, split, pow_pos (63 - bits))

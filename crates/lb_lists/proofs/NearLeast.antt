@@ -65,7 +65,8 @@ peak_high : (u : ℕ) (xs cuts : List ℕ) → 0 < u → peak xs cuts ≤ u * pe
 peak_high u xs [] some = omega arith
 peak_high u xs (a ∷ []) some = omega arith
 peak_high u xs (a ∷ b ∷ cuts) some =
-    max_high u (load (in_units u xs) a b) (peak (in_units u xs) (b ∷ cuts)) (load xs a b) (peak xs (b ∷ cuts)) (length xs * u) (load_high u xs a b some) (peak_high u xs (b ∷ cuts) some)
+    max_high u (load (in_units u xs) a b) (peak (in_units u xs) (b ∷ cuts)) (load xs a b) (peak xs (b ∷ cuts)) (length xs * u)
+    (load_high u xs a b some) (peak_high u xs (b ∷ cuts) some)
 
 -- counts of loads are their ticks in whole units
 counts_in_units : (power : ℕ) (loads : List Float) → counts power loads ≡ in_units (2 ^ power) (in_ticks loads)

@@ -54,7 +54,8 @@ same_from run one other least cuts names this that =
 -- decisions with the same cuts, whose names are the least ones
 same_named : (run : Listed) (pes : ℕ) (one other : Told) → one.cuts ≡ other.cuts → IsToldRight run pes one → IsToldRight run pes other → AreToldSame one other
 same_named run pes one other cuts this that =
-    let names : one.names ≡ other.names = one_least pes (bytes_moved (sizes_of run) one.cuts) one.names other.names this.least_naming (subst (λ c. IsLeastNaming (sizes_of run) c pes other.names) (sym cuts) that.least_naming) in
+    let names : one.names ≡ other.names = one_least pes (bytes_moved (sizes_of run) one.cuts) one.names other.names this.least_naming
+    (subst (λ c. IsLeastNaming (sizes_of run) c pes other.names) (sym cuts) that.least_naming) in
     same_from run one other (least_same run pes one other this.chosen that.chosen) cuts names this.moved that.moved
 
 same_plan : (run : Listed) (pes : ℕ) (one other : Told) → IsToldPlan run pes one → IsToldPlan run pes other → AreToldSame one other

@@ -79,7 +79,8 @@ pub right_written : {A : Type 0} (run : Listed) (pes : ℕ) (d : Division A) (na
     → claim.stops ≡ stops_in d.floor → claim.names ≡ names → claim.block_prices ≡ u → claim.pe_prices ≡ v → IsRightClaim run pes claim
 right_written run pes d names u v n claim certified named bottleneck moves counted placed cuts stops names_are u_are v_are =
     record {
-      division = subst (IsCertified run.loads pes) (sym (division_written d claim.bottleneck claim.cuts claim.stops bottleneck cuts stops)) (certified_by_stops run.loads pes d certified);
+      division = subst (IsCertified run.loads pes) (sym (division_written d claim.bottleneck claim.cuts claim.stops bottleneck cuts stops))
+          (certified_by_stops run.loads pes d certified);
       named = rw (cuts, names_are, u_are, v_are) named;
       moved = rw (cuts, names_are) moves;
       placed = rw (cuts, names_are, ← counted) placed;

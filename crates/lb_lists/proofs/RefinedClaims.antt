@@ -96,7 +96,8 @@ pub in_told : (run : Listed) (claim : Claimed) (sizes : List (ℕ × ℕ)) (cuts
 in_told run claim sizes cuts names u v moved count result parts right moves counted told =
     let named : IsNamedSmall run claim = of_names run claim sizes cuts names u v IsNamed parts right in
     let moved_is : moved ≡ right_moved run claim = of_names run claim sizes cuts names u v (λ s c n x y. moved ≡ bytes_moved s c n) parts moves in
-    told_by run claim result named (subst (λ m. MatchOption result (IsToldRight m (length run.loads) claim) (IsFlawTold m (length run.loads) claim)) moved_is (subst (λ n. MatchOption result (IsToldRight moved n claim) (IsFlawTold moved n claim)) counted told))
+    told_by run claim result named (subst (λ m. MatchOption result (IsToldRight m (length run.loads) claim)
+    (IsFlawTold m (length run.loads) claim)) moved_is (subst (λ n. MatchOption result (IsToldRight moved n claim) (IsFlawTold moved n claim)) counted told))
   where
     told_by : (run : Listed) (claim : Claimed) (result : Option Flaw) → IsNamedSmall run claim
         → MatchOption result (IsToldRight (right_moved run claim) (length run.loads) claim) (IsFlawTold (right_moved run claim) (length run.loads) claim)
@@ -151,13 +152,19 @@ flaw_of_names run pes thousandths keep claim flaw kept right flawed =
 -- what is told of names that are the order, on a run
 pub in_order_told : (run : Listed) (claim : RefinedClaimed) (loads : List ℕ) (sizes : List (ℕ × ℕ)) (found : Option Flaw) → loads ≡ run.loads
     → sizes ≡ sizes_of run → claim.decision.names ≡ claim.order
-    → MatchOption found (IsToldRight (bytes_moved sizes claim.decision.cuts claim.decision.names) (length loads) claim.decision) (IsFlawTold (bytes_moved sizes claim.decision.cuts claim.decision.names) (length loads) claim.decision)
+    → MatchOption found (IsToldRight (bytes_moved sizes claim.decision.cuts claim.decision.names) (length loads) claim.decision)
+    (IsFlawTold (bytes_moved sizes claim.decision.cuts claim.decision.names) (length loads) claim.decision)
     → MatchOption found (AreNamesRightBy true run claim) (IsNamesFlawBy true run claim)
 in_order_told run claim loads sizes found loads_are sizes_are called told =
-    told_by run claim found called (subst (λ s. MatchOption found (IsToldRight (bytes_moved s claim.decision.cuts claim.decision.names) (length run.loads) claim.decision) (IsFlawTold (bytes_moved s claim.decision.cuts claim.decision.names) (length run.loads) claim.decision)) sizes_are (subst (λ l. MatchOption found (IsToldRight (bytes_moved sizes claim.decision.cuts claim.decision.names) (length l) claim.decision) (IsFlawTold (bytes_moved sizes claim.decision.cuts claim.decision.names) (length l) claim.decision)) loads_are told))
+    told_by run claim found called (subst (λ s. MatchOption found
+    (IsToldRight (bytes_moved s claim.decision.cuts claim.decision.names) (length run.loads) claim.decision)
+    (IsFlawTold (bytes_moved s claim.decision.cuts claim.decision.names) (length run.loads) claim.decision)) sizes_are
+    (subst (λ l. MatchOption found (IsToldRight (bytes_moved sizes claim.decision.cuts claim.decision.names) (length l) claim.decision)
+    (IsFlawTold (bytes_moved sizes claim.decision.cuts claim.decision.names) (length l) claim.decision)) loads_are told))
   where
     told_by : (run : Listed) (claim : RefinedClaimed) (found : Option Flaw) → claim.decision.names ≡ claim.order
-        → MatchOption found (IsToldRight (right_moved run claim.decision) (length run.loads) claim.decision) (IsFlawTold (right_moved run claim.decision) (length run.loads) claim.decision)
+        → MatchOption found (IsToldRight (right_moved run claim.decision) (length run.loads) claim.decision)
+        (IsFlawTold (right_moved run claim.decision) (length run.loads) claim.decision)
         → MatchOption found (AreNamesRightBy true run claim) (IsNamesFlawBy true run claim)
     told_by run claim None called told = record { names = called; moved = told.0; placed = told.1 }
     told_by run claim (Some flaw) called told = (called, told)
@@ -166,7 +173,8 @@ in_order_told run claim loads sizes found loads_are sizes_are called told =
 best_by : (run : Listed) (pes : ℕ) (keep : Bool) (claim : RefinedClaimed) → blocks_between claim.decision.cuts ≡ pes → AreNamesRightBy keep run claim
     → AreNamesBestBy keep run pes claim
 best_by run pes false claim counted right =
-    subst (λ n. IsCheapest (sizes_of run) claim.decision.cuts n claim.decision.names) counted (cheapest_from_named (sizes_of run) claim.decision.cuts claim.decision.names claim.decision.block_prices claim.decision.pe_prices right.named)
+    subst (λ n. IsCheapest (sizes_of run) claim.decision.cuts n claim.decision.names) counted
+    (cheapest_from_named (sizes_of run) claim.decision.cuts claim.decision.names claim.decision.block_prices claim.decision.pe_prices right.named)
 best_by run pes true claim counted right = right.names
 
 moved_by : (run : Listed) (keep : Bool) (claim : RefinedClaimed) → AreNamesRightBy keep run claim → claim.decision.moved ≡ right_moved run claim.decision

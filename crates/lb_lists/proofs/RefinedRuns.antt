@@ -51,8 +51,10 @@ told_near run pes tolerance k kept =
         moved = kept.moved_is;
       };
       order = kept.order;
-      proved = subst (λ t. AreProved run.loads (sizes_of run) k.refinement.order (limit_of k.refinement.least.bottleneck t) k.refinement.cuts k.refinement.heights) kept.tolerance_is kept.right.proved;
-      nearest = subst (λ t. AreNearest run.loads (sizes_of run) k.refinement.order k.refinement.present (limit_of k.refinement.least.bottleneck t) k.refinement.cuts) kept.tolerance_is kept.nearest;
+      proved = subst (λ t. AreProved run.loads (sizes_of run) k.refinement.order (limit_of k.refinement.least.bottleneck t)
+          k.refinement.cuts k.refinement.heights) kept.tolerance_is kept.right.proved;
+      nearest = subst (λ t. AreNearest run.loads (sizes_of run) k.refinement.order k.refinement.present
+          (limit_of k.refinement.least.bottleneck t) k.refinement.cuts) kept.tolerance_is kept.nearest;
     }
 
 -- two plans of one run move the same number of bytes
@@ -141,7 +143,8 @@ pub kept_whole_told : {A : Type 0} (loads : List ℕ) (sizes : List (ℕ × ℕ)
     → ((names present : List ℕ) → IsPresentOrder sizes pes names present → AreWithin loads names (limit_of (least_load r) tolerance) present → refined_moved r ≡ 0)
     → (names present : List ℕ) → IsPresentOrder sizes pes names present → AreWithin loads names (limit_of least thousandths) present → moved ≡ 0
 kept_whole_told loads sizes pes tolerance thousandths r other least moved is same least_is moved_is whole names present order within =
-    let limit : limit_of least thousandths ≡ limit_of (least_load r) tolerance = ap (λ n. limit_of n thousandths) (least_is ∙ ap least_load (sym is)) ∙ ap (limit_of (least_load r)) (sym same) in
+    let limit : limit_of least thousandths ≡ limit_of (least_load r) tolerance = ap (λ n. limit_of n thousandths)
+    (least_is ∙ ap least_load (sym is)) ∙ ap (limit_of (least_load r)) (sym same) in
     moved_is ∙ ap refined_moved (sym is) ∙ whole names present order (subst (λ n. AreWithin loads names n present) limit within)
 
 -- what is decided where the PEs need not keep their order

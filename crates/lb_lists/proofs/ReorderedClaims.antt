@@ -49,7 +49,8 @@ first_reordered A loads sizes pes thousandths claim flaw first =
     }
 
 -- a reordered division of a snapshot, on a run
-on_run : {A : Type 0} (run : Listed) (pes thousandths : ℕ) (claim : ReorderedClaimed) (loads : List ℕ) (sizes : List (ℕ × ℕ)) (r : Reordered A) (P : List ℕ → List (ℕ × ℕ) → Reordered A → Type 0)
+on_run : {A : Type 0} (run : Listed) (pes thousandths : ℕ) (claim : ReorderedClaimed) (loads : List ℕ) (sizes : List (ℕ × ℕ))
+    (r : Reordered A) (P : List ℕ → List (ℕ × ℕ) → Reordered A → Type 0)
     → loads ≡ run.loads → sizes ≡ sizes_of run → r ≡ reordered_in pes thousandths claim → P loads sizes r
     → P run.loads (sizes_of run) (reordered_in pes thousandths claim)
 on_run run pes thousandths claim loads sizes r P loads_are sizes_are reordered_is holds =
@@ -58,11 +59,14 @@ on_run run pes thousandths claim loads sizes r P loads_are sizes_are reordered_i
     subst (P run.loads (sizes_of run)) reordered_is on_sizes
 
 -- the flaw that the checker of reordered divisions reports is the first of the claim
-pub flaw_of_reordered : (A : Type 0) (run : Listed) (pes thousandths : ℕ) (claim : ReorderedClaimed) (loads : List ℕ) (sizes : List (ℕ × ℕ)) (r : Reordered A) (flaw : ReorderedFlaw)
+pub flaw_of_reordered : (A : Type 0) (run : Listed) (pes thousandths : ℕ) (claim : ReorderedClaimed) (loads : List ℕ) (sizes : List (ℕ × ℕ))
+    (r : Reordered A) (flaw : ReorderedFlaw)
     → loads ≡ run.loads → sizes ≡ sizes_of run → r ≡ reordered_in pes thousandths claim
     → IsFirstReorderedFlaw (HasReorderedFlaw loads sizes pes r) flaw → IsFirstClaimFlaw run pes thousandths claim (OfReordered flaw)
 flaw_of_reordered A run pes thousandths claim loads sizes r flaw loads_are sizes_are reordered_is first =
-    first_reordered A run.loads (sizes_of run) pes thousandths claim flaw (on_run run pes thousandths claim loads sizes r (λ l s x. IsFirstReorderedFlaw (HasReorderedFlaw l s pes x) flaw) loads_are sizes_are reordered_is first)
+    first_reordered A run.loads (sizes_of run) pes thousandths claim flaw
+    (on_run run pes thousandths claim loads sizes r (λ l s x. IsFirstReorderedFlaw (HasReorderedFlaw l s pes x) flaw) loads_are
+    sizes_are reordered_is first)
 
 -- the reordered division of a claim is right where the checker accepts it
 pub right_of_reordered : (A : Type 0) (run : Listed) (pes thousandths : ℕ) (claim : ReorderedClaimed) (loads : List ℕ) (sizes : List (ℕ × ℕ)) (r : Reordered A)
@@ -90,11 +94,14 @@ told_of_reordered run pes thousandths claim loads sizes moved count found loads_
     let heavy_run : IsPeakRight run claim = subst (λ l. claim.decision.bottleneck ≡ peak l claim.decision.cuts) loads_are heavy in
     let moved_run : moved ≡ right_moved run claim.decision = subst (λ s. moved ≡ bytes_moved s claim.decision.cuts claim.decision.names) sizes_are moved_is in
     let counted_run : count ≡ length run.loads = subst (λ l. count ≡ length l) loads_are counted in
-    told_by run pes thousandths claim found right heavy_run (subst (λ m. MatchOption found (IsToldRight m (length run.loads) claim.decision) (IsFlawTold m (length run.loads) claim.decision)) moved_run (subst (λ n. MatchOption found (IsToldRight moved n claim.decision) (IsFlawTold moved n claim.decision)) counted_run told))
+    told_by run pes thousandths claim found right heavy_run
+    (subst (λ m. MatchOption found (IsToldRight m (length run.loads) claim.decision) (IsFlawTold m (length run.loads) claim.decision))
+    moved_run (subst (λ n. MatchOption found (IsToldRight moved n claim.decision) (IsFlawTold moved n claim.decision)) counted_run told))
   where
     told_by : (run : Listed) (pes thousandths : ℕ) (claim : ReorderedClaimed) (found : Option Flaw) → IsReorderedRight run pes thousandths claim
         → IsPeakRight run claim
-        → MatchOption found (IsToldRight (right_moved run claim.decision) (length run.loads) claim.decision) (IsFlawTold (right_moved run claim.decision) (length run.loads) claim.decision)
+        → MatchOption found (IsToldRight (right_moved run claim.decision) (length run.loads) claim.decision)
+        (IsFlawTold (right_moved run claim.decision) (length run.loads) claim.decision)
         → MatchOption found (IsRightReordered run pes thousandths claim) (λ flaw. IsFirstClaimFlaw run pes thousandths claim (OfDecision flaw))
     told_by run pes thousandths claim None right heavy told = record { reordered = right; bottleneck = heavy; moved = told.0; placed = told.1 }
     told_by run pes thousandths claim (Some flaw) right heavy told = (right, heavy, told)

@@ -40,7 +40,8 @@ told_fewest run pes tolerance f few =
         plan = subst (λ t. IsWithin run.loads pes (limit_of f.reordered.least.bottleneck t) f.reordered.cuts f.reordered.names) few.tolerance_is few.right.plan;
         any_counted = few.right.any_counted;
         free_counted = few.right.free_counted;
-        bounds = subst (λ t. AreBounds run.loads (sizes_of run) pes (limit_of f.reordered.least.bottleneck t) (bound_at f.reordered.any) (bound_at f.reordered.free) (bytes_moved (sizes_of run) f.reordered.cuts f.reordered.names)) few.tolerance_is few.right.bounds;
+        bounds = subst (λ t. AreBounds run.loads (sizes_of run) pes (limit_of f.reordered.least.bottleneck t) (bound_at f.reordered.any)
+            (bound_at f.reordered.free) (bytes_moved (sizes_of run) f.reordered.cuts f.reordered.names)) few.tolerance_is few.right.bounds;
       };
       fewest = subst (λ t. AreFewestOfAll run.loads (sizes_of run) pes (limit_of f.reordered.least.bottleneck t) f.reordered.cuts f.reordered.names) few.tolerance_is few.fewest;
       moved = few.moved_is;
@@ -97,7 +98,8 @@ within_limit loads pes limit bottleneck cuts names above least naming =
 fewest_below_plan : (run : Listed) (pes thousandths : ℕ) (told : Told) (rows : BoundRows) → IsToldReordered run pes thousandths told rows
     → (places : List ℕ) (bottleneck moved : ℕ) → IsPlan run pes places bottleneck moved → told.moved ≤ moved
 fewest_below_plan run pes thousandths told rows few places bottleneck moved plan =
-    let same : told.least ≡ bottleneck = one_least_load run.loads pes told.least bottleneck told.least_cuts plan.cuts (least_from_certified run.loads pes _ few.right.least) plan.least in
+    let same : told.least ≡ bottleneck = one_least_load run.loads pes told.least bottleneck told.least_cuts plan.cuts
+    (least_from_certified run.loads pes _ few.right.least) plan.least in
     let above : bottleneck ≤ limit_of told.least thousandths = omega (arith, same, above_least told.least thousandths) in
     let less = few.fewest.fewest plan.cuts plan.names (within_limit run.loads pes _ bottleneck plan.cuts plan.names above plan.least plan.naming.naming) in
     omega (arith, few.moved, less, plan.moves)
@@ -113,17 +115,27 @@ no_more_fewest run pes tolerance r f moved is moved_is decided places bottleneck
 fewest_below_refined : (run : Listed) (pes thousandths : ℕ) (told : Told) (rows : BoundRows) → IsToldReordered run pes thousandths told rows
     → (near : Bool) (other : Told) (stood : Standing) → IsRefinedRun run pes thousandths near other stood → told.moved ≤ other.moved
 fewest_below_refined run pes thousandths told rows few true other stood (near, less) =
-    let same : told.least ≡ other.least = one_least_load run.loads pes told.least other.least told.least_cuts other.least_cuts (least_from_certified run.loads pes _ few.right.least) (least_from_certified run.loads pes _ near.right.certified) in
+    let same : told.least ≡ other.least = one_least_load run.loads pes told.least other.least told.least_cuts other.least_cuts
+    (least_from_certified run.loads pes _ few.right.least) (least_from_certified run.loads pes _ near.right.certified) in
     let counted : length stood.order ≡ pes = near.order.naming.counted in
     let divides : IsDivision 0 (length run.loads) pes other.cuts = subst (λ n. IsDivision 0 (length run.loads) n other.cuts) counted near.proved.within.divides in
-    let within : NoneAbove run.loads pes (limit_of told.least thousandths) other.cuts = subst (λ l. NoneAbove run.loads pes (limit_of l thousandths) other.cuts) (sym same) (subst (λ n. NoneAbove run.loads n (limit_of other.least thousandths) other.cuts) counted near.proved.within.within) in
+    let within : NoneAbove run.loads pes (limit_of told.least thousandths) other.cuts = subst
+    (λ l. NoneAbove run.loads pes (limit_of l thousandths) other.cuts) (sym same)
+    (subst (λ n. NoneAbove run.loads n (limit_of other.least thousandths) other.cuts) counted near.proved.within.within) in
     omega (arith, few.moved, few.fewest.fewest other.cuts other.names (record { divides = divides; within = within; naming = near.right.least_naming.naming }), near.right.moved)
 fewest_below_refined run pes thousandths told rows few false other stood (plan, reason) =
     let least : IsLeastDivision run.loads pes other.least other.least_cuts = least_from_certified run.loads pes _ plan.right.certified in
-    let same : told.least ≡ other.least = one_least_load run.loads pes told.least other.least told.least_cuts other.least_cuts (least_from_certified run.loads pes _ few.right.least) least in
+    let same : told.least ≡ other.least = one_least_load run.loads pes told.least other.least told.least_cuts other.least_cuts
+    (least_from_certified run.loads pes _ few.right.least) least in
     let cuts : IsLeastDivision run.loads pes other.least other.cuts = subst (IsLeastDivision run.loads pes other.least) (sym plan.cuts_are) least in
     let above : other.least ≤ limit_of told.least thousandths = omega (arith, same, above_least told.least thousandths) in
-    omega (arith, few.moved, few.fewest.fewest other.cuts other.names (within_limit run.loads pes _ other.least other.cuts other.names above cuts plan.right.least_naming.naming), plan.right.moved)
+    omega (
+      arith,
+      few.moved,
+      few.fewest.fewest other.cuts other.names
+          (within_limit run.loads pes _ other.least other.cuts other.names above cuts plan.right.least_naming.naming),
+      plan.right.moved,
+    )
 
 pub no_more_refined : (run : Listed) (pes thousandths : ℕ) (reordered near : Bool) (told : Told) (standing : Standing) (rows : BoundRows)
     → IsReorderedRun run pes thousandths reordered near told standing rows → (beside : Bool) (other : Told) (stood : Standing)
@@ -140,7 +152,8 @@ pub nothing_told : {A : Type 0} (loads : List ℕ) (sizes : List (ℕ × ℕ)) (
     → ((names present : List ℕ) → IsPresentOrder sizes pes names present → AreWithin loads names (limit_of (reordering_least r) tolerance) present → reordering_moved r ≡ 0)
     → (names present : List ℕ) → IsPresentOrder sizes pes names present → AreWithin loads names (limit_of least thousandths) present → moved ≡ 0
 nothing_told loads sizes pes tolerance thousandths r other least moved is same least_is moved_is none names present order within =
-    let limit : limit_of least thousandths ≡ limit_of (reordering_least r) tolerance = ap (λ n. limit_of n thousandths) (least_is ∙ ap reordering_least (sym is)) ∙ ap (limit_of (reordering_least r)) (sym same) in
+    let limit : limit_of least thousandths ≡ limit_of (reordering_least r) tolerance = ap (λ n. limit_of n thousandths)
+    (least_is ∙ ap reordering_least (sym is)) ∙ ap (limit_of (reordering_least r)) (sym same) in
     moved_is ∙ ap reordering_moved (sym is) ∙ none names present order (subst (λ n. AreWithin loads names n present) limit within)
 
 -- one more row in plain lists

@@ -56,7 +56,8 @@ of_fields_is b = refl
 pub zero_bits : (x : Float) → T (fits binary64 x) → to_bits binary64 x % 9223372036854775808 / 4503599627370496 ≡ 0 → ticks x ≡ to_bits binary64 x % 4503599627370496
 zero_bits x held none =
     let b : ℕ = to_bits binary64 x in
-    let read : of_fields binary64 (leb (top binary64) b) 0 (b % hid binary64) ≡ x = ap (λ f. of_fields binary64 (leb (top binary64) b) f (b % hid binary64)) (sym none) ∙ sym (of_fields_is b) ∙ of_bits-to_bits binary64 x held in
+    let read : of_fields binary64 (leb (top binary64) b) 0 (b % hid binary64) ≡ x = ap
+    (λ f. of_fields binary64 (leb (top binary64) b) f (b % hid binary64)) (sym none) ∙ sym (of_fields_is b) ∙ of_bits-to_bits binary64 x held in
     ap ticks (sym read) ∙ zero_field (leb (top binary64) b) (b % hid binary64)
 
 pub some_bits : (x : Float) (f : ℕ) → T (fits binary64 x) → IsMeasured x → to_bits binary64 x % 9223372036854775808 / 4503599627370496 ≡ suc f
@@ -204,7 +205,8 @@ least_of_more limit loads i power needed greatest inside is least passes p less 
     rest : (k : ℕ) (d : Float) → k < length (take i loads) → ticks (slice_index_or (take i loads) k d) / 2 ^ p ≤ limit
     rest k d within =
         let below : k < i = omega (arith, within, length-take i loads) in
-        let same : slice_index_or (take (i + 1) loads) k d ≡ slice_index_or (take i loads) k d = get_or-take (i + 1) loads k d (omega (arith, below)) ∙ sym (get_or-take i loads k d below) in
+        let same : slice_index_or (take (i + 1) loads) k d ≡ slice_index_or (take i loads) k d = get_or-take (i + 1) loads k d
+        (omega (arith, below)) ∙ sym (get_or-take i loads k d below) in
         subst (λ x. ticks x / 2 ^ p ≤ limit) same (small k d (omega (arith, within, length-take (i + 1) loads, inside, below)))
 
 -- ---- a unit from its bits
@@ -232,7 +234,9 @@ measured_high : (f t : ℕ) → suc f < 2047 → IsMeasured (of_fields binary64 
 unfolding of_fields
 measured_high f t few =
     let number : eqb (suc f) 2047 ≡ false = ne_eqb (suc f) 2047 (λ same. absurd (omega (arith, few, same))) in
-    subst (λ b. IsMeasured (cond b (cond (eqb t 0) (inf false) nan) (odd 53 false (4503599627370496 + t) f 1074))) (sym number) (measured_of_value (odd 53 false (4503599627370496 + t) f 1074) ((4503599627370496 + t) * 2 ^ f) (2 ^ 1074) (odd_sign 53 false (4503599627370496 + t) f 1074))
+    subst (λ b. IsMeasured (cond b (cond (eqb t 0) (inf false) nan) (odd 53 false (4503599627370496 + t) f 1074))) (sym number)
+    (measured_of_value (odd 53 false (4503599627370496 + t) f 1074) ((4503599627370496 + t) * 2 ^ f) (2 ^ 1074)
+    (odd_sign 53 false (4503599627370496 + t) f 1074))
 
 -- a unit below the least normal number, and another
 pub low_unit : (b p : ℕ) → b ≡ 2 ^ p → p < 52 → IsMeasured (of_bits binary64 b) × (ticks (of_bits binary64 b) ≡ 2 ^ p)

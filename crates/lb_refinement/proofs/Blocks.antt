@@ -15,7 +15,8 @@ above cut i beyond =
     ]
 
 -- the first cut above i is where the cuts that are at most i end
-pub first_above : (cuts : List ℕ) (i k : ℕ) → k ≤ length cuts → IsPartitionPoint (λ cut. leb cut i ≡ true) (λ cut. leb cut i ≡ false) cuts k → position_or_len (λ cut. nat_lt i cut) cuts ≡ k
+pub first_above : (cuts : List ℕ) (i k : ℕ) → k ≤ length cuts → IsPartitionPoint (λ cut. leb cut i ≡ true) (λ cut. leb cut i ≡ false) cuts k
+    → position_or_len (λ cut. nat_lt i cut) cuts ≡ k
 first_above cuts i k inside point =
     position_or_len_is (λ cut. nat_lt i cut) cuts k 0 inside
     (λ j before. le-ltb i (slice_index cuts j) (leb-true (slice_index cuts j) i (point.0 j 0 (omega arith) before)))

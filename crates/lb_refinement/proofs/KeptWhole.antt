@@ -25,24 +25,32 @@ none_moves sizes names present order =
     total_same (length sizes) (λ i. moved_bytes (slice_index_or sizes i (0, 0)) (slice_index names (block_of present i))) (λ _. 0) (λ i inside.
     let around = block_around present (length names) i (omega (arith, order.divides.starts)) (omega (arith, order.divides.ends)) in
     let block : block_of present i ≡ around.0 = block_of_is (length sizes) (length names) present around.0 i order.divides around.1 around.2 around.3 in
-    stays (slice_index_or sizes i (0, 0)) (slice_index names (block_of present i)) (order.stands around.0 i around.1 around.2 around.3 ∙ ap (slice_index names) (sym block))) ∙ total_none (length sizes)
+    stays (slice_index_or sizes i (0, 0)) (slice_index names (block_of present i))
+    (order.stands around.0 i around.1 around.2 around.3 ∙ ap (slice_index names) (sym block))) ∙ total_none (length sizes)
 
-kept_moves_none : {A : Type 0} (loads : List ℕ) (sizes : List (ℕ × ℕ)) (pes tolerance : ℕ) (k : Kept A) (names present : List ℕ) → IsKept loads sizes pes tolerance k → IsPresentOrder sizes pes names present → AreWithin loads names (refined_limit k.refinement) present → k.moved ≡ 0
+kept_moves_none : {A : Type 0} (loads : List ℕ) (sizes : List (ℕ × ℕ)) (pes tolerance : ℕ) (k : Kept A) (names present : List ℕ)
+    → IsKept loads sizes pes tolerance k → IsPresentOrder sizes pes names present → AreWithin loads names (refined_limit k.refinement) present → k.moved ≡ 0
 kept_moves_none loads sizes pes tolerance k names present kept order within =
     let orders = one_order sizes pes k.refinement.order k.refinement.present names present kept.order order in
-    let also : AreWithin loads k.refinement.order (refined_limit k.refinement) present = subst (λ ns. AreWithin loads ns (refined_limit k.refinement) present) (sym orders.0) within in
+    let also : AreWithin loads k.refinement.order (refined_limit k.refinement) present = subst
+    (λ ns. AreWithin loads ns (refined_limit k.refinement) present) (sym orders.0) within in
     let few : bytes_moved sizes k.refinement.cuts k.refinement.order ≤ bytes_moved sizes present k.refinement.order = kept.nearest.fewest.fewest present also in
     let none : bytes_moved sizes present k.refinement.order ≡ 0 = subst (λ ns. bytes_moved sizes present ns ≡ 0) (sym orders.0) (none_moves sizes names present order.in_order) in
-    let cheapest : bytes_moved sizes k.refinement.cuts k.naming ≤ bytes_moved sizes k.refinement.cuts k.refinement.order = kept.least_naming.cheapest k.refinement.order kept.order.naming in
+    let cheapest : bytes_moved sizes k.refinement.cuts k.naming ≤ bytes_moved sizes k.refinement.cuts
+    k.refinement.order = kept.least_naming.cheapest k.refinement.order kept.order.naming in
     omega (arith, kept.moved_is, cheapest, few, none)
 
-pub whole : {A : Type 0} (loads : List ℕ) (sizes : List (ℕ × ℕ)) (pes tolerance : ℕ) (r : Refined A) (names present : List ℕ) → IsRefined loads sizes pes tolerance r → IsPresentOrder sizes pes names present → AreWithin loads names (limit_of (least_load r) tolerance) present → refined_moved r ≡ 0
+pub whole : {A : Type 0} (loads : List ℕ) (sizes : List (ℕ × ℕ)) (pes tolerance : ℕ) (r : Refined A) (names present : List ℕ)
+    → IsRefined loads sizes pes tolerance r → IsPresentOrder sizes pes names present
+    → AreWithin loads names (limit_of (least_load r) tolerance) present → refined_moved r ≡ 0
 whole loads sizes pes tolerance (Near k) names present refined order within =
-    kept_moves_none loads sizes pes tolerance k names present refined.0 order (subst (λ t. AreWithin loads names (limit_of k.refinement.least.bottleneck t) present) (sym refined.0.tolerance_is) within)
+    kept_moves_none loads sizes pes tolerance k names present refined.0 order
+    (subst (λ t. AreWithin loads names (limit_of k.refinement.least.bottleneck t) present) (sym refined.0.tolerance_is) within)
 whole loads sizes pes tolerance (Planned d) names present (planned, inl none) order within =
     absurd (none names present order.naming order.in_order)
 whole {A} loads sizes pes tolerance (Planned d) names present (planned, inr (k, kept, no_more)) order within =
     let division : d.division ≡ k.refinement.least = only_from_chosen loads pes k.refinement.least kept.chosen d.division planned.chosen in
-    let limit : limit_of d.division.bottleneck tolerance ≡ refined_limit k.refinement = ap (λ (v : Division A). limit_of v.bottleneck tolerance) division ∙ ap (limit_of k.refinement.least.bottleneck) (sym kept.tolerance_is) in
+    let limit : limit_of d.division.bottleneck tolerance ≡ refined_limit k.refinement = ap
+    (λ (v : Division A). limit_of v.bottleneck tolerance) division ∙ ap (limit_of k.refinement.least.bottleneck) (sym kept.tolerance_is) in
     let none : k.moved ≡ 0 = kept_moves_none loads sizes pes tolerance k names present kept order (subst (λ n. AreWithin loads names n present) limit within) in
     omega (arith, no_more, none)

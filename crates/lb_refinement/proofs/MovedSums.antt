@@ -9,7 +9,8 @@ abbrev pub moved_below : List (ℕ × ℕ) → List ℕ → List ℕ → ℕ →
 moved_below sizes cuts names n =
     total n (λ i. moved_bytes (slice_index_or sizes i (0, 0)) (slice_index names (block_of cuts i)))
 
-pub moved_more : (sizes : List (ℕ × ℕ)) (cuts names : List ℕ) (i : ℕ) → moved_below sizes cuts names (i + 1) ≡ moved_below sizes cuts names i + moved_bytes (slice_index_or sizes i (0, 0)) (slice_index names (block_of cuts i))
+pub moved_more : (sizes : List (ℕ × ℕ)) (cuts names : List ℕ) (i : ℕ)
+    → moved_below sizes cuts names (i + 1) ≡ moved_below sizes cuts names i + moved_bytes (slice_index_or sizes i (0, 0)) (slice_index names (block_of cuts i))
 moved_more sizes cuts names i = rw add-one (omega arith)
 
 -- an element is in one of the blocks

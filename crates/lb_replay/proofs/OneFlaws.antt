@@ -74,7 +74,8 @@ first_once : (applies : Flaw → Type 0) (one other : Flaw) → IsFirst applies 
 first_once applies one other this that =
     elim (cases_order (flaw_number one) (flaw_number other)) [
       | inl same ↦
-          let place : flaw_place one ≡ flaw_place other = same_place (flaw_place one) (flaw_place other) (λ before. that.no_lower_place one same before this.applies_itself) (λ before. this.no_lower_place other (sym same) before that.applies_itself) in
+          let place : flaw_place one ≡ flaw_place other = same_place (flaw_place one) (flaw_place other)
+          (λ before. that.no_lower_place one same before this.applies_itself) (λ before. this.no_lower_place other (sym same) before that.applies_itself) in
           sym (found_again one) ∙ ap (λ n. flaw_at n (flaw_place one)) same ∙ ap (flaw_at (flaw_number other)) place ∙ found_again other
       | inr (inl less) ↦ absurd (that.no_lower_number one less this.applies_itself)
       | inr (inr more) ↦ absurd (this.no_lower_number other more that.applies_itself)

@@ -21,15 +21,21 @@ use Rattle.lb_replay.proofs.RefinedTexts.{chosen_from_refined}
 -- decisions that agree in what is printed have one text
 same_text : {A : Type 0} (s : Taken) (pes : ℕ) (d e : Decision A) → IsSame d e → decision_text s pes d ≡ decision_text s pes e
 same_text s pes d e same =
-    ap (λ n. head_line s.step pes (length s.loads) ++ bottleneck_line n ++ floor_line d.division.floor ++ block_lines s.loads d.division.cuts d.naming pes ++ moved_line d.moved) same.bottleneck
-    ∙ ap (λ f. head_line s.step pes (length s.loads) ++ bottleneck_line e.division.bottleneck ++ floor_line f ++ block_lines s.loads d.division.cuts d.naming pes ++ moved_line d.moved) same.floor
-    ∙ ap (λ xs. head_line s.step pes (length s.loads) ++ bottleneck_line e.division.bottleneck ++ floor_line e.division.floor ++ block_lines s.loads xs d.naming pes ++ moved_line d.moved) same.cuts
-    ∙ ap (λ xs. head_line s.step pes (length s.loads) ++ bottleneck_line e.division.bottleneck ++ floor_line e.division.floor ++ block_lines s.loads e.division.cuts xs pes ++ moved_line d.moved) same.naming
-    ∙ ap (λ n. head_line s.step pes (length s.loads) ++ bottleneck_line e.division.bottleneck ++ floor_line e.division.floor ++ block_lines s.loads e.division.cuts e.naming pes ++ moved_line n) same.moved
+    ap (λ n. head_line s.step pes (length s.loads) ++ bottleneck_line n ++ floor_line d.division.floor
+    ++ block_lines s.loads d.division.cuts d.naming pes ++ moved_line d.moved) same.bottleneck
+    ∙ ap (λ f. head_line s.step pes (length s.loads) ++ bottleneck_line e.division.bottleneck ++ floor_line f
+    ++ block_lines s.loads d.division.cuts d.naming pes ++ moved_line d.moved) same.floor
+    ∙ ap (λ xs. head_line s.step pes (length s.loads) ++ bottleneck_line e.division.bottleneck ++ floor_line e.division.floor
+    ++ block_lines s.loads xs d.naming pes ++ moved_line d.moved) same.cuts
+    ∙ ap (λ xs. head_line s.step pes (length s.loads) ++ bottleneck_line e.division.bottleneck ++ floor_line e.division.floor
+    ++ block_lines s.loads e.division.cuts xs pes ++ moved_line d.moved) same.naming
+    ∙ ap (λ n. head_line s.step pes (length s.loads) ++ bottleneck_line e.division.bottleneck ++ floor_line e.division.floor
+    ++ block_lines s.loads e.division.cuts e.naming pes ++ moved_line n) same.moved
 
 one_planned : (A : Type 0) (s : Taken) (blocks : ℕ) (text other : List ℕ) → IsPlanned A s blocks text → IsPlanned A s blocks other → text ≡ other
 one_planned A s blocks text other this that =
-    let same : IsSame this.decision that.decision = one_decision s.loads s.sizes blocks this.decision that.decision this.chosen that.chosen this.least that.least this.right that.right in
+    let same : IsSame this.decision that.decision = one_decision s.loads s.sizes blocks this.decision that.decision this.chosen that.chosen
+    this.least that.least this.right that.right in
     this.printed ∙ same_text s blocks this.decision that.decision same ∙ sym that.printed
 
 module _ {A : Type 0} (s : Taken) (pes tolerance : ℕ) where
@@ -46,7 +52,8 @@ module _ {A : Type 0} (s : Taken) (pes tolerance : ℕ) where
   one_within text other this that =
       let chosen = chosen_from_refined s.loads s.sizes pes tolerance that.decision that.refined in
       let also = chosen_from_refined s.loads s.sizes pes tolerance this.decision this.refined in
-      let least : refined_least this.decision ≡ refined_least that.decision = only_from_chosen s.loads pes (refined_least that.decision) chosen (refined_least this.decision) also in
+      let least : refined_least this.decision ≡ refined_least that.decision = only_from_chosen s.loads pes (refined_least that.decision)
+      chosen (refined_least this.decision) also in
       let same : AreSame this.decision that.decision = one_refined s.loads s.sizes pes tolerance this.decision that.decision this.refined that.refined in
       this.printed ∙ same_within _ _ _ _ _ _ _ _ least same.cuts same.names same.moved ∙ sym that.printed
 
@@ -54,7 +61,8 @@ module _ {A : Type 0} (s : Taken) (pes tolerance : ℕ) where
   one_ordered text other this that =
       let chosen = chosen_from_ordered s.loads s.sizes pes tolerance that.decision that.refined in
       let also = chosen_from_ordered s.loads s.sizes pes tolerance this.decision this.refined in
-      let least : ordered_least this.decision ≡ ordered_least that.decision = only_from_chosen s.loads pes (ordered_least that.decision) chosen (ordered_least this.decision) also in
+      let least : ordered_least this.decision ≡ ordered_least that.decision = only_from_chosen s.loads pes (ordered_least that.decision)
+      chosen (ordered_least this.decision) also in
       let same : AreSameInOrder this.decision that.decision = one_in_order s.loads s.sizes pes tolerance this.decision that.decision this.refined that.refined in
       this.printed ∙ same_within _ _ _ _ _ _ _ _ least same.cuts same.names same.moved ∙ sym that.printed
 
@@ -71,4 +79,5 @@ pub one_text : (A : Type 0) (procs : Option ℕ) (way : Way) (bytes text other :
     → IsReplay A (Some bytes) procs way other → text ≡ other
 one_text A procs way bytes text other one this that =
     let same : that.dump ≡ this.dump = one_dump that.dump this.dump bytes that.read this.read in
-    one_decided A this.dump.snapshot (blocks_of procs this.dump.snapshot) way text other one this.decided (subst (λ (d : Dumped A). IsDecided A d.snapshot (blocks_of procs d.snapshot) way other) same that.decided)
+    one_decided A this.dump.snapshot (blocks_of procs this.dump.snapshot) way text other one this.decided
+    (subst (λ (d : Dumped A). IsDecided A d.snapshot (blocks_of procs d.snapshot) way other) same that.decided)

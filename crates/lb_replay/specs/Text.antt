@@ -79,13 +79,15 @@ moved_line moved = codes "moved " ++ decimal moved ++ newline
 -- the whole text of a decision on a snapshot, for this number of PEs
 abbrev pub decision_text : {A : Type 0} → Taken → ℕ → Decision A → List ℕ
 decision_text s pes d =
-    head_line s.step pes (length s.loads) ++ bottleneck_line d.division.bottleneck ++ floor_line d.division.floor ++ block_lines s.loads d.division.cuts d.naming pes ++ moved_line d.moved
+    head_line s.step pes (length s.loads) ++ bottleneck_line d.division.bottleneck ++ floor_line d.division.floor
+    ++ block_lines s.loads d.division.cuts d.naming pes ++ moved_line d.moved
 
 -- The whole text of a decision within a tolerance on a snapshot, for this number of PEs: the bottleneck and the floor are those of the
 -- least division, and the blocks and the bytes that move those of the decision.
 abbrev pub text_within : {A : Type 0} → Taken → ℕ → ℕ → Division A → List ℕ → List ℕ → ℕ → List ℕ
 text_within s pes tolerance least cuts names moved =
-    head_line s.step pes (length s.loads) ++ bottleneck_line least.bottleneck ++ floor_line least.floor ++ limit_line (limit_of least.bottleneck tolerance) ++ block_lines s.loads cuts names pes ++ moved_line moved
+    head_line s.step pes (length s.loads) ++ bottleneck_line least.bottleneck ++ floor_line least.floor
+    ++ limit_line (limit_of least.bottleneck tolerance) ++ block_lines s.loads cuts names pes ++ moved_line moved
 
 abbrev pub refined_text : {A : Type 0} → Taken → ℕ → ℕ → Refined A → List ℕ
 refined_text s pes tolerance r =
@@ -104,7 +106,9 @@ reordered_line (InOrder r) = codes "reordered no" ++ newline
 -- the text of a decision in any order of the PEs, with that line behind the limit
 abbrev pub reordering_text : {A : Type 0} → Taken → ℕ → ℕ → Reordering A → List ℕ
 reordering_text s pes tolerance r =
-    head_line s.step pes (length s.loads) ++ bottleneck_line (reordering_division r).bottleneck ++ floor_line (reordering_division r).floor ++ limit_line (limit_of (reordering_division r).bottleneck tolerance) ++ reordered_line r ++ block_lines s.loads (reordering_cuts r) (reordering_names r) pes ++ moved_line (reordering_moved r)
+    head_line s.step pes (length s.loads) ++ bottleneck_line (reordering_division r).bottleneck ++ floor_line (reordering_division r).floor
+    ++ limit_line (limit_of (reordering_division r).bottleneck tolerance) ++ reordered_line r
+    ++ block_lines s.loads (reordering_cuts r) (reordering_names r) pes ++ moved_line (reordering_moved r)
 
 -- the one line for out of memory
 abbrev pub memory_line : List ℕ

@@ -18,7 +18,9 @@ pub record IsSame {A : Type 0} (d e : Decision A) : Type 0 where
   pub moved : d.moved ≡ e.moved
   pub moves : d.moves ≡ e.moves
 
-pub one_decision : {A : Type 0} (loads : List ℕ) (sizes : List (ℕ × ℕ)) (p : ℕ) (d e : Decision A) → IsChosen loads p d.division → IsChosen loads p e.division → IsLeastNaming sizes d.division.cuts p d.naming → IsLeastNaming sizes e.division.cuts p e.naming → IsRight loads sizes p d → IsRight loads sizes p e → IsSame d e
+pub one_decision : {A : Type 0} (loads : List ℕ) (sizes : List (ℕ × ℕ)) (p : ℕ) (d e : Decision A) → IsChosen loads p d.division
+    → IsChosen loads p e.division → IsLeastNaming sizes d.division.cuts p d.naming → IsLeastNaming sizes e.division.cuts p e.naming
+    → IsRight loads sizes p d → IsRight loads sizes p e → IsSame d e
 one_decision {A = A} loads sizes p d e chosen_d chosen_e least_d least_e right_d right_e =
     record {
       bottleneck = ap (λ (v : Division A). v.bottleneck) division;
@@ -26,7 +28,8 @@ one_decision {A = A} loads sizes p d e chosen_d chosen_e least_d least_e right_d
       floor = ap (λ (v : Division A). v.floor) division;
       naming = naming;
       moved = right_d.moved ∙ ap (λ xs. bytes_moved sizes xs d.naming) cuts ∙ ap (λ xs. bytes_moved sizes e.division.cuts xs) naming ∙ sym right_e.moved;
-      moves = right_d.moves ∙ ap (λ xs. moves_below sizes xs d.naming (length sizes)) cuts ∙ ap (λ xs. moves_below sizes e.division.cuts xs (length sizes)) naming ∙ sym right_e.moves;
+      moves = right_d.moves ∙ ap (λ xs. moves_below sizes xs d.naming (length sizes)) cuts
+          ∙ ap (λ xs. moves_below sizes e.division.cuts xs (length sizes)) naming ∙ sym right_e.moves;
     }
   where
     division : d.division ≡ e.division

@@ -40,7 +40,8 @@ greatest_cost sizes cuts t table exact =
       greatest = λ b p inside below. subst (λ cost. cost ≤ greatest t.costs) (exact.exact b p inside below) (cost_bounded t b p (matrix_of_table t table) inside below);
     }
 
-pub bounded_by_table : (sizes : List (ℕ × ℕ)) (cuts : List ℕ) (u v : List ℤ) (t : Table) → IsTable t → IsTableOf sizes cuts t → AreWithin (greatest t.costs) u v → ArePricesBounded sizes cuts u v
+pub bounded_by_table : (sizes : List (ℕ × ℕ)) (cuts : List ℕ) (u v : List ℤ) (t : Table) → IsTable t → IsTableOf sizes cuts t
+    → AreWithin (greatest t.costs) u v → ArePricesBounded sizes cuts u v
 bounded_by_table sizes cuts u v t table exact within =
     record {
       most = greatest t.costs;

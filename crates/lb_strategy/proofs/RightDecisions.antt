@@ -17,7 +17,8 @@ use Rattle.lb_strategy.specs.declared.decision.Decision.{Decision}
 use Rattle.lb_strategy.specs.Moves.{HasPlace}
 use Rattle.lb_strategy.specs.Decisions.{IsNamedRight, IsRight}
 
-pub least_from_right : {A : Type 0} (loads : List ℕ) (sizes : List (ℕ × ℕ)) (p : ℕ) (d : Decision A) → IsRight loads sizes p d → IsLeastDivision loads p d.division.bottleneck d.division.cuts
+pub least_from_right : {A : Type 0} (loads : List ℕ) (sizes : List (ℕ × ℕ)) (p : ℕ) (d : Decision A) → IsRight loads sizes p d
+    → IsLeastDivision loads p d.division.bottleneck d.division.cuts
 least_from_right loads sizes p d right = least_from_certified loads p d.division right.division
 
 pub cheapest_from_right : {A : Type 0} (loads : List ℕ) (sizes : List (ℕ × ℕ)) (p : ℕ) (d : Decision A) → IsRight loads sizes p d → IsCheapest sizes d.division.cuts p d.naming
@@ -59,12 +60,14 @@ place_from_named sizes cuts names u v named i inside =
       pe = omega (arith, named.naming.below (block_of cuts i) block, named.blocks.few_blocks);
     }
 
-pub place_from_right : {A : Type 0} (loads : List ℕ) (sizes : List (ℕ × ℕ)) (p : ℕ) (d : Decision A) → IsRight loads sizes p d → (i : ℕ) → i < length sizes → HasPlace d.division.cuts d.naming i
+pub place_from_right : {A : Type 0} (loads : List ℕ) (sizes : List (ℕ × ℕ)) (p : ℕ) (d : Decision A) → IsRight loads sizes p d → (i : ℕ)
+    → i < length sizes → HasPlace d.division.cuts d.naming i
 place_from_right loads sizes p d right i inside =
     place_from_named sizes d.division.cuts d.naming d.prices.u d.prices.v right.named i inside
 
 -- a certified division of the loads divides the elements
-pub blocks_from_certified : {A : Type 0} (loads : List ℕ) (sizes : List (ℕ × ℕ)) (p : ℕ) (d : Division A) → IsCertified loads p d → length loads ≡ length sizes → 1 ≤ p → p ≤ PES → AreBlocks sizes d.cuts
+pub blocks_from_certified : {A : Type 0} (loads : List ℕ) (sizes : List (ℕ × ℕ)) (p : ℕ) (d : Division A) → IsCertified loads p d
+    → length loads ≡ length sizes → 1 ≤ p → p ≤ PES → AreBlocks sizes d.cuts
 blocks_from_certified loads sizes p d certified counted some few =
     let blocks : p ≡ blocks_between d.cuts = omega (arith, certified.divides.counted) in
     let divides : IsDivision 0 (length sizes) p d.cuts = subst (λ n. IsDivision 0 n p d.cuts) counted certified.divides in
@@ -75,30 +78,40 @@ blocks_from_certified loads sizes p d certified counted some few =
     }
 
 -- the cost of a naming by the table of its blocks is the number of bytes that it moves
-pub moved_by_table : (sizes : List (ℕ × ℕ)) (cuts names : List ℕ) (t : Table) → AreBlocks sizes cuts → IsTableOf sizes cuts t → IsNaming t.blocks names → naming_cost t.blocks (cost_at t) names ≡ bytes_moved sizes cuts names
+pub moved_by_table : (sizes : List (ℕ × ℕ)) (cuts names : List ℕ) (t : Table) → AreBlocks sizes cuts → IsTableOf sizes cuts t
+    → IsNaming t.blocks names → naming_cost t.blocks (cost_at t) names ≡ bytes_moved sizes cuts names
 moved_by_table sizes cuts names t blocks table naming =
-    let by_block : naming_cost t.blocks (cost_at t) names ≡ naming_cost t.blocks (block_cost sizes cuts) names = total_same t.blocks (λ b. cost_at t b (slice_index names b)) (λ b. block_cost sizes cuts b (slice_index names b)) (λ b inside. table.exact b (slice_index names b) inside (naming.below b inside)) in
+    let by_block : naming_cost t.blocks (cost_at t) names ≡ naming_cost t.blocks (block_cost sizes cuts) names = total_same t.blocks
+    (λ b. cost_at t b (slice_index names b)) (λ b. block_cost sizes cuts b (slice_index names b))
+    (λ b inside. table.exact b (slice_index names b) inside (naming.below b inside)) in
     by_block ∙ ap (λ n. naming_cost n (block_cost sizes cuts) names) table.counted ∙ sym (moved_is_cost sizes cuts names (blocks_between cuts) blocks.divides)
 
 -- the least naming by the table of the blocks is the least naming of the blocks
-pub least_by_table : (sizes : List (ℕ × ℕ)) (cuts names : List ℕ) (p : ℕ) (t : Table) → blocks_between cuts ≡ p → AreBlocks sizes cuts → IsTableOf sizes cuts t → IsFirstCheapest t.blocks (naming_cost t.blocks (cost_at t)) names → IsLeastNaming sizes cuts p names
+pub least_by_table : (sizes : List (ℕ × ℕ)) (cuts names : List ℕ) (p : ℕ) (t : Table) → blocks_between cuts ≡ p → AreBlocks sizes cuts
+    → IsTableOf sizes cuts t → IsFirstCheapest t.blocks (naming_cost t.blocks (cost_at t)) names → IsLeastNaming sizes cuts p names
 least_by_table sizes cuts names p t counted blocks table least =
-    let there : IsFirstCheapest t.blocks (bytes_moved sizes cuts) names = least_by t.blocks (bytes_moved sizes cuts) (naming_cost t.blocks (cost_at t)) names (λ others naming. moved_by_table sizes cuts others t blocks table naming) least in
+    let there : IsFirstCheapest t.blocks (bytes_moved sizes cuts) names = least_by t.blocks (bytes_moved sizes cuts)
+    (naming_cost t.blocks (cost_at t)) names (λ others naming. moved_by_table sizes cuts others t blocks table naming) least in
     subst (λ n. IsFirstCheapest n (bytes_moved sizes cuts) names) (table.counted ∙ counted) there
 
 -- prices that prove a naming by the table of its blocks prove what it moves
-proved_by_table : (sizes : List (ℕ × ℕ)) (cuts names : List ℕ) (u v : List ℤ) (t : Table) → AreBlocks sizes cuts → IsTableOf sizes cuts t → IsNaming t.blocks names → Proves t.blocks (cost_at t) (naming_cost t.blocks (cost_at t) names) u v → Proves (blocks_between cuts) (block_cost sizes cuts) (bytes_moved sizes cuts names) u v
+proved_by_table : (sizes : List (ℕ × ℕ)) (cuts names : List ℕ) (u v : List ℤ) (t : Table) → AreBlocks sizes cuts → IsTableOf sizes cuts t
+    → IsNaming t.blocks names → Proves t.blocks (cost_at t) (naming_cost t.blocks (cost_at t) names) u v
+    → Proves (blocks_between cuts) (block_cost sizes cuts) (bytes_moved sizes cuts names) u v
 proved_by_table sizes cuts names u v t blocks table naming proved =
     let counted : t.blocks ≡ blocks_between cuts = table.counted in
     record {
       block_prices = proved.block_prices ∙ counted;
       pe_prices = proved.pe_prices ∙ counted;
-      low = λ b p block pe. subst (λ cost. (price_at u b +ℤ price_at v p) ≤ℤ pos cost) (table.exact b p (omega (arith, block, counted)) (omega (arith, pe, counted))) (proved.low b p (omega (arith, block, counted)) (omega (arith, pe, counted)));
+      low = λ b p block pe. subst (λ cost. (price_at u b +ℤ price_at v p) ≤ℤ pos cost)
+          (table.exact b p (omega (arith, block, counted)) (omega (arith, pe, counted)))
+          (proved.low b p (omega (arith, block, counted)) (omega (arith, pe, counted)));
       adds_up = proved.adds_up ∙ ap pos (moved_by_table sizes cuts names t blocks table naming);
     }
 
 -- a naming of the blocks, priced by their table
-pub named_by_table : (sizes : List (ℕ × ℕ)) (cuts names : List ℕ) (u v : List ℤ) (t : Table) → AreBlocks sizes cuts → IsTableOf sizes cuts t → IsNaming t.blocks names → Proves t.blocks (cost_at t) (naming_cost t.blocks (cost_at t) names) u v → IsNamed sizes cuts names u v
+pub named_by_table : (sizes : List (ℕ × ℕ)) (cuts names : List ℕ) (u v : List ℤ) (t : Table) → AreBlocks sizes cuts → IsTableOf sizes cuts t
+    → IsNaming t.blocks names → Proves t.blocks (cost_at t) (naming_cost t.blocks (cost_at t) names) u v → IsNamed sizes cuts names u v
 named_by_table sizes cuts names u v t blocks table naming proved =
     record {
       blocks = blocks;

@@ -28,7 +28,11 @@ counted n zero r low high inside = omega arith
 counted n (suc m) r low high inside =
     elim (cases_lt m r) [
       | inl below ↦ passed n (suc m) r low (omega arith) ∙ omega arith
-      | inr above ↦ omega (arith, counted n m r low high above, fail n m (omega (arith, mul-le-mul {n₁ = r + 1} {m₁ = r + 1} {n₂ = m + 1} {m₂ = m + 1} (omega arith) (omega arith))))
+      | inr above ↦ omega (
+        arith,
+        counted n m r low high above,
+        fail n m (omega (arith, mul-le-mul {n₁ = r + 1} {m₁ = r + 1} {n₂ = m + 1} {m₂ = m + 1} (omega arith) (omega arith))),
+      )
     ]
 
 at_most_square : (r : ℕ) → r ≤ r * r

@@ -26,7 +26,8 @@ count_added places counts i counted next on p inside =
     let before = counted p (omega (arith, inside, length-set counts place count)) in
     elim (eqb_tells place p) [
       | inl here ↦
-          let at : slice_index (set counts place count) p ≡ slice_index counts p + 1 = subst (λ q. slice_index (set counts place count) q ≡ slice_index counts q + 1) here.1 (get_or-set_same counts place count 0 on) in
+          let at : slice_index (set counts place count) p ≡ slice_index counts p + 1 = subst
+          (λ q. slice_index (set counts place count) q ≡ slice_index counts q + 1) here.1 (get_or-set_same counts place count 0 on) in
           omega (arith, at, before, count_by_more_yes (λ place. eqb place p) places i 0 next here.0)
       | inr other ↦
           omega (arith, get_or-set_other counts place p count 0 (λ e. other.1 (sym e)), before, count_by_more_no (λ place. eqb place p) places i 0 next other.0)

@@ -37,7 +37,8 @@ module _ (loads : List ℕ) (sizes : List (ℕ × ℕ)) (p : ℕ) (cuts names : 
         paired = made ∙ sym paired;
         placed = λ i e inside.
             let below : i < length sizes = omega (arith, made, inside) in
-            subst (λ place. place < p) (sym (get_or-map-range_with_len (planned_pe cuts names) 0 (length sizes) i i e below (omega arith))) (placed_below named counted i (place_from_named sizes cuts names u v named i below));
+            subst (λ place. place < p) (sym (get_or-map-range_with_len (planned_pe cuts names) 0 (length sizes) i i e below (omega arith)))
+            (placed_below named counted i (place_from_named sizes cuts names u v named i below));
         few_pes = omega (arith, counted, named.blocks.few_blocks);
       }
 

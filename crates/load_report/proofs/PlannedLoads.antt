@@ -51,7 +51,8 @@ once (suc k) p m names loads apart within =
     elim (cases_eq (names k) p) [
       | inl here ↦
           let before : total k (λ b. when (names b) p (loads b)) ≡ 0 =
-          total_same k (λ b. when (names b) p (loads b)) (λ _. 0) (λ b inside. when_apart (names b) p (loads b) (λ e. apart b k inside (omega arith) (e ∙ sym here))) ∙ total_none k in
+          total_same k (λ b. when (names b) p (loads b)) (λ _. 0)
+          (λ b inside. when_apart (names b) p (loads b) (λ e. apart b k inside (omega arith) (e ∙ sym here))) ∙ total_none k in
           omega (arith, before, when_same (names k) p (loads k) here, within k (omega arith))
       | inr other ↦
           omega (arith, once k p m names loads (λ a b low high. apart a b low (omega arith)) (λ b inside. within b (omega arith)), when_apart (names k) p (loads k) other)
@@ -80,12 +81,22 @@ module _ (loads cuts names : List ℕ) (blocks n p : ℕ) (division : IsDivision
       let named : ℕ → ℕ = λ i. when (slice_index names k) p (slice_index loads i) in
       let agree : total end at_name + total start named ≡ total start at_name + total end named =
       subst (λ m. total m at_name + total start named ≡ total start at_name + total m named) (sym same)
-      (total_agree start (end - start) at_name named (λ i low high. ap (λ b. when (slice_index names b) p (slice_index loads i)) (block_of_is n blocks cuts k i division (omega arith) low (omega arith)))) in
+      (total_agree start (end - start) at_name named (λ i low high. ap (λ b. when (slice_index names b) p (slice_index loads i))
+      (block_of_is n blocks cuts k i division (omega arith) low (omega arith)))) in
       let before : total start at_name ≡ total k of_block = blocks_before k (omega arith) in
       let block : total start named + of_block k ≡ total end named = elim (cases_eq (slice_index names k) p) [
         | inl here ↦
-            let plain : (m : ℕ) → total m named ≡ total m (slice_index loads) = λ m. total_same m named (slice_index loads) (λ i _. when_same (slice_index names k) p (slice_index loads i) here) in
-            omega (arith, plain start, plain end, loads_below start (omega arith), loads_below end stays, load_after loads start end rises, when_same (slice_index names k) p (block_load loads cuts k) here)
+            let plain : (m : ℕ) → total m named ≡ total m (slice_index loads) = λ m. total_same m named (slice_index loads)
+            (λ i _. when_same (slice_index names k) p (slice_index loads i) here) in
+            omega (
+              arith,
+              plain start,
+              plain end,
+              loads_below start (omega arith),
+              loads_below end stays,
+              load_after loads start end rises,
+              when_same (slice_index names k) p (block_load loads cuts k) here,
+            )
         | inr other ↦
             let none : (m : ℕ) → total m named ≡ 0 = λ m. total_same m named (λ _. 0) (λ i _. when_apart (slice_index names k) p (slice_index loads i) other) ∙ total_none m in
             omega (arith, none start, none end, when_apart (slice_index names k) p (block_load loads cuts k) other)
@@ -112,7 +123,12 @@ placed_greatest loads cuts names pes n whole division naming = omega (arith, abo
     above : greatest pes (load_of loads (planned_places cuts names n)) ≤ peak loads cuts
     above =
         greatest_within pes (peak loads cuts) (load_of loads (planned_places cuts names n))
-        (λ p inside. omega (arith, on p, once pes p (peak loads cuts) (slice_index names) (block_load loads cuts) naming.apart (λ b low. block_load-le-peak loads cuts b (omega (arith, low, division.counted)))))
+        (λ p inside. omega (
+          arith,
+          on p,
+          once pes p (peak loads cuts) (slice_index names) (block_load loads cuts) naming.apart
+              (λ b low. block_load-le-peak loads cuts b (omega (arith, low, division.counted))),
+        ))
 
     below : peak loads cuts ≤ greatest pes (load_of loads (planned_places cuts names n))
     below =
@@ -121,7 +137,13 @@ placed_greatest loads cuts names pes n whole division naming = omega (arith, abo
         let low : b < pes = omega (arith, inside, division.counted) in
         let p : ℕ = slice_index names b in
         let f : ℕ → ℕ = λ a. when (slice_index names a) p (block_load loads cuts a) in
-        omega (arith, total_above pes b f low, when_same p p (block_load loads cuts b) refl, on p, greatest_above pes p (load_of loads (planned_places cuts names n)) (naming.below b low)))
+        omega (
+          arith,
+          total_above pes b f low,
+          when_same p p (block_load loads cuts b) refl,
+          on p,
+          greatest_above pes p (load_of loads (planned_places cuts names n)) (naming.below b low),
+        ))
 
 pub planned_greatest : {A : Type 0} (loads : List ℕ) (sizes : List (ℕ × ℕ)) (pes : ℕ) (d : Decision A) → length loads ≡ length sizes → IsRight loads sizes pes d
     → greatest pes (load_of loads (planned_places d.division.cuts d.naming (length sizes))) ≡ d.division.bottleneck

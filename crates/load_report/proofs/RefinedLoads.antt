@@ -8,7 +8,8 @@ use Rattle.lb_refinement.proofs.RefinedCases.{blocks, bottleneck_is, naming, wit
 use Rattle.load_report.specs.Figures.{greatest, load_of, planned_places}
 use Rattle.load_report.proofs.PlannedLoads.{placed_greatest}
 
-pub refined_greatest : {A : Type 0} (loads : List ℕ) (sizes : List (ℕ × ℕ)) (pes tolerance : ℕ) (r : Refined A) → length loads ≡ length sizes → IsRefined loads sizes pes tolerance r
+pub refined_greatest : {A : Type 0} (loads : List ℕ) (sizes : List (ℕ × ℕ)) (pes tolerance : ℕ) (r : Refined A)
+    → length loads ≡ length sizes → IsRefined loads sizes pes tolerance r
     → greatest pes (load_of loads (planned_places (refined_cuts r) (refined_names r) (length sizes))) ≤ limit_of (refined_least r).bottleneck tolerance
 refined_greatest loads sizes pes tolerance r paired refined =
     let division : IsDivision 0 (length sizes) pes (refined_cuts r) = subst (λ m. IsDivision 0 m pes (refined_cuts r)) paired (blocks loads sizes pes tolerance r refined) in

@@ -67,7 +67,8 @@ same_figures loads places pes m m' l l' d d' i i' a b c e = rw (a, b, c, e) refl
 pub spread_is : (loads places : List ℕ) (pes : ℕ) (f : ℕ → ℕ) → ((p : ℕ) → p < pes → f p ≡ load_of loads places p) → added_spread loads places pes f ≡ spread_of loads places pes
 spread_is loads places pes f same =
     let g : ℕ → ℕ = load_of loads places in
-    same_figures loads places pes (greatest pes f) (greatest pes g) (least (sum loads) pes f) (least (sum loads) pes g) (deviation_of pes (sum loads) f) (deviation_of pes (sum loads) g) (idle_of pes f) (idle_of pes g)
+    same_figures loads places pes (greatest pes f) (greatest pes g) (least (sum loads) pes f) (least (sum loads) pes g)
+    (deviation_of pes (sum loads) f) (deviation_of pes (sum loads) g) (idle_of pes f) (idle_of pes g)
     (greatest_same pes f g same) (least_same (sum loads) pes f g same) (same_deviation pes (sum loads) f g same)
     (total_same pes _ _ (λ p inside. ap (λ n. if n == 0 then 1 else 0) (same p inside)))
 
@@ -80,6 +81,16 @@ whole_load loads n is =
 pub spread_from : (loads places : List ℕ) (pes : ℕ) (f : ℕ → ℕ) (n most low all far heavy none idle : ℕ) → n ≡ length loads → most ≡ greatest pes f → low ≡ least all pes f
     → all ≡ sum loads → far ≡ deviation_of pes all f → heavy ≡ greatest (length loads) (slice_index loads) → none ≡ empty_of places pes → idle ≡ idle_of pes f
     → ((p : ℕ) → p < pes → f p ≡ load_of loads places p)
-    → ◌≡◌ {A = Spread} (record { pes = pes; elements = n; greatest = most; least = low; total = all; deviation = far; heaviest = heavy; empty = none; idle = idle }) (spread_of loads places pes)
+    → ◌≡◌ {A = Spread} (record {
+      pes = pes;
+      elements = n;
+      greatest = most;
+      least = low;
+      total = all;
+      deviation = far;
+      heaviest = heavy;
+      empty = none;
+      idle = idle;
+    }) (spread_of loads places pes)
 spread_from loads places pes f n most low all far heavy none idle a b c d e h k l same =
     rw (a, b, c, e, h, k, l, d) (spread_is loads places pes f same)

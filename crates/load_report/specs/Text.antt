@@ -66,7 +66,8 @@ line true name columns = quoted name ++ flat_map separated columns ++ newline
 -- the line of the names of the columns
 abbrev pub head_line : Style → List ℕ
 head_line style =
-    if style.csv then (if style.moves then codes "file,procs,element,from,to,bytes\n" else codes "file,placement,procs,elements,max,avg,imbalance,least,moved,moved_percent,bytes,bytes_percent,empty,idle,min,heaviest,bound,deviation,excess_percent,leave,enter,step\n") else (if style.moves then codes "procs element  from    to    bytes file\n" else codes "placement procs elements           max               avg imbalance         least  moved  moved%       bytes  bytes% empty  idle           min      heaviest         bound deviation   excess%       leave       enter       step file\n")
+    if style.csv then (if style.moves then codes "file,procs,element,from,to,bytes\n" else codes
+    "file,placement,procs,elements,max,avg,imbalance,least,moved,moved_percent,bytes,bytes_percent,empty,idle,min,heaviest,bound,deviation,excess_percent,leave,enter,step\n") else (if style.moves then codes "procs element  from    to    bytes file\n" else codes "placement procs elements           max               avg imbalance         least  moved  moved%       bytes  bytes% empty  idle           min      heaviest         bound deviation   excess%       leave       enter       step file\n")
 
 -- the least that the greatest load can be: no PE has less than the average, nor than the heaviest element
 abbrev pub bound : Spread → Cell
@@ -98,12 +99,27 @@ changes_of s c t = record {
 -- the columns of a placement of this kind, in a dump of this step
 abbrev pub placement_columns : Cell → ℕ → Spread → Changes → List (ℕ × Cell)
 placement_columns word step s c =
-    (9, word) ∷ (5, Number s.pes) ∷ (8, Number s.elements) ∷ (13, Number s.greatest) ∷ (17, ratio s.total s.pes) ∷ (9, ratio (s.greatest * s.pes) s.total) ∷ (13, c.least) ∷ (6, c.moved) ∷ (7, c.moved_share) ∷ (11, c.bytes) ∷ (7, c.bytes_share) ∷ (5, Number s.empty) ∷ (5, Number s.idle) ∷ (13, Number s.least) ∷ (13, Number s.heaviest) ∷ (13, bound s) ∷ (9, deviation s) ∷ (9, excess s) ∷ (11, c.leave) ∷ (11, c.enter) ∷ (10, Number step) ∷ []
+    (9, word) ∷ (5, Number s.pes) ∷ (8, Number s.elements) ∷ (13, Number s.greatest) ∷ (17, ratio s.total s.pes) ∷ (
+      9,
+      ratio (s.greatest * s.pes) s.total,
+    ) ∷ (13, c.least) ∷ (6, c.moved) ∷ (7, c.moved_share) ∷ (11, c.bytes) ∷ (7, c.bytes_share) ∷ (
+      5,
+      Number s.empty,
+    ) ∷ (5, Number s.idle) ∷ (13, Number s.least) ∷ (13, Number s.heaviest) ∷ (13, bound s) ∷ (9, deviation s) ∷ (
+      9,
+      excess s,
+    ) ∷ (11, c.leave) ∷ (11, c.enter) ∷ (10, Number step) ∷ []
 
 -- the columns of a decision with a flaw, for which nothing is counted
 abbrev pub flawed_columns : ℕ → ℕ → ℕ → List (ℕ × Cell)
 flawed_columns step pes elements =
-    (9, Flawed) ∷ (5, Number pes) ∷ (8, Number elements) ∷ (13, Nothing) ∷ (17, Nothing) ∷ (9, Nothing) ∷ (13, Nothing) ∷ (6, Nothing) ∷ (7, Nothing) ∷ (11, Nothing) ∷ (7, Nothing) ∷ (5, Nothing) ∷ (5, Nothing) ∷ (13, Nothing) ∷ (13, Nothing) ∷ (13, Nothing) ∷ (9, Nothing) ∷ (9, Nothing) ∷ (11, Nothing) ∷ (11, Nothing) ∷ (10, Number step) ∷ []
+    (9, Flawed) ∷ (5, Number pes) ∷ (8, Number elements) ∷ (13, Nothing) ∷ (17, Nothing) ∷ (9, Nothing) ∷ (13, Nothing) ∷ (6, Nothing) ∷ (
+      7,
+      Nothing,
+    ) ∷ (11, Nothing) ∷ (7, Nothing) ∷ (5, Nothing) ∷ (5, Nothing) ∷ (13, Nothing) ∷ (13, Nothing) ∷ (13, Nothing) ∷ (
+      9,
+      Nothing,
+    ) ∷ (9, Nothing) ∷ (11, Nothing) ∷ (11, Nothing) ∷ (10, Number step) ∷ []
 
 -- the columns of an element that moves
 abbrev pub move_columns : List (ℕ × ℕ) → ℕ → ℕ × ℕ × ℕ → List (ℕ × Cell)

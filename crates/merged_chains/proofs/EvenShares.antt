@@ -29,7 +29,8 @@ all_fit xs p limit some enough =
           absurd (omega (arith, heavy, load_within xs (slice_index ends.ends 0) (slice_index ends.ends 1 + 1) (omega (arith, fence.starts))))
     ]
 
-pub shares_enclose : (xs : List ℕ) (p greatest total most : ℕ) → 1 ≤ p → sum xs ≡ total → IsGreatest xs greatest → total ≤ most → Enclose xs p (max greatest (total / p + min 1 (total % p))) (min (total / p + greatest) most)
+pub shares_enclose : (xs : List ℕ) (p greatest total most : ℕ) → 1 ≤ p → sum xs ≡ total → IsGreatest xs greatest → total ≤ most
+    → Enclose xs p (max greatest (total / p + min 1 (total % p))) (min (total / p + greatest) most)
 shares_enclose xs p greatest total most some whole g small =
     let enclosed = opening_encloses xs p greatest total (omega arith) g.none_above g.least (sym (whole_load xs ∙ whole)) in
     record {

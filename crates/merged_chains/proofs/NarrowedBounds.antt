@@ -18,7 +18,8 @@ lowered_none blocks high limits closed =
     record { no_higher = omega arith; within = λ i inside left. absurd (omega arith); reached = inl refl }
 
 -- one more limit, within which all blocks were closed, or a block was left
-pub raised_full : (blocks n low raised : ℕ) (limits closed : List ℕ) → IsRaised blocks n limits closed low raised → blocks ≤ slice_index closed n → IsRaised blocks (n + 1) limits closed low (max raised (slice_index limits n + 1))
+pub raised_full : (blocks n low raised : ℕ) (limits closed : List ℕ) → IsRaised blocks n limits closed low raised
+    → blocks ≤ slice_index closed n → IsRaised blocks (n + 1) limits closed low (max raised (slice_index limits n + 1))
 raised_full blocks n low raised limits closed h full =
     record { no_lower = omega (arith, h.no_lower); above = above; reached = reached }
   where
@@ -31,7 +32,8 @@ raised_full blocks n low raised limits closed h full =
               subst (λ k. slice_index limits k < max raised (slice_index limits n + 1)) e (omega arith)
         ]
 
-    reached : (max raised (slice_index limits n + 1) ≡ low) ⊎ ((i : ℕ) × (i < n + 1) × (blocks ≤ slice_index closed i) × (max raised (slice_index limits n + 1) ≡ slice_index limits i + 1))
+    reached : (max raised (slice_index limits n + 1) ≡ low) ⊎
+        ((i : ℕ) × (i < n + 1) × (blocks ≤ slice_index closed i) × (max raised (slice_index limits n + 1) ≡ slice_index limits i + 1))
     reached =
         elim (cases_lt raised (slice_index limits n + 1)) [
           | inl greater ↦ inr (n, omega arith, full, omega arith)
@@ -41,7 +43,8 @@ raised_full blocks n low raised limits closed h full =
           ]
         ]
 
-pub raised_left : (blocks n low raised : ℕ) (limits closed : List ℕ) → IsRaised blocks n limits closed low raised → slice_index closed n < blocks → IsRaised blocks (n + 1) limits closed low raised
+pub raised_left : (blocks n low raised : ℕ) (limits closed : List ℕ) → IsRaised blocks n limits closed low raised
+    → slice_index closed n < blocks → IsRaised blocks (n + 1) limits closed low raised
 raised_left blocks n low raised limits closed h left =
     record { no_lower = h.no_lower; above = above; reached = reached }
   where
@@ -60,7 +63,8 @@ raised_left blocks n low raised limits closed h left =
       | inr found ↦ inr (found.0, omega (arith, found.1), found.2, found.3)
     ]
 
-pub lowered_left : (blocks n high lowered : ℕ) (limits closed : List ℕ) → IsLowered blocks n limits closed high lowered → slice_index closed n < blocks → IsLowered blocks (n + 1) limits closed high (min lowered (slice_index limits n))
+pub lowered_left : (blocks n high lowered : ℕ) (limits closed : List ℕ) → IsLowered blocks n limits closed high lowered
+    → slice_index closed n < blocks → IsLowered blocks (n + 1) limits closed high (min lowered (slice_index limits n))
 lowered_left blocks n high lowered limits closed h left =
     record { no_higher = omega (arith, h.no_higher); within = within; reached = reached }
   where
@@ -83,7 +87,8 @@ lowered_left blocks n high lowered limits closed h left =
           ]
         ]
 
-pub lowered_full : (blocks n high lowered : ℕ) (limits closed : List ℕ) → IsLowered blocks n limits closed high lowered → blocks ≤ slice_index closed n → IsLowered blocks (n + 1) limits closed high lowered
+pub lowered_full : (blocks n high lowered : ℕ) (limits closed : List ℕ) → IsLowered blocks n limits closed high lowered
+    → blocks ≤ slice_index closed n → IsLowered blocks (n + 1) limits closed high lowered
 lowered_full blocks n high lowered limits closed h full =
     record { no_higher = h.no_higher; within = within; reached = reached }
   where
@@ -108,7 +113,9 @@ stops_within xs p limit stops lesser below fit =
     stops (fit.0, fit.1, omega (arith, fit.2))
 
 -- walks to the end of the chain narrow bounds of its least bottleneck
-pub narrowed_encloses : (xs : List ℕ) (p low high raised lowered : ℕ) (limits closed : List ℕ) → 1 ≤ p → AreWalked xs p limits closed → Enclose xs p low high → IsRaised p (length limits) limits closed low raised → IsLowered p (length limits) limits closed high lowered → Enclose xs p raised lowered
+pub narrowed_encloses : (xs : List ℕ) (p low high raised lowered : ℕ) (limits closed : List ℕ) → 1 ≤ p → AreWalked xs p limits closed
+    → Enclose xs p low high → IsRaised p (length limits) limits closed low raised → IsLowered p (length limits) limits closed high lowered
+    → Enclose xs p raised lowered
 narrowed_encloses xs p low high raised lowered limits closed some walked h up down =
     record { stops = stops; fits = fits }
   where
@@ -143,7 +150,8 @@ not_all_behind numbers groups j some inside =
 more_behind : (numbers groups j : ℕ) → groups ≤ numbers → 0 < groups → numbers * (j + 1) / groups < numbers * (j + 1 + 1) / groups
 more_behind numbers groups j enough some =
     let before : numbers * (j + 1) / groups * groups ≤ numbers * (j + 1) = div-mul-le_self (numbers * (j + 1)) groups in
-    let more : numbers * (j + 1) / groups + 1 ≤ numbers * (j + 1 + 1) / groups = le-div (numbers * (j + 1) / groups + 1) (numbers * (j + 1 + 1)) groups some (omega (arith, enough, before)) in
+    let more : numbers * (j + 1) / groups + 1 ≤ numbers * (j + 1 + 1) / groups = le-div (numbers * (j + 1) / groups + 1)
+    (numbers * (j + 1 + 1)) groups some (omega (arith, enough, before)) in
     omega (arith, more)
 
 -- limits that are spread lie between the bounds
@@ -156,8 +164,19 @@ spread_between low high limits ordered few spread =
 
     below_high : (j : ℕ) → j < length limits → slice_index limits j < high
     below_high j inside =
-        omega (arith, spread j inside, not_all_behind (high - low + 1) (length limits + 1) j (omega arith) (omega arith), some_behind (high - low + 1) (length limits + 1) j (omega arith) (omega arith))
+        omega (
+          arith,
+          spread j inside,
+          not_all_behind (high - low + 1) (length limits + 1) j (omega arith) (omega arith),
+          some_behind (high - low + 1) (length limits + 1) j (omega arith) (omega arith),
+        )
 
     ascending : (j : ℕ) → j + 1 < length limits → slice_index limits j < slice_index limits (j + 1)
     ascending j inside =
-        omega (arith, spread j (omega arith), spread (j + 1) inside, more_behind (high - low + 1) (length limits + 1) j (omega arith) (omega arith), some_behind (high - low + 1) (length limits + 1) j (omega arith) (omega arith))
+        omega (
+          arith,
+          spread j (omega arith),
+          spread (j + 1) inside,
+          more_behind (high - low + 1) (length limits + 1) j (omega arith) (omega arith),
+          some_behind (high - low + 1) (length limits + 1) j (omega arith) (omega arith),
+        )

@@ -20,16 +20,19 @@ pub record RunsTo (loads runs starts : List ℕ) (upto : ℕ) : Type 0 where
 -- the runs of the parts before
 pub runs_begin : (before part runs starts : List ℕ) (first : ℕ) → length before ≡ first → AreRuns before runs starts → RunsTo (before ++ part) (runs ++ []) (starts ++ []) first
 runs_begin before part runs starts first e h =
-    subst (λ list. RunsTo (before ++ part) list (starts ++ []) first) (sym (append-nil runs)) (subst (λ list. RunsTo (before ++ part) runs list first) (sym (append-nil starts)) (record {
+    subst (λ list. RunsTo (before ++ part) list (starts ++ []) first) (sym (append-nil runs))
+    (subst (λ list. RunsTo (before ++ part) runs list first) (sym (append-nil starts)) (record {
       counted = h.counted;
       begins = h.begins;
       ends = h.ends ∙ e;
       onward = h.onward;
-      weighs = λ j inside. h.weighs j inside ∙ sym (load_front before part (slice_index starts j) (slice_index starts (j + 1)) (omega (arith, h.onward j inside)) (omega (arith, start_rises before runs starts (j + 1) (length runs) h (omega arith) (omega arith), h.ends)));
+      weighs = λ j inside. h.weighs j inside ∙ sym (load_front before part (slice_index starts j) (slice_index starts (j + 1))
+          (omega (arith, h.onward j inside)) (omega (arith, start_rises before runs starts (j + 1) (length runs) h (omega arith) (omega arith), h.ends)));
     }))
 
 -- one more run
-pub runs_more : (xs runs starts : List ℕ) (upto end weight : ℕ) → RunsTo xs runs starts upto → upto < end → weight ≡ load xs upto end → RunsTo xs (runs ++ weight ∷ []) (starts ++ end ∷ []) end
+pub runs_more : (xs runs starts : List ℕ) (upto end weight : ℕ) → RunsTo xs runs starts upto → upto < end → weight ≡ load xs upto end
+    → RunsTo xs (runs ++ weight ∷ []) (starts ++ end ∷ []) end
 runs_more xs runs starts upto end weight h onward weighs =
     record {
       counted = omega (arith, length_push runs weight, length_push starts end, h.counted);
@@ -60,7 +63,9 @@ runs_more xs runs starts upto end weight h onward weighs =
     last k same = get_or_push starts end 0 (k + 1) (omega (arith, h.counted))
 
 -- one more run of the part
-pub part_more : (before part runs starts loads ends : List ℕ) (first begin end weight : ℕ) → length before ≡ first → RunsTo (before ++ part) (runs ++ loads) (starts ++ ends) begin → first ≤ begin → begin < end → weight ≡ load part (begin - first) (end - first) → RunsTo (before ++ part) (runs ++ (loads ++ weight ∷ [])) (starts ++ (ends ++ end ∷ [])) end
+pub part_more : (before part runs starts loads ends : List ℕ) (first begin end weight : ℕ) → length before ≡ first
+    → RunsTo (before ++ part) (runs ++ loads) (starts ++ ends) begin → first ≤ begin → begin < end
+    → weight ≡ load part (begin - first) (end - first) → RunsTo (before ++ part) (runs ++ (loads ++ weight ∷ [])) (starts ++ (ends ++ end ∷ [])) end
 part_more before part runs starts loads ends first begin end weight e h from onward weighs =
     rw (← append_assoc runs loads (weight ∷ []), ← append_assoc starts ends (end ∷ [])) (runs_more (before ++ part) (runs ++ loads) (starts ++ ends) begin end weight h onward here)
   where
@@ -72,7 +77,9 @@ part_more before part runs starts loads ends first begin end weight e h from onw
 
     here : weight ≡ load (before ++ part) begin end
     here =
-        weighs ∙ sym (subst (λ n. load (before ++ part) begin n ≡ load part (begin - first) (end - first)) other (subst (λ n. load (before ++ part) n (first + (end - first)) ≡ load part (begin - first) (end - first)) one (load_next before part first (begin - first) (end - first) e (omega arith))))
+        weighs ∙ sym (subst (λ n. load (before ++ part) begin n ≡ load part (begin - first) (end - first)) other
+        (subst (λ n. load (before ++ part) n (first + (end - first)) ≡ load part (begin - first) (end - first)) one
+        (load_next before part first (begin - first) (end - first) e (omega arith))))
 
 -- the runs of all elements so far
 pub runs_end : (xs runs starts : List ℕ) (upto : ℕ) → RunsTo xs runs starts upto → upto ≡ length xs → AreRuns xs runs starts
@@ -94,12 +101,14 @@ ends_none lower upper first last =
     }
 
 -- one more end
-pub ends_more : (lower upper ends : List ℕ) (first last begin end : ℕ) → AreEnds lower upper first last begin ends → first ≤ begin → IsNextEnd lower upper begin last end → AreEnds lower upper first last end (ends ++ end ∷ [])
+pub ends_more : (lower upper ends : List ℕ) (first last begin end : ℕ) → AreEnds lower upper first last begin ends → first ≤ begin
+    → IsNextEnd lower upper begin last end → AreEnds lower upper first last end (ends ++ end ∷ [])
 ends_more lower upper ends first last begin end h from next =
     record {
       only = λ j inside. elim (cases_lt j (length ends)) [
         | inl earlier ↦ subst (EndsRun lower upper first last) (sym (get_or_append_left ends (end ∷ []) 0 j earlier)) (h.only j earlier)
-        | inr latest ↦ subst (EndsRun lower upper first last) (sym (get_or_push ends end 0 j (omega (arith, length_push ends end)))) (omega (arith, next.ends.0), next.ends.1, next.ends.2)
+        | inr latest ↦ subst (EndsRun lower upper first last) (sym (get_or_push ends end 0 j (omega (arith, length_push ends end))))
+            (omega (arith, next.ends.0), next.ends.1, next.ends.2)
       ];
       each = λ element found within. elim (cases_lt begin element) [
         | inl behind ↦
@@ -112,7 +121,8 @@ ends_more lower upper ends first last begin end h from next =
     }
 
 -- each element of a window begins a run, in the part too
-pub starts_kept : (lower upper starts ends : List ℕ) (first last : ℕ) → AreEnds lower upper first last last ends → StartWithin lower upper first starts → StartWithin lower upper last (starts ++ ends)
+pub starts_kept : (lower upper starts ends : List ℕ) (first last : ℕ) → AreEnds lower upper first last last ends
+    → StartWithin lower upper first starts → StartWithin lower upper last (starts ++ ends)
 starts_kept lower upper starts ends first last h kept element inside within =
     elim (cases_lt first element) [
       | inl behind ↦
@@ -124,7 +134,8 @@ starts_kept lower upper starts ends first last h kept element inside within =
     ]
 
 -- the first window behind an element gives the next end
-pub next_by_window : (lower upper : List ℕ) (window element last end : ℕ) → AreOrdered lower upper → IsFirstBehind upper element window → element < last → window < length lower → end ≡ min (max (slice_index lower window) (element + 1)) last → IsNextEnd lower upper element last end
+pub next_by_window : (lower upper : List ℕ) (window element last end : ℕ) → AreOrdered lower upper → IsFirstBehind upper element window
+    → element < last → window < length lower → end ≡ min (max (slice_index lower window) (element + 1)) last → IsNextEnd lower upper element last end
 next_by_window lower upper window element last end ordered first before inside end_is =
     record { ends = (omega (arith, end_is), omega (arith, end_is), place); next = next }
   where
@@ -149,7 +160,8 @@ next_by_window lower upper window element last end ordered first before inside e
     next other found = by_place other found.0 found.1 found.2
 
 -- and the end of the part is the next one where there is no such window
-pub next_at_last : (lower upper : List ℕ) (window element last : ℕ) → AreOrdered lower upper → IsFirstBehind upper element window → element < last → window ≡ length lower → IsNextEnd lower upper element last last
+pub next_at_last : (lower upper : List ℕ) (window element last : ℕ) → AreOrdered lower upper → IsFirstBehind upper element window
+    → element < last → window ≡ length lower → IsNextEnd lower upper element last last
 next_at_last lower upper window element last ordered first before none =
     record { ends = (before, omega arith, inr refl); next = next }
   where
@@ -162,12 +174,19 @@ next_at_last lower upper window element last ordered first before none =
     next other found = by_place other found.0 found.2
 
 -- the ends of all runs, by the names of the windows
-pub same_ends : (lower upper lower' upper' ends : List ℕ) (first last begin all : ℕ) → lower ≡ lower' → upper ≡ upper' → last ≡ all → begin ≡ all → AreEnds lower upper first last begin ends → AreEnds lower' upper' first all all ends
+pub same_ends : (lower upper lower' upper' ends : List ℕ) (first last begin all : ℕ) → lower ≡ lower' → upper ≡ upper' → last ≡ all
+    → begin ≡ all → AreEnds lower upper first last begin ends → AreEnds lower' upper' first all all ends
 same_ends lower upper lower' upper' ends first last begin all lower_is upper_is last_is begin_is h =
-    subst (λ list. AreEnds list upper' first all all ends) lower_is (subst (λ list. AreEnds lower list first all all ends) upper_is (subst (λ n. AreEnds lower upper first n all ends) last_is (subst (λ n. AreEnds lower upper first last n ends) begin_is h)))
+    subst (λ list. AreEnds list upper' first all all ends) lower_is
+    (subst (λ list. AreEnds lower list first all all ends) upper_is
+    (subst (λ n. AreEnds lower upper first n all ends) last_is (subst (λ n. AreEnds lower upper first last n ends) begin_is h)))
 
 -- the runs of a part, by other names of the part and its windows
-pub runs_within : (part loads : List ℕ) (first : ℕ) (windows : WindowBounds) (lower upper runs ends : List ℕ) → part ≡ loads → windows ≡ record { lower = lower; upper = upper } → length runs ≡ length ends → RunOn part first runs ends → AreEnds windows.lower windows.upper first (first + length part) (first + length part) ends → KeepsStarts windows.lower windows.upper first (first + length part) ends → AreRunsWithin loads first lower upper runs ends
+pub runs_within : (part loads : List ℕ) (first : ℕ) (windows : WindowBounds) (lower upper runs ends : List ℕ) → part ≡ loads
+    → windows ≡ record { lower = lower; upper = upper } → length runs ≡ length ends → RunOn part first runs ends
+    → AreEnds windows.lower windows.upper first (first + length part) (first + length part) ends
+    → KeepsStarts windows.lower windows.upper first (first + length part) ends → AreRunsWithin loads first lower upper runs ends
 runs_within part loads first windows lower upper runs ends part_is windows_are paired run_on ends_at kept =
     let found : AreRunsWithin part first windows.lower windows.upper runs ends = record { paired = paired; run_on = run_on; ends_at = ends_at; kept = kept } in
-    subst (λ (w : WindowBounds). AreRunsWithin loads first w.lower w.upper runs ends) windows_are (subst (λ l. AreRunsWithin l first windows.lower windows.upper runs ends) part_is found)
+    subst (λ (w : WindowBounds). AreRunsWithin loads first w.lower w.upper runs ends) windows_are
+    (subst (λ l. AreRunsWithin l first windows.lower windows.upper runs ends) part_is found)

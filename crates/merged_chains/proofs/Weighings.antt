@@ -13,7 +13,8 @@ use Rattle.lb_certificates.proofs.NoFlaws.{first_by_number}
 use Rattle.merged_chains.specs.Weights.{HasWeightFlaw, HoldsBy, IsFirstLighter, IsWeighed, IsWeighedFence, NoneHeavy, NoneLighter}
 
 -- two facts about a floor that exclude each other at either kind
-floors_apart : {A : Type 0} (floor : Floor A) (zero₁ zero₂ : Type 0) (fence₁ fence₂ : List ℕ → Type 0) → (zero₁ → zero₂ → ⊥) → ((s : List ℕ) → fence₁ s → fence₂ s → ⊥) → MatchFloor floor zero₁ fence₁ → MatchFloor floor zero₂ fence₂ → ⊥
+floors_apart : {A : Type 0} (floor : Floor A) (zero₁ zero₂ : Type 0) (fence₁ fence₂ : List ℕ → Type 0) → (zero₁ → zero₂ → ⊥)
+    → ((s : List ℕ) → fence₁ s → fence₂ s → ⊥) → MatchFloor floor zero₁ fence₁ → MatchFloor floor zero₂ fence₂ → ⊥
 floors_apart Zero zero₁ zero₂ fence₁ fence₂ at_zero at_fence one other = at_zero one other
 floors_apart (Fence s) zero₁ zero₂ fence₁ fence₂ at_zero at_fence one other = at_fence s one other
 
@@ -39,7 +40,8 @@ flawless all p bl fl d h ZeroFloor flawed =
 flawless all p bl fl d h _ flawed = flawed
 
 -- it gets no answer that names a flaw
-pub ok_where_weighed : {A T : Type 0} (all p : ℕ) (bl fl : List ℕ) (d : Division A) (answer : Result T Flaw) → IfErr answer (IsFirst (HasWeightFlaw all p d bl fl)) → IsWeighed all p d bl fl → IsOk answer
+pub ok_where_weighed : {A T : Type 0} (all p : ℕ) (bl fl : List ℕ) (d : Division A) (answer : Result T Flaw)
+    → IfErr answer (IsFirst (HasWeightFlaw all p d bl fl)) → IsWeighed all p d bl fl → IsOk answer
 ok_where_weighed all p bl fl d (Ok _) first weighed = refl
 ok_where_weighed all p bl fl d (Err flaw) first weighed = absurd (flawless all p bl fl d weighed flaw first.applies_itself)
 
@@ -51,12 +53,16 @@ of_fence : {A : Type 0} (floor : Floor A) (s : List ℕ) (at_zero : Type 0) (at_
 of_fence floor s at_zero at_fence e m = subst (λ f. MatchFloor f at_zero at_fence) (sym e) m
 
 -- a fence with no light range holds
-pub fence_holds : {A : Type 0} (all p bottleneck : ℕ) (fl : List ℕ) (floor : Floor A) (s : List ℕ) → floor ≡ Fence s → length s ≡ p + 1 → slice_index s 0 ≡ 0 → IsNonDecreasing s → slice_index s p < all → NoneLighter fl p bottleneck → HoldsBy all p bottleneck fl floor
+pub fence_holds : {A : Type 0} (all p bottleneck : ℕ) (fl : List ℕ) (floor : Floor A) (s : List ℕ) → floor ≡ Fence s → length s ≡ p + 1
+    → slice_index s 0 ≡ 0 → IsNonDecreasing s → slice_index s p < all → NoneLighter fl p bottleneck → HoldsBy all p bottleneck fl floor
 fence_holds all p bottleneck fl floor s e counted starts ordered ends heavy =
     of_fence floor s (bottleneck ≡ 0) (IsWeighedFence all p bottleneck fl) e (record { counted = counted; starts = starts; ordered = ordered; ends = ends; heavy = heavy })
 
 -- no flaw with a number below n applies, where all that these flaws are about is right
-nothing_before : {A : Type 0} (all p : ℕ) (bl fl : List ℕ) (d : Division A) (s : List ℕ) (number : ℕ) → IsDivision 0 all p d.cuts → NoneHeavy bl p d.bottleneck → d.floor ≡ Fence s → number ≤ 10 → (6 < number → length s ≡ p + 1) → (7 < number → slice_index s 0 ≡ 0) → (8 < number → IsNonDecreasing s) → (9 < number → slice_index s p < all) → (other : Flaw) → flaw_number other < number → ¬ (HasWeightFlaw all p d bl fl other)
+nothing_before : {A : Type 0} (all p : ℕ) (bl fl : List ℕ) (d : Division A) (s : List ℕ) (number : ℕ) → IsDivision 0 all p d.cuts
+    → NoneHeavy bl p d.bottleneck → d.floor ≡ Fence s → number ≤ 10 → (6 < number → length s ≡ p + 1) → (7 < number → slice_index s 0 ≡ 0)
+    → (8 < number → IsNonDecreasing s) → (9 < number → slice_index s p < all) → (other : Flaw) → flaw_number other < number
+    → ¬ (HasWeightFlaw all p d bl fl other)
 nothing_before all p bl fl d s number division within e few counted starts ordered ends CutCount h flawed = flawed division.counted
 nothing_before all p bl fl d s number division within e few counted starts ordered ends CutStart h flawed = flawed division.starts
 nothing_before all p bl fl d s number division within e few counted starts ordered ends CutOrder h (k, inside, falls) =
@@ -76,7 +82,8 @@ nothing_before all p bl fl d s number division within e few counted starts order
 nothing_before all p bl fl d s number division within e few counted starts ordered ends _ h flawed = absurd (omega arith)
 
 -- a last cut other than the number of elements is the first flaw, where the cuts are right but for that
-pub cut_end_is_first : {A : Type 0} (all p : ℕ) (bl fl : List ℕ) (d : Division A) → length d.cuts ≡ p + 1 → slice_index d.cuts 0 ≡ 0 → IsNonDecreasing d.cuts → slice_index d.cuts p ≢ all → IsFirst (HasWeightFlaw all p d bl fl) CutEnd
+pub cut_end_is_first : {A : Type 0} (all p : ℕ) (bl fl : List ℕ) (d : Division A) → length d.cuts ≡ p + 1 → slice_index d.cuts 0 ≡ 0
+    → IsNonDecreasing d.cuts → slice_index d.cuts p ≢ all → IsFirst (HasWeightFlaw all p d bl fl) CutEnd
 cut_end_is_first all p bl fl d counted starts ordered wrong =
     first_by_number (HasWeightFlaw all p d bl fl) CutEnd refl wrong lower
   where
@@ -87,7 +94,8 @@ cut_end_is_first all p bl fl d counted starts ordered wrong =
     lower _ h flawed = absurd (omega arith)
 
 -- a block above the bottleneck is the first flaw, where the cuts and the blocks before it are right
-pub heavy_is_first : {A : Type 0} (all p : ℕ) (bl fl : List ℕ) (d : Division A) (b : ℕ) → IsDivision 0 all p d.cuts → NoneHeavy bl b d.bottleneck → b < p → d.bottleneck < slice_index bl b → IsFirst (HasWeightFlaw all p d bl fl) (Heavy b)
+pub heavy_is_first : {A : Type 0} (all p : ℕ) (bl fl : List ℕ) (d : Division A) (b : ℕ) → IsDivision 0 all p d.cuts
+    → NoneHeavy bl b d.bottleneck → b < p → d.bottleneck < slice_index bl b → IsFirst (HasWeightFlaw all p d bl fl) (Heavy b)
 heavy_is_first {A} all p bl fl d b division before inside heavy =
     record {
       applies_itself = (inside, heavy);
@@ -109,7 +117,8 @@ heavy_is_first {A} all p bl fl d b division before inside heavy =
     earlier _ same lower flawed = absurd (omega arith)
 
 -- a floor of 0 under a bottleneck other than 0 is the first flaw, where cuts and blocks are right
-pub zero_is_first : {A : Type 0} (all p : ℕ) (bl fl : List ℕ) (d : Division A) → IsDivision 0 all p d.cuts → NoneHeavy bl p d.bottleneck → d.floor ≡ Zero → d.bottleneck ≢ 0 → IsFirst (HasWeightFlaw all p d bl fl) ZeroFloor
+pub zero_is_first : {A : Type 0} (all p : ℕ) (bl fl : List ℕ) (d : Division A) → IsDivision 0 all p d.cuts → NoneHeavy bl p d.bottleneck
+    → d.floor ≡ Zero → d.bottleneck ≢ 0 → IsFirst (HasWeightFlaw all p d bl fl) ZeroFloor
 zero_is_first {A} all p bl fl d division within e wrong =
     first_by_number (HasWeightFlaw all p d bl fl) ZeroFloor refl (subst (λ f. MatchFloor f (d.bottleneck ≢ 0) (λ _. ⊥)) (sym e) wrong) lower
   where
@@ -132,23 +141,37 @@ zero_is_first {A} all p bl fl d division within e wrong =
     lower _ h flawed = absurd (omega arith)
 
 -- each flaw of a fence is the first, where all that is looked at before it is right
-pub count_is_first : {A : Type 0} (all p : ℕ) (bl fl : List ℕ) (d : Division A) (s : List ℕ) → IsDivision 0 all p d.cuts → NoneHeavy bl p d.bottleneck → d.floor ≡ Fence s → length s ≢ p + 1 → IsFirst (HasWeightFlaw all p d bl fl) FenceCount
+pub count_is_first : {A : Type 0} (all p : ℕ) (bl fl : List ℕ) (d : Division A) (s : List ℕ) → IsDivision 0 all p d.cuts
+    → NoneHeavy bl p d.bottleneck → d.floor ≡ Fence s → length s ≢ p + 1 → IsFirst (HasWeightFlaw all p d bl fl) FenceCount
 count_is_first all p bl fl d s division within e wrong =
-    first_by_number (HasWeightFlaw all p d bl fl) FenceCount refl (of_fence d.floor s ⊥ (λ s. length s ≢ p + 1) e wrong) (nothing_before all p bl fl d s 6 division within e (omega arith) (λ h. absurd (omega (arith, h))) (λ h. absurd (omega (arith, h))) (λ h. absurd (omega (arith, h))) (λ h. absurd (omega (arith, h))))
+    first_by_number (HasWeightFlaw all p d bl fl) FenceCount refl (of_fence d.floor s ⊥ (λ s. length s ≢ p + 1) e wrong)
+    (nothing_before all p bl fl d s 6 division within e (omega arith) (λ h. absurd (omega (arith, h))) (λ h. absurd (omega (arith, h)))
+    (λ h. absurd (omega (arith, h))) (λ h. absurd (omega (arith, h))))
 
-pub start_is_first : {A : Type 0} (all p : ℕ) (bl fl : List ℕ) (d : Division A) (s : List ℕ) → IsDivision 0 all p d.cuts → NoneHeavy bl p d.bottleneck → d.floor ≡ Fence s → length s ≡ p + 1 → slice_index s 0 ≢ 0 → IsFirst (HasWeightFlaw all p d bl fl) FenceStart
+pub start_is_first : {A : Type 0} (all p : ℕ) (bl fl : List ℕ) (d : Division A) (s : List ℕ) → IsDivision 0 all p d.cuts
+    → NoneHeavy bl p d.bottleneck → d.floor ≡ Fence s → length s ≡ p + 1 → slice_index s 0 ≢ 0 → IsFirst (HasWeightFlaw all p d bl fl) FenceStart
 start_is_first all p bl fl d s division within e counted wrong =
-    first_by_number (HasWeightFlaw all p d bl fl) FenceStart refl (of_fence d.floor s ⊥ (λ s. slice_index s 0 ≢ 0) e wrong) (nothing_before all p bl fl d s 7 division within e (omega arith) (λ h. counted) (λ h. absurd (omega (arith, h))) (λ h. absurd (omega (arith, h))) (λ h. absurd (omega (arith, h))))
+    first_by_number (HasWeightFlaw all p d bl fl) FenceStart refl (of_fence d.floor s ⊥ (λ s. slice_index s 0 ≢ 0) e wrong)
+    (nothing_before all p bl fl d s 7 division within e (omega arith) (λ h. counted) (λ h. absurd (omega (arith, h)))
+    (λ h. absurd (omega (arith, h))) (λ h. absurd (omega (arith, h))))
 
-pub order_is_first : {A : Type 0} (all p : ℕ) (bl fl : List ℕ) (d : Division A) (s : List ℕ) → IsDivision 0 all p d.cuts → NoneHeavy bl p d.bottleneck → d.floor ≡ Fence s → length s ≡ p + 1 → slice_index s 0 ≡ 0 → Falls s → IsFirst (HasWeightFlaw all p d bl fl) FenceOrder
+pub order_is_first : {A : Type 0} (all p : ℕ) (bl fl : List ℕ) (d : Division A) (s : List ℕ) → IsDivision 0 all p d.cuts
+    → NoneHeavy bl p d.bottleneck → d.floor ≡ Fence s → length s ≡ p + 1 → slice_index s 0 ≡ 0 → Falls s → IsFirst (HasWeightFlaw all p d bl fl) FenceOrder
 order_is_first all p bl fl d s division within e counted starts wrong =
-    first_by_number (HasWeightFlaw all p d bl fl) FenceOrder refl (of_fence d.floor s ⊥ Falls e wrong) (nothing_before all p bl fl d s 8 division within e (omega arith) (λ h. counted) (λ h. starts) (λ h. absurd (omega (arith, h))) (λ h. absurd (omega (arith, h))))
+    first_by_number (HasWeightFlaw all p d bl fl) FenceOrder refl (of_fence d.floor s ⊥ Falls e wrong)
+    (nothing_before all p bl fl d s 8 division within e (omega arith) (λ h. counted) (λ h. starts) (λ h. absurd (omega (arith, h)))
+    (λ h. absurd (omega (arith, h))))
 
-pub end_is_first : {A : Type 0} (all p : ℕ) (bl fl : List ℕ) (d : Division A) (s : List ℕ) → IsDivision 0 all p d.cuts → NoneHeavy bl p d.bottleneck → d.floor ≡ Fence s → length s ≡ p + 1 → slice_index s 0 ≡ 0 → IsNonDecreasing s → all ≤ slice_index s p → IsFirst (HasWeightFlaw all p d bl fl) FenceEnd
+pub end_is_first : {A : Type 0} (all p : ℕ) (bl fl : List ℕ) (d : Division A) (s : List ℕ) → IsDivision 0 all p d.cuts
+    → NoneHeavy bl p d.bottleneck → d.floor ≡ Fence s → length s ≡ p + 1 → slice_index s 0 ≡ 0 → IsNonDecreasing s → all ≤ slice_index s p
+    → IsFirst (HasWeightFlaw all p d bl fl) FenceEnd
 end_is_first all p bl fl d s division within e counted starts ordered wrong =
-    first_by_number (HasWeightFlaw all p d bl fl) FenceEnd refl (of_fence d.floor s ⊥ (λ s. all ≤ slice_index s p) e wrong) (nothing_before all p bl fl d s 9 division within e (omega arith) (λ h. counted) (λ h. starts) (λ h. ordered) (λ h. absurd (omega (arith, h))))
+    first_by_number (HasWeightFlaw all p d bl fl) FenceEnd refl (of_fence d.floor s ⊥ (λ s. all ≤ slice_index s p) e wrong)
+    (nothing_before all p bl fl d s 9 division within e (omega arith) (λ h. counted) (λ h. starts) (λ h. ordered) (λ h. absurd (omega (arith, h))))
 
-pub light_is_first : {A : Type 0} (all p : ℕ) (bl fl : List ℕ) (d : Division A) (s : List ℕ) (i : ℕ) → IsDivision 0 all p d.cuts → NoneHeavy bl p d.bottleneck → d.floor ≡ Fence s → length s ≡ p + 1 → slice_index s 0 ≡ 0 → IsNonDecreasing s → slice_index s p < all → IsFirstLighter fl p d.bottleneck i → IsFirst (HasWeightFlaw all p d bl fl) (FenceLight i)
+pub light_is_first : {A : Type 0} (all p : ℕ) (bl fl : List ℕ) (d : Division A) (s : List ℕ) (i : ℕ) → IsDivision 0 all p d.cuts
+    → NoneHeavy bl p d.bottleneck → d.floor ≡ Fence s → length s ≡ p + 1 → slice_index s 0 ≡ 0 → IsNonDecreasing s → slice_index s p < all
+    → IsFirstLighter fl p d.bottleneck i → IsFirst (HasWeightFlaw all p d bl fl) (FenceLight i)
 light_is_first {A} all p bl fl d s i division within e counted starts ordered ends first =
     record {
       applies_itself = of_fence d.floor s ⊥ (λ s. (0 < i) × (i ≤ p) × (slice_index fl (i - 1) < d.bottleneck)) e (first.positive, first.inside, first.light);
@@ -159,16 +182,19 @@ light_is_first {A} all p bl fl d s i division within e counted starts ordered en
     earlier : (other : Flaw) → flaw_number other ≡ 10 → IsBefore (flaw_place other) (i, 0) → ¬ (HasWeightFlaw all p d bl fl other)
     earlier (FenceLight j) same (inr tied) flawed = absurd (omega (arith, tied.1))
     earlier (FenceLight j) same (inl lower) flawed =
-        let light : (0 < j) × (j ≤ p) × (slice_index fl (j - 1) < d.bottleneck) = to_fence d.floor s ⊥ (λ s. (0 < j) × (j ≤ p) × (slice_index fl (j - 1) < d.bottleneck)) e flawed in
+        let light : (0 < j) × (j ≤ p) × (slice_index fl (j - 1) < d.bottleneck) = to_fence d.floor s ⊥
+        (λ s. (0 < j) × (j ≤ p) × (slice_index fl (j - 1) < d.bottleneck)) e flawed in
         absurd (omega (arith, light.2, first.earlier j light.0 (omega arith)))
     earlier _ same lower flawed = absurd (omega arith)
 
-weighed_where_ok : {A T : Type 0} (all p : ℕ) (bl fl : List ℕ) (d : Division A) (answer : Result T Flaw) → OnOk answer (IsWeighed all p d bl fl) → IsOk answer → IsWeighed all p d bl fl
+weighed_where_ok : {A T : Type 0} (all p : ℕ) (bl fl : List ℕ) (d : Division A) (answer : Result T Flaw)
+    → OnOk answer (IsWeighed all p d bl fl) → IsOk answer → IsWeighed all p d bl fl
 weighed_where_ok all p bl fl d (Ok _) weighed accepted = weighed
 weighed_where_ok all p bl fl d (Err _) weighed accepted = absurd cc
 
 -- an answer that accepts says that the numbers certify the division, and no other does
-pub exact_answer : {A T : Type 0} (all p : ℕ) (bl fl : List ℕ) (d : Division A) (answer : Result T Flaw) → OnOk answer (IsWeighed all p d bl fl) → IfErr answer (IsFirst (HasWeightFlaw all p d bl fl)) → IsOk answer ↔ IsWeighed all p d bl fl
+pub exact_answer : {A T : Type 0} (all p : ℕ) (bl fl : List ℕ) (d : Division A) (answer : Result T Flaw)
+    → OnOk answer (IsWeighed all p d bl fl) → IfErr answer (IsFirst (HasWeightFlaw all p d bl fl)) → IsOk answer ↔ IsWeighed all p d bl fl
 exact_answer all p bl fl d answer weighed first = (
   weighed_where_ok all p bl fl d answer weighed,
   ok_where_weighed all p bl fl d answer first,

@@ -11,7 +11,8 @@ walk_at limits closed filled i =
 -- walks within these limits have come to the end of the chain, and closed these numbers of blocks
 abbrev pub AreWalked : List ℕ → ℕ → List ℕ → List ℕ → Type 0
 AreWalked loads blocks limits closed =
-    (i : ℕ) → i < length limits → (filled : ℕ) × (ends : List ℕ) × IsWalked loads blocks ends (record { limit = slice_index limits i; closed = slice_index closed i; filled = filled })
+    (i : ℕ) → i < length limits → (filled : ℕ) × (ends : List ℕ)
+    × IsWalked loads blocks ends (record { limit = slice_index limits i; closed = slice_index closed i; filled = filled })
 
 -- The lower bound, raised by the first n limits: it is above each within which all blocks were closed, and it is the old one,
 -- or one above such a limit.

@@ -49,7 +49,9 @@ abbrev pub NextWeighs : {A : Type 0} → List ℕ → List ℕ → ℕ → Divis
 NextWeighs before part blocks d =
     (blocks_before fence_before blocks_here fence_here : List ℕ) →
     AreWeights before blocks d blocks_before fence_before →
-    ArePartWeights part (length before) blocks d blocks_here fence_here → (block_sums fence_sums : List ℕ) → AreSums blocks blocks_before blocks_here block_sums → AreSums blocks fence_before fence_here fence_sums → AreWeights (before ++ part) blocks d block_sums fence_sums
+    ArePartWeights part (length before) blocks d blocks_here fence_here → (block_sums fence_sums : List ℕ)
+    → AreSums blocks blocks_before blocks_here block_sums → AreSums blocks fence_before fence_here fence_sums
+    → AreWeights (before ++ part) blocks d block_sums fence_sums
 
 -- no number of the first n is above the bottleneck
 abbrev pub NoneHeavy : List ℕ → ℕ → ℕ → Type 0

@@ -60,7 +60,12 @@ clamped_divides loads sizes names present limit near far cuts h divides =
       starts = omega (arith, clamped_at blocks near far cuts 0 (omega arith), divides.starts, h.bounds.near_divides.starts);
       ordered = IsNonDecreasingBy-from_default (λ x. x) (clamped blocks near far cuts) 0 (λ i j onward inside.
           let last : j ≤ blocks = omega (arith, inside, counted) in
-          omega (arith, clamped_at blocks near far cuts i (omega (arith, onward, last)), clamped_at blocks near far cuts j last, clamp_rises loads sizes names present limit near far cuts i j h divides onward last));
+          omega (
+            arith,
+            clamped_at blocks near far cuts i (omega (arith, onward, last)),
+            clamped_at blocks near far cuts j last,
+            clamp_rises loads sizes names present limit near far cuts i j h divides onward last,
+          ));
       ends = omega (
         arith,
         clamped_at blocks near far cuts blocks (omega arith),
@@ -77,15 +82,31 @@ clamp_light : (loads : List ℕ) (sizes : List (ℕ × ℕ)) (names present : Li
 clamp_light loads sizes names present limit near far cuts b h within inside =
     let here : slice_index near b ≤ slice_index far b = omega (arith, h.bounds.near_before b (omega arith), h.bounds.far_behind b (omega arith)) in
     let next : slice_index near (b + 1) ≤ slice_index far (b + 1) = omega (arith, h.bounds.near_before (b + 1) (omega arith), h.bounds.far_behind (b + 1) (omega arith)) in
-    let rises : clamp near far cuts b ≤ clamp near far cuts (b + 1) = clamp_rises loads sizes names present limit near far cuts b (b + 1) h within.divides (omega arith) (omega arith) in
+    let rises : clamp near far cuts b ≤ clamp near far cuts (b + 1) = clamp_rises loads sizes names present limit near far cuts b (b + 1) h
+    within.divides (omega arith) (omega arith) in
     elim (cases_lt (slice_index near (b + 1)) (slice_index cuts (b + 1))) [
       | inr early ↦
-          omega (arith, h.bounds.near_within b inside, load_wider loads (clamp near far cuts b) (clamp near far cuts (b + 1)) (slice_index near b) (slice_index near (b + 1)) (omega arith) rises (omega (arith, early, next)))
+          omega (
+            arith,
+            h.bounds.near_within b inside,
+            load_wider loads (clamp near far cuts b) (clamp near far cuts (b + 1))
+                (slice_index near b) (slice_index near (b + 1)) (omega arith) rises (omega (arith, early, next)),
+          )
       | inl behind ↦ elim (cases_lt (slice_index far b) (slice_index cuts b)) [
         | inl late ↦
-            omega (arith, h.bounds.far_within b inside, load_wider loads (clamp near far cuts b) (clamp near far cuts (b + 1)) (slice_index far b) (slice_index far (b + 1)) (omega (arith, late)) rises (omega (arith, next)))
+            omega (
+              arith,
+              h.bounds.far_within b inside,
+              load_wider loads (clamp near far cuts b) (clamp near far cuts (b + 1))
+                  (slice_index far b) (slice_index far (b + 1)) (omega (arith, late)) rises (omega (arith, next)),
+            )
         | inr before ↦
-            omega (arith, within.within b inside, load_wider loads (clamp near far cuts b) (clamp near far cuts (b + 1)) (slice_index cuts b) (slice_index cuts (b + 1)) (omega (arith, before)) rises (omega (arith, behind)))
+            omega (
+              arith,
+              within.within b inside,
+              load_wider loads (clamp near far cuts b) (clamp near far cuts (b + 1))
+                  (slice_index cuts b) (slice_index cuts (b + 1)) (omega (arith, before)) rises (omega (arith, behind)),
+            )
       ]
     ]
 
@@ -97,7 +118,8 @@ clamped_within loads sizes names present limit near far cuts h within =
     record {
       divides = clamped_divides loads sizes names present limit near far cuts h within.divides;
       within = λ b inside.
-          rw (clamped_at (length names) near far cuts b (omega arith), clamped_at (length names) near far cuts (b + 1) (omega arith)) (clamp_light loads sizes names present limit near far cuts b h within inside);
+          rw (clamped_at (length names) near far cuts b (omega arith), clamped_at (length names) near far cuts (b + 1) (omega arith))
+          (clamp_light loads sizes names present limit near far cuts b h within inside);
     }
 
 clamp_cheaper : (loads : List ℕ) (sizes : List (ℕ × ℕ)) (names present : List ℕ) (limit : ℕ) (near far cuts : List ℕ) (b : ℕ)
@@ -112,11 +134,15 @@ clamp_cheaper loads sizes names present limit near far cuts b h divides inside =
     elim (cases_lt cut (slice_index near (b + 1))) [
       | inl early ↦
           let same : slice_index near (b + 1) ≡ clamp near far cuts (b + 1) = omega (arith, early, before, behind) in
-          subst (λ x. cut_cost sizes names b x ≤ cut_cost sizes names b cut) same (cost_falls sizes names present b cut (slice_index near (b + 1)) (h.apart b inside) (omega (arith, early)) before (omega (arith, present_in, h.paired)))
+          subst (λ x. cut_cost sizes names b x ≤ cut_cost sizes names b cut) same
+          (cost_falls sizes names present b cut (slice_index near (b + 1)) (h.apart b inside) (omega (arith, early)) before
+          (omega (arith, present_in, h.paired)))
       | inr on ↦ elim (cases_lt (slice_index far (b + 1)) cut) [
         | inl late ↦
             let same : slice_index far (b + 1) ≡ clamp near far cuts (b + 1) = omega (arith, late, before, behind) in
-            subst (λ x. cut_cost sizes names b x ≤ cut_cost sizes names b cut) same (cost_rises sizes names present b (slice_index far (b + 1)) cut (h.apart b inside) behind (omega (arith, late)) (omega (arith, cut_in, h.paired)))
+            subst (λ x. cut_cost sizes names b x ≤ cut_cost sizes names b cut) same
+            (cost_rises sizes names present b (slice_index far (b + 1)) cut (h.apart b inside) behind (omega (arith, late))
+            (omega (arith, cut_in, h.paired)))
         | inr within ↦
             let same : cut ≡ clamp near far cuts (b + 1) = omega (arith, on, within) in
             subst (λ x. cut_cost sizes names b x ≤ cut_cost sizes names b cut) same (omega arith)
@@ -130,10 +156,13 @@ pub clamped_cheaper : (loads : List ℕ) (sizes : List (ℕ × ℕ)) (names pres
 clamped_cheaper loads sizes names present limit near far cuts h divides =
     let bounded : List ℕ = clamped (length names) near far cuts in
     let costs = total_le (length names - 1) (λ b. cut_cost sizes names b (slice_index bounded (b + 1))) (λ b. cut_cost sizes names b (slice_index cuts (b + 1))) (λ b inside.
-    subst (λ x. cut_cost sizes names b x ≤ cut_cost sizes names b (slice_index cuts (b + 1))) (sym (clamped_at (length names) near far cuts (b + 1) (omega arith))) (clamp_cheaper loads sizes names present limit near far cuts b h divides (omega arith))) in
+    subst (λ x. cut_cost sizes names b x ≤ cut_cost sizes names b (slice_index cuts (b + 1)))
+    (sym (clamped_at (length names) near far cuts (b + 1) (omega arith)))
+    (clamp_cheaper loads sizes names present limit near far cuts b h divides (omega arith))) in
     omega (
       arith,
       costs,
       moved_by_cuts sizes names cuts h.some_block (subst (λ n. IsDivision 0 n (length names) cuts) (sym h.paired) divides),
-      moved_by_cuts sizes names bounded h.some_block (subst (λ n. IsDivision 0 n (length names) bounded) (sym h.paired) (clamped_divides loads sizes names present limit near far cuts h divides)),
+      moved_by_cuts sizes names bounded h.some_block (subst (λ n. IsDivision 0 n (length names) bounded) (sym h.paired)
+          (clamped_divides loads sizes names present limit near far cuts h divides)),
     )

@@ -45,7 +45,8 @@ bounded m h =
       paired = sizes_counted m.bytes m.present ∙ h.paired;
       some_block = omega (arith, names_counted m.ranks, h.some_block);
       divides = subst (λ n. IsDivision 0 (length m.loads) n m.present) (sym (names_counted m.ranks)) h.divides;
-      apart = λ b inside. apart_from_order (sizes m) (names m) m.present b (subst (λ n. IsNaming n (names m)) (sym (names_counted m.ranks)) (names_differ m.ranks)) (stand_in_order m.bytes m.present m.ranks by_bytes) inside;
+      apart = λ b inside. apart_from_order (sizes m) (names m) m.present b
+          (subst (λ n. IsNaming n (names m)) (sym (names_counted m.ranks)) (names_differ m.ranks)) (stand_in_order m.bytes m.present m.ranks by_bytes) inside;
       bounds = subst (λ n. AreBounds m.loads m.present n m.limit h.near h.far) (sym (names_counted m.ranks)) h.bounds;
     }
 
@@ -58,7 +59,11 @@ moved_same : (m : Merging) (cuts : List ℕ) → IsMerging m → AreWithin m.run
     → AreWithin m.loads (names m) m.limit (unmerged m.starts cuts)
     → bytes_moved (sizes m) (unmerged m.starts cuts) (names m) ≡ bytes_moved (run_sizes m) cuts (names m)
 moved_same m cuts h short long =
-    same_moved m.bytes m.run_bytes m.starts m.present m.standing cuts (names m) m.ranks h.runs_hold (subst (λ n. IsDivision 0 n m.ranks m.present) (sym h.paired) h.divides) (subst (λ n. IsDivision 0 n m.ranks m.standing) (sym (same_runs m h)) h.standing_divides) h.standing_is (subst (λ n. IsDivision 0 n (length (names m)) cuts) (sym (same_runs m h)) short.divides) (subst (λ n. IsDivision 0 n (length (names m)) (unmerged m.starts cuts)) (sym h.paired) long.divides)
+    same_moved m.bytes m.run_bytes m.starts m.present m.standing cuts (names m) m.ranks h.runs_hold
+    (subst (λ n. IsDivision 0 n m.ranks m.present) (sym h.paired) h.divides)
+    (subst (λ n. IsDivision 0 n m.ranks m.standing) (sym (same_runs m h)) h.standing_divides) h.standing_is
+    (subst (λ n. IsDivision 0 n (length (names m)) cuts) (sym (same_runs m h)) short.divides)
+    (subst (λ n. IsDivision 0 n (length (names m)) (unmerged m.starts cuts)) (sym h.paired) long.divides)
 
 -- cuts of the merged chain that start where these ones do, once they are moved to the bounds
 record AreMoved (m : Merging) (near far others found : List ℕ) : Type 0 where
@@ -134,15 +139,20 @@ same_behind : (m : Merging) (h : IsMerging m) (cuts others found : List ℕ) (k 
     → (k < length (names m) → IsBetween h.near h.far (unmerged m.starts cuts) k) → slice_index found k ≡ slice_index cuts k
 same_behind m h cuts others found k within moved some inside same between =
     let count : length (names m) ≡ m.ranks = names_counted m.ranks in
-    let at_found : slice_index (unmerged m.starts found) k ≡ slice_index m.starts (slice_index found k) = unmerged_at m.starts found k (omega (arith, moved.within.divides.counted)) in
+    let at_found : slice_index (unmerged m.starts found) k ≡ slice_index m.starts (slice_index found k) = unmerged_at m.starts found k
+    (omega (arith, moved.within.divides.counted)) in
     let at_cuts : slice_index (unmerged m.starts cuts) k ≡ slice_index m.starts (slice_index cuts k) = unmerged_at m.starts cuts k (omega (arith, within.divides.counted)) in
-    let moved_to : slice_index (unmerged m.starts found) k ≡ clamp h.near h.far others k = ap (λ list. slice_index list k) moved.same ∙ clamped_at (length (names m)) h.near h.far others k inside in
-    let found_in : slice_index found k ≤ length m.runs = omega (arith, moved.within.divides.ordered k (length (names m)) 0 inside (omega (arith, moved.within.divides.counted)), moved.within.divides.ends) in
-    let cut_in : slice_index cuts k ≤ length m.runs = omega (arith, within.divides.ordered k (length (names m)) 0 inside (omega (arith, within.divides.counted)), within.divides.ends) in
+    let moved_to : slice_index (unmerged m.starts found) k ≡ clamp h.near h.far others k = ap (λ list. slice_index list k) moved.same
+    ∙ clamped_at (length (names m)) h.near h.far others k inside in
+    let found_in : slice_index found k ≤ length m.runs = omega
+    (arith, moved.within.divides.ordered k (length (names m)) 0 inside (omega (arith, moved.within.divides.counted)), moved.within.divides.ends) in
+    let cut_in : slice_index cuts k ≤ length m.runs = omega
+    (arith, within.divides.ordered k (length (names m)) 0 inside (omega (arith, within.divides.counted)), within.divides.ends) in
     elim (cases_lt k (length (names m))) [
       | inl inner ↦
           let here = between inner in
-          same_run m.loads m.runs m.starts (slice_index found k) (slice_index cuts k) h.runs_weigh found_in cut_in (omega (arith, at_found, at_cuts, moved_to, same, here.0, here.1))
+          same_run m.loads m.runs m.starts (slice_index found k) (slice_index cuts k) h.runs_weigh found_in cut_in
+          (omega (arith, at_found, at_cuts, moved_to, same, here.0, here.1))
       | inr end ↦
           let last : k ≡ length (names m) = omega (arith, end, inside) in
           ap (slice_index found) last ∙ moved.within.divides.ends ∙ sym (ap (slice_index cuts) last ∙ within.divides.ends)
@@ -162,12 +172,18 @@ between_at m h cuts others b one other inside same between =
     let cuts_within = one.fewest.within in
     let behind : (k : ℕ) → b < k → k ≤ length (names m) → slice_index list k ≡ slice_index cuts k = λ k after within.
     same_behind m h cuts others list k cuts_within moved (omega (arith, after)) within (same k after within) (λ inner. between k after inner) in
-    let near : LiesBetween (slice_index m.standing b) (slice_index cuts b) (slice_index list b) = one.nearest list b (fewest_back m h.near h.far others list h other moved) inside behind in
-    let at_present : slice_index m.present b ≡ slice_index m.starts (slice_index m.standing b) = ap (λ cuts. slice_index cuts b) h.standing_is ∙ unmerged_at m.starts m.standing b (omega (arith, h.standing_divides.counted, count)) in
+    let near : LiesBetween (slice_index m.standing b) (slice_index cuts b) (slice_index list b) = one.nearest list b
+    (fewest_back m h.near h.far others list h other moved) inside behind in
+    let at_present : slice_index m.present b ≡ slice_index m.starts (slice_index m.standing b) = ap (λ cuts. slice_index cuts b)
+    h.standing_is ∙ unmerged_at m.starts m.standing b (omega (arith, h.standing_divides.counted, count)) in
     let at_cuts : slice_index (unmerged m.starts cuts) b ≡ slice_index m.starts (slice_index cuts b) = unmerged_at m.starts cuts b (omega (arith, cuts_within.divides.counted)) in
-    let at_found : slice_index m.starts (slice_index list b) ≡ clamp h.near h.far others b = sym (unmerged_at m.starts list b (omega (arith, moved.within.divides.counted))) ∙ ap (λ cuts. slice_index cuts b) moved.same ∙ clamped_at (length (names m)) h.near h.far others b (omega arith) in
-    let standing_in : slice_index m.standing b ≤ length m.runs = omega (arith, h.standing_divides.ordered b m.ranks 0 (omega (arith, count)) (omega (arith, h.standing_divides.counted)), h.standing_divides.ends) in
-    let found_in : slice_index list b ≤ length m.runs = omega (arith, moved.within.divides.ordered b (length (names m)) 0 (omega arith) (omega (arith, moved.within.divides.counted)), moved.within.divides.ends) in
+    let at_found : slice_index m.starts (slice_index list b) ≡ clamp h.near h.far others b = sym
+    (unmerged_at m.starts list b (omega (arith, moved.within.divides.counted))) ∙ ap (λ cuts. slice_index cuts b) moved.same
+    ∙ clamped_at (length (names m)) h.near h.far others b (omega arith) in
+    let standing_in : slice_index m.standing b ≤ length m.runs = omega
+    (arith, h.standing_divides.ordered b m.ranks 0 (omega (arith, count)) (omega (arith, h.standing_divides.counted)), h.standing_divides.ends) in
+    let found_in : slice_index list b ≤ length m.runs = omega
+    (arith, moved.within.divides.ordered b (length (names m)) 0 (omega arith) (omega (arith, moved.within.divides.counted)), moved.within.divides.ends) in
     elim near [
       | inl up ↦
           let one_up = start_rises m.loads m.runs m.starts (slice_index m.standing b) (slice_index cuts b) h.runs_weigh up.0 (omega (arith, up.1, found_in)) in
@@ -192,9 +208,11 @@ nearest_between : (m : Merging) (h : IsMerging m) (cuts : List ℕ) (left : ℕ)
     → (k : ℕ) → length (names m) ≤ k + left → k < length (names m) → IsBetween h.near h.far (unmerged m.starts cuts) k
 nearest_between m h cuts zero one k from inside = absurd (omega (arith, from, inside))
 nearest_between m h cuts (suc left) one k from inside =
-    let behind : (j : ℕ) → k < j → j < length (names m) → IsBetween h.near h.far (unmerged m.starts cuts) j = λ j after within. nearest_between m h cuts left one j (omega (arith, after, from)) within in
+    let behind : (j : ℕ) → k < j → j < length (names m)
+    → IsBetween h.near h.far (unmerged m.starts cuts) j = λ j after within. nearest_between m h cuts left one j (omega (arith, after, from)) within in
     let few : k ≤ m.ranks = omega (arith, inside, names_counted m.ranks) in
-    stays_between h.near h.far m.present (unmerged m.starts cuts) k (h.bounds.near_before k few) (h.bounds.far_behind k few) (between_at m h cuts (unmerged m.starts cuts) k one (kept_fewest_of m cuts h one.fewest) inside (λ j after within. omega arith) behind)
+    stays_between h.near h.far m.present (unmerged m.starts cuts) k (h.bounds.near_before k few) (h.bounds.far_behind k few)
+    (between_at m h cuts (unmerged m.starts cuts) k one (kept_fewest_of m cuts h one.fewest) inside (λ j after within. omega arith) behind)
 
 -- what lies between the present cut and another that is moved to its bounds lies between these two
 between_whole : (near far present others : List ℕ) (b cut : ℕ) → slice_index near b ≤ slice_index present b
@@ -219,17 +237,39 @@ kept_nearest_of m cuts h one =
       fewest = kept_fewest_of m cuts h one.fewest;
       nearest = λ others b other inside same.
           let few : b ≤ m.ranks = omega (arith, inside, names_counted m.ranks) in
-          between_whole h.near h.far m.present others b (slice_index (unmerged m.starts cuts) b) (h.bounds.near_before b few) (h.bounds.far_behind b few) (between_at m h cuts others b one other inside same (λ k after within. nearest_between m h cuts (length (names m)) one k (omega arith) within));
+          between_whole h.near h.far m.present others b (slice_index (unmerged m.starts cuts) b) (h.bounds.near_before b few)
+          (h.bounds.far_behind b few) (between_at m h cuts others b one other inside same
+          (λ k after within. nearest_between m h cuts (length (names m)) one k (omega arith) within));
     }
 
 pub kept_fewest : (loads bytes present runs run_bytes starts standing : List ℕ) (ranks limit : ℕ) (cuts : List ℕ)
     → IsMergedInOrder loads bytes present runs run_bytes starts standing ranks limit → AreFewestInOrder runs run_bytes standing ranks limit cuts
     → AreFewestInOrder loads bytes present ranks limit (unmerged starts cuts)
 kept_fewest loads bytes present runs run_bytes starts standing ranks limit cuts h one =
-    kept_fewest_of (record { loads = loads; bytes = bytes; present = present; runs = runs; run_bytes = run_bytes; starts = starts; standing = standing; ranks = ranks; limit = limit }) cuts h one
+    kept_fewest_of (record {
+      loads = loads;
+      bytes = bytes;
+      present = present;
+      runs = runs;
+      run_bytes = run_bytes;
+      starts = starts;
+      standing = standing;
+      ranks = ranks;
+      limit = limit;
+    }) cuts h one
 
 pub kept_nearest : (loads bytes present runs run_bytes starts standing : List ℕ) (ranks limit : ℕ) (cuts : List ℕ)
     → IsMergedInOrder loads bytes present runs run_bytes starts standing ranks limit → AreNearestInOrder runs run_bytes standing ranks limit cuts
     → AreNearestInOrder loads bytes present ranks limit (unmerged starts cuts)
 kept_nearest loads bytes present runs run_bytes starts standing ranks limit cuts h one =
-    kept_nearest_of (record { loads = loads; bytes = bytes; present = present; runs = runs; run_bytes = run_bytes; starts = starts; standing = standing; ranks = ranks; limit = limit }) cuts h one
+    kept_nearest_of (record {
+      loads = loads;
+      bytes = bytes;
+      present = present;
+      runs = runs;
+      run_bytes = run_bytes;
+      starts = starts;
+      standing = standing;
+      ranks = ranks;
+      limit = limit;
+    }) cuts h one

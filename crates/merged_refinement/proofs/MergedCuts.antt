@@ -52,13 +52,23 @@ unmerged_within loads runs starts names cuts limit h within =
               arith,
               unmerged_at starts cuts i (omega (arith, onward, few)),
               unmerged_at starts cuts j few,
-              start_rises loads runs starts (slice_index cuts i) (slice_index cuts j) h (within.divides.ordered i j 0 onward few) (omega (arith, within.divides.ordered j (length names) 0 (omega (arith, few, within.divides.counted)) (omega (arith, within.divides.counted)), within.divides.ends)),
+              start_rises loads runs starts (slice_index cuts i) (slice_index cuts j) h (within.divides.ordered i j 0 onward few)
+                  (omega (
+                    arith,
+                    within.divides.ordered j (length names) 0 (omega (arith, few, within.divides.counted))
+                        (omega (arith, within.divides.counted)),
+                    within.divides.ends,
+                  )),
             ));
         ends = unmerged_at starts cuts (length names) (omega (arith, within.divides.counted)) ∙ ap (slice_index starts) within.divides.ends ∙ h.ends;
       };
       within = λ b inside.
           let block = block_within (length runs) (length names) cuts b within.divides inside in
-          rw (unmerged_at starts cuts b (omega (arith, within.divides.counted)), unmerged_at starts cuts (b + 1) (omega (arith, within.divides.counted))) (omega (arith, within.within b inside, runs_weigh loads runs starts (slice_index cuts b) (slice_index cuts (b + 1)) h block.0 block.1));
+          rw (
+            unmerged_at starts cuts b (omega (arith, within.divides.counted)),
+            unmerged_at starts cuts (b + 1) (omega (arith, within.divides.counted)),
+          )
+          (omega (arith, within.within b inside, runs_weigh loads runs starts (slice_index cuts b) (slice_index cuts (b + 1)) h block.0 block.1));
     }
 
 -- each of the cuts is that of a run that there is
@@ -80,13 +90,21 @@ merged_within loads runs starts names cuts limit h inside within =
     record {
       divides = record {
         counted = counted;
-        starts = same_run loads runs starts (slice_index cuts 0) 0 h (inside 0 (omega (arith, counted))) (omega arith) (sym (unmerged_at starts cuts 0 (omega (arith, counted))) ∙ within.divides.starts ∙ sym h.begins);
+        starts = same_run loads runs starts (slice_index cuts 0) 0 h (inside 0 (omega (arith, counted))) (omega arith)
+            (sym (unmerged_at starts cuts 0 (omega (arith, counted))) ∙ within.divides.starts ∙ sym h.begins);
         ordered = IsNonDecreasingBy-from_default (λ x. x) cuts 0 rises;
-        ends = same_run loads runs starts (slice_index cuts (length names)) (length runs) h (inside (length names) (omega (arith, counted))) (omega arith) (sym (unmerged_at starts cuts (length names) (omega (arith, counted))) ∙ within.divides.ends ∙ sym h.ends);
+        ends = same_run loads runs starts (slice_index cuts (length names)) (length runs) h (inside (length names) (omega (arith, counted)))
+            (omega arith) (sym (unmerged_at starts cuts (length names) (omega (arith, counted))) ∙ within.divides.ends ∙ sym h.ends);
       };
       within = λ b block.
-          let light : load loads (slice_index starts (slice_index cuts b)) (slice_index starts (slice_index cuts (b + 1))) ≤ limit = rw (unmerged_at starts cuts b (omega (arith, counted)), unmerged_at starts cuts (b + 1) (omega (arith, counted))) at (within.within b block) in
-          omega (arith, light, runs_weigh loads runs starts (slice_index cuts b) (slice_index cuts (b + 1)) h (rises b (b + 1) (omega arith) (omega (arith, counted))) (inside (b + 1) (omega (arith, counted))));
+          let light : load loads (slice_index starts (slice_index cuts b)) (slice_index starts (slice_index cuts (b + 1))) ≤ limit = rw
+          (unmerged_at starts cuts b (omega (arith, counted)), unmerged_at starts cuts (b + 1) (omega (arith, counted))) at (within.within b block) in
+          omega (
+            arith,
+            light,
+            runs_weigh loads runs starts (slice_index cuts b) (slice_index cuts (b + 1)) h
+                (rises b (b + 1) (omega arith) (omega (arith, counted))) (inside (b + 1) (omega (arith, counted))),
+          );
     }
 
 inside_cons : (n x : ℕ) (xs : List ℕ) → x ≤ n → ((b : ℕ) → b < length xs → slice_index xs b ≤ n) → (b : ℕ) → b < length (x ∷ xs) → slice_index (x ∷ xs) b ≤ n
@@ -143,6 +161,10 @@ pub same_moved : (bytes run_bytes starts present standing cuts names : List ℕ)
     → bytes_moved (sizes_on bytes present) (unmerged starts cuts) names ≡ bytes_moved (sizes_on run_bytes standing) cuts names
 same_moved bytes run_bytes starts present standing cuts names ranks runs divides standing_divides are cut whole =
     let blocks : ℕ = length names in
-    let long = moved_is_cost (sizes_on bytes present) (unmerged starts cuts) names blocks (subst (λ n. IsDivision 0 n blocks (unmerged starts cuts)) (sym (sizes_counted bytes present)) whole) in
+    let long = moved_is_cost (sizes_on bytes present) (unmerged starts cuts) names blocks
+    (subst (λ n. IsDivision 0 n blocks (unmerged starts cuts)) (sym (sizes_counted bytes present)) whole) in
     let short = moved_is_cost (sizes_on run_bytes standing) cuts names blocks (subst (λ n. IsDivision 0 n blocks cuts) (sym (sizes_counted run_bytes standing)) cut) in
-    long ∙ total_same blocks (λ b. block_cost (sizes_on bytes present) (unmerged starts cuts) b (slice_index names b)) (λ b. block_cost (sizes_on run_bytes standing) cuts b (slice_index names b)) (λ b inside. block_moves bytes run_bytes starts present standing cuts ranks blocks (slice_index names b) b runs divides standing_divides are cut inside) ∙ sym short
+    long ∙ total_same blocks (λ b. block_cost (sizes_on bytes present) (unmerged starts cuts) b (slice_index names b))
+    (λ b. block_cost (sizes_on run_bytes standing) cuts b (slice_index names b))
+    (λ b inside. block_moves bytes run_bytes starts present standing cuts ranks blocks (slice_index names b) b runs divides
+    standing_divides are cut inside) ∙ sym short

@@ -66,7 +66,9 @@ small_first bytes t x = omega (arith, first_most x)
 -- what is known of a row that is put behind others
 abbrev pub IsRowOn : List ℕ → Table → ℕ → List (ℕ × List ℕ) → ℕ × List ℕ → Type 0
 IsRowOn bytes t b rows row =
-    IsRow (slice_index t.near.now (b + 1)) (slice_index t.far.now (b + 1)) (slice_index t.starts.now) (standing_cost bytes (slice_index t.present.now b) (slice_index t.present.now (b + 1)) (slice_index t.present.now (b + 1 + 1))) (row_at (slice_index_or rows b (0, []))) (row_at row)
+    IsRow (slice_index t.near.now (b + 1)) (slice_index t.far.now (b + 1)) (slice_index t.starts.now)
+    (standing_cost bytes (slice_index t.present.now b) (slice_index t.present.now (b + 1)) (slice_index t.present.now (b + 1 + 1)))
+    (row_at (slice_index_or rows b (0, []))) (row_at row)
 
 pub piled_more : (bytes : List ℕ) (t : Table) (b : ℕ) (rows : List (ℕ × List ℕ)) (row : ℕ × List ℕ) → IsTable bytes t → b + 2 < length t.near.now
     → length rows ≡ b + 1 → ArePiledUp bytes t (b + 1) rows → IsRowOn bytes t b rows row → ArePiledUp bytes t (b + 1 + 1) (rows ++ row ∷ [])
@@ -77,13 +79,26 @@ piled_more bytes t b rows row h inside counted piled next =
       rises = λ x y onward. omega (arith, piled.rises x y onward, row_kept rows row 0 x (omega arith), row_kept rows row 0 y (omega arith));
       rows = λ k few. elim (cases_lt (k + 1) (b + 1)) [
         | inl earlier ↦
-            row_same (slice_index t.near.now (k + 1)) (slice_index t.far.now (k + 1)) (slice_index t.starts.now) (cut_cost (sizes_on bytes t.present.now) (in_order (length t.near.now - 1)) k) (cut_cost (sizes_on bytes t.present.now) (in_order (length t.near.now - 1)) k) (rows_at rows k) (rows_at rows (k + 1)) (rows_at (rows ++ row ∷ []) k) (rows_at (rows ++ row ∷ []) (k + 1)) (λ x to. refl) (λ x. row_kept rows row k x (omega arith)) (λ x. row_kept rows row (k + 1) x (omega arith)) (piled.rows k earlier)
+            row_same (slice_index t.near.now (k + 1)) (slice_index t.far.now (k + 1)) (slice_index t.starts.now)
+            (cut_cost (sizes_on bytes t.present.now) (in_order (length t.near.now - 1)) k)
+            (cut_cost (sizes_on bytes t.present.now) (in_order (length t.near.now - 1)) k) (rows_at rows k) (rows_at rows (k + 1))
+            (rows_at (rows ++ row ∷ []) k) (rows_at (rows ++ row ∷ []) (k + 1)) (λ x to. refl)
+            (λ x. row_kept rows row k x (omega arith)) (λ x. row_kept rows row (k + 1) x (omega arith)) (piled.rows k earlier)
         | inr latest ↦
             let same : b ≡ k = omega (arith, latest, few) in
             let far_in = h.far_inside (b + 1) (omega arith) in
-            let here : IsRow (slice_index t.near.now (b + 1)) (slice_index t.far.now (b + 1)) (slice_index t.starts.now) (cut_cost (sizes_on bytes t.present.now) (in_order (length t.near.now - 1)) b) (rows_at (rows ++ row ∷ []) b) (rows_at (rows ++ row ∷ []) (b + 1)) =
-            row_same (slice_index t.near.now (b + 1)) (slice_index t.far.now (b + 1)) (slice_index t.starts.now) (standing_cost bytes (slice_index t.present.now b) (slice_index t.present.now (b + 1)) (slice_index t.present.now (b + 1 + 1))) (cut_cost (sizes_on bytes t.present.now) (in_order (length t.near.now - 1)) b) (row_at (slice_index_or rows b (0, []))) (row_at row) (rows_at (rows ++ row ∷ []) b) (rows_at (rows ++ row ∷ []) (b + 1)) (λ x to. cost_is bytes t.present.now (length t.near.now - 1) b x h.divides (omega arith) (omega (arith, to, far_in))) (λ x. row_kept rows row b x (omega arith)) (λ x. row_put rows row (b + 1) x counted) next in
-            subst (λ n. IsRow (slice_index t.near.now (n + 1)) (slice_index t.far.now (n + 1)) (slice_index t.starts.now) (cut_cost (sizes_on bytes t.present.now) (in_order (length t.near.now - 1)) n) (rows_at (rows ++ row ∷ []) n) (rows_at (rows ++ row ∷ []) (n + 1))) same here
+            let here : IsRow (slice_index t.near.now (b + 1)) (slice_index t.far.now (b + 1)) (slice_index t.starts.now)
+            (cut_cost (sizes_on bytes t.present.now) (in_order (length t.near.now - 1)) b) (rows_at (rows ++ row ∷ []) b)
+            (rows_at (rows ++ row ∷ []) (b + 1)) =
+            row_same (slice_index t.near.now (b + 1)) (slice_index t.far.now (b + 1)) (slice_index t.starts.now)
+            (standing_cost bytes (slice_index t.present.now b) (slice_index t.present.now (b + 1))
+            (slice_index t.present.now (b + 1 + 1))) (cut_cost (sizes_on bytes t.present.now) (in_order (length t.near.now - 1)) b)
+            (row_at (slice_index_or rows b (0, []))) (row_at row) (rows_at (rows ++ row ∷ []) b) (rows_at (rows ++ row ∷ []) (b + 1))
+            (λ x to. cost_is bytes t.present.now (length t.near.now - 1) b x h.divides (omega arith) (omega (arith, to, far_in)))
+            (λ x. row_kept rows row b x (omega arith)) (λ x. row_put rows row (b + 1) x counted) next in
+            subst (λ n. IsRow (slice_index t.near.now (n + 1)) (slice_index t.far.now (n + 1)) (slice_index t.starts.now)
+            (cut_cost (sizes_on bytes t.present.now) (in_order (length t.near.now - 1)) n) (rows_at (rows ++ row ∷ []) n)
+            (rows_at (rows ++ row ∷ []) (n + 1))) same here
       ];
     }
 
@@ -104,7 +119,10 @@ small_more bytes t b rows row h inside counted small next x =
       | inl late ↦ omega (arith, next.level x (omega (arith, late)))
       | inr on ↦ next.rises x far on
     ] in
-    let cost : standing_cost bytes (slice_index t.present.now b) (slice_index t.present.now (b + 1)) (slice_index t.present.now (b + 1 + 1)) far ≤ load bytes (slice_index t.present.now b) (slice_index t.present.now (b + 1)) + load bytes (slice_index t.present.now (b + 1)) (slice_index t.present.now (b + 1 + 1)) = cost_few bytes (slice_index t.present.now b) (slice_index t.present.now (b + 1)) (slice_index t.present.now (b + 1 + 1)) far one.0 other.0 in
+    let cost : standing_cost bytes (slice_index t.present.now b) (slice_index t.present.now (b + 1)) (slice_index t.present.now (b + 1 + 1))
+    far ≤ load bytes (slice_index t.present.now b) (slice_index t.present.now (b + 1)) + load bytes (slice_index t.present.now (b + 1))
+    (slice_index t.present.now (b + 1 + 1)) = cost_few bytes (slice_index t.present.now b) (slice_index t.present.now (b + 1))
+    (slice_index t.present.now (b + 1 + 1)) far one.0 other.0 in
     omega (
       arith,
       row_put rows row (b + 1) x counted,

@@ -39,11 +39,13 @@ size_at bytes present i inside =
 pub stand_in_order : (bytes present : List ℕ) (ranks : ℕ) → IsDivision 0 (length bytes) ranks present → StandInOrder (sizes_on bytes present) (in_order ranks) present
 stand_in_order bytes present ranks divides =
     record {
-      divides = subst (λ n. IsDivision 0 (length (sizes_on bytes present)) n present) (sym (names_counted ranks)) (subst (λ n. IsDivision 0 n ranks present) (sym (sizes_counted bytes present)) divides);
+      divides = subst (λ n. IsDivision 0 (length (sizes_on bytes present)) n present) (sym (names_counted ranks))
+          (subst (λ n. IsDivision 0 n ranks present) (sym (sizes_counted bytes present)) divides);
       stands = λ b i inside from before.
           let few : b < ranks = omega (arith, inside, names_counted ranks) in
           let block = block_within (length bytes) ranks present b divides few in
-          ap (λ (size : ℕ × ℕ). size.1) (size_at bytes present i (omega (arith, before, block.1))) ∙ block_of_is (length bytes) ranks present b i divides few from before ∙ sym (name_at ranks b few);
+          ap (λ (size : ℕ × ℕ). size.1) (size_at bytes present i (omega (arith, before, block.1)))
+          ∙ block_of_is (length bytes) ranks present b i divides few from before ∙ sym (name_at ranks b few);
     }
 
 -- a sum where all or none count
@@ -74,7 +76,9 @@ moved_of_block bytes present to on a b held onward inside stands is =
     let here : ℕ → ℕ = λ i. moved_bytes (slice_index bytes i, block_of present i) to in
     let same : ℕ → ℕ = λ i. moved_bytes (slice_index bytes i, on) to in
     let end : a + (b - a) ≡ b = omega arith in
-    let agree : total b here + total a same ≡ total a here + total b same = subst (λ n. total n here + total a same ≡ total a here + total n same) end (total_agree a (b - a) here same (λ i low high. ap (λ q. moved_bytes (slice_index bytes i, q) to) (stands i low (omega arith)))) in
+    let agree : total b here + total a same ≡ total a here + total b same = subst
+    (λ n. total n here + total a same ≡ total a here + total n same) end
+    (total_agree a (b - a) here same (λ i low high. ap (λ q. moved_bytes (slice_index bytes i, q) to) (stands i low (omega arith)))) in
     omega (
       arith,
       agree,
@@ -87,7 +91,9 @@ moved_of_block bytes present to on a b held onward inside stands is =
 pub moved_of_sizes : (bytes present : List ℕ) (to n : ℕ) → n ≤ length bytes
     → sum_by (λ size. moved_bytes size to) (take n (sizes_on bytes present)) ≡ moved_up_to bytes present to n
 moved_of_sizes bytes present to n inside =
-    sym (total_take (λ size. moved_bytes size to) (sizes_on bytes present) (0, 0) n (omega (arith, sizes_counted bytes present))) ∙ total_same n (λ i. moved_bytes (slice_index_or (sizes_on bytes present) i (0, 0)) to) (λ i. moved_bytes (slice_index bytes i, block_of present i) to) (λ i below. ap (λ size. moved_bytes size to) (size_at bytes present i (omega arith)))
+    sym (total_take (λ size. moved_bytes size to) (sizes_on bytes present) (0, 0) n (omega (arith, sizes_counted bytes present)))
+    ∙ total_same n (λ i. moved_bytes (slice_index_or (sizes_on bytes present) i (0, 0)) to)
+    (λ i. moved_bytes (slice_index bytes i, block_of present i) to) (λ i below. ap (λ size. moved_bytes size to) (size_at bytes present i (omega arith)))
 
 -- the runs before one move to a rank what the elements before its start move
 pub runs_move : (bytes run_bytes starts present standing : List ℕ) (ranks to : ℕ) → AreRuns bytes run_bytes starts
@@ -97,15 +103,28 @@ pub runs_move : (bytes run_bytes starts present standing : List ℕ) (ranks to :
 runs_move bytes run_bytes starts present standing ranks to runs divides standing_divides are zero inside =
     ap (λ n. moved_up_to bytes present to n) (sym runs.begins)
 runs_move bytes run_bytes starts present standing ranks to runs divides standing_divides are (suc j) inside =
-    let before : moved_up_to run_bytes standing to j ≡ moved_up_to bytes present to (slice_index starts j) = runs_move bytes run_bytes starts present standing ranks to runs divides standing_divides are j (omega arith) in
+    let before : moved_up_to run_bytes standing to j ≡ moved_up_to bytes present to (slice_index starts j) = runs_move bytes run_bytes
+    starts present standing ranks to runs divides standing_divides are j (omega arith) in
     let around = block_around standing ranks j (omega (arith, standing_divides.starts)) (omega (arith, standing_divides.ends)) in
     let on : ℕ = around.0 in
     let ends : slice_index standing (on + 1) ≤ length run_bytes = (block_within (length run_bytes) ranks standing on standing_divides around.1).1 in
-    let low : slice_index present on ≤ slice_index starts j = omega (arith, are on (omega (arith, around.1)), start_rises bytes run_bytes starts (slice_index standing on) j runs around.2 (omega arith)) in
-    let high : slice_index starts (j + 1) ≤ slice_index present (on + 1) = omega (arith, are (on + 1) (omega (arith, around.1)), start_rises bytes run_bytes starts (j + 1) (slice_index standing (on + 1)) runs (omega (arith, around.3)) ends) in
+    let low : slice_index present on ≤ slice_index starts j = omega
+    (arith, are on (omega (arith, around.1)), start_rises bytes run_bytes starts (slice_index standing on) j runs around.2 (omega arith)) in
+    let high : slice_index starts (j + 1) ≤ slice_index present (on + 1) = omega (
+      arith,
+      are (on + 1) (omega (arith, around.1)),
+      start_rises bytes run_bytes starts (j + 1) (slice_index standing (on + 1)) runs
+          (omega (arith, around.3)) ends,
+    ) in
     let here : block_of standing j ≡ on = block_of_is (length run_bytes) ranks standing on j standing_divides around.1 around.2 around.3 in
-    let last : slice_index starts (j + 1) ≤ length bytes = omega (arith, start_rises bytes run_bytes starts (j + 1) (length run_bytes) runs (omega arith) (omega arith), runs.ends) in
-    let block : moved_up_to bytes present to (slice_index starts (j + 1)) ≡ moved_up_to bytes present to (slice_index starts j) + moved_bytes (slice_index run_bytes j, on) to = moved_of_block bytes present to on (slice_index starts j) (slice_index starts (j + 1)) (slice_index run_bytes j) (omega (arith, runs.onward j (omega arith))) last (λ i from to. block_of_is (length bytes) ranks present on i divides around.1 (omega (arith, low, from)) (omega (arith, high, to))) (runs.weighs j (omega arith)) in
-    let run : moved_bytes (slice_index run_bytes j, block_of standing j) to ≡ moved_bytes (slice_index run_bytes j, on) to = ap (λ q. moved_bytes (slice_index run_bytes j, q) to) here in
+    let last : slice_index starts (j + 1) ≤ length bytes = omega
+    (arith, start_rises bytes run_bytes starts (j + 1) (length run_bytes) runs (omega arith) (omega arith), runs.ends) in
+    let block : moved_up_to bytes present to (slice_index starts (j + 1)) ≡ moved_up_to bytes present to
+    (slice_index starts j) + moved_bytes (slice_index run_bytes j, on) to = moved_of_block bytes present to on (slice_index starts j)
+    (slice_index starts (j + 1)) (slice_index run_bytes j) (omega (arith, runs.onward j (omega arith))) last
+    (λ i from to. block_of_is (length bytes) ranks present on i divides around.1 (omega (arith, low, from)) (omega (arith, high, to)))
+    (runs.weighs j (omega arith)) in
+    let run : moved_bytes (slice_index run_bytes j, block_of standing j) to ≡ moved_bytes (slice_index run_bytes j, on) to = ap
+    (λ q. moved_bytes (slice_index run_bytes j, q) to) here in
     let done : moved_up_to run_bytes standing to (suc j) ≡ moved_up_to bytes present to (slice_index starts (j + 1)) = omega (arith, before, block, run) in
     subst (λ n. moved_up_to run_bytes standing to (suc j) ≡ moved_up_to bytes present to (slice_index starts n)) (add-one j) done

@@ -27,12 +27,14 @@ not_before loads names cuts first last limit (suc left) h within b from inside =
     elim (cases_lt b (length names)) [
       | inr end ↦ not_before loads names cuts first last limit left h within b (omega (arith, end)) inside
       | inl inner ↦
-          let next : slice_index first (b + 1) ≤ slice_index cuts (b + 1) = not_before loads names cuts first last limit left h within (b + 1) (omega (arith, from)) (omega (arith, inner)) in
+          let next : slice_index first (b + 1) ≤ slice_index cuts (b + 1) = not_before loads names cuts first last limit left h within
+          (b + 1) (omega (arith, from)) (omega (arith, inner)) in
           elim (cases_lt (slice_index cuts b) (slice_index first b)) [
             | inr on ↦ on
             | inl early ↦ elim (h.first_heavy b inner) [
               | inl begin ↦ absurd (omega (arith, early, begin))
-              | inr heavy ↦ absurd (not_inside loads limit (slice_index first b - 1) (slice_index first (b + 1)) (slice_index cuts b) (slice_index cuts (b + 1)) heavy (within.within b inner) (omega (arith, early)) next)
+              | inr heavy ↦ absurd (not_inside loads limit (slice_index first b - 1) (slice_index first (b + 1)) (slice_index cuts b)
+                  (slice_index cuts (b + 1)) heavy (within.within b inner) (omega (arith, early)) next)
             ]
           ]
     ]
@@ -49,7 +51,8 @@ not_behind loads names cuts first last limit h within (suc b) inside =
       | inr on ↦ on
       | inl late ↦ elim (h.last_heavy b inner) [
         | inl end ↦ absurd (omega (arith, late, end, cut_in))
-        | inr heavy ↦ absurd (not_inside loads limit (slice_index last b) (slice_index last (b + 1) + 1) (slice_index cuts b) (slice_index cuts (b + 1)) heavy (within.within b inner) before (omega (arith, late)))
+        | inr heavy ↦ absurd (not_inside loads limit (slice_index last b) (slice_index last (b + 1) + 1) (slice_index cuts b)
+            (slice_index cuts (b + 1)) heavy (within.within b inner) before (omega (arith, late)))
       ]
     ] in
     subst (λ n. slice_index cuts n ≤ slice_index last n) (add-one b) here
@@ -59,4 +62,6 @@ pub places_keep : (loads starts near far first last : List ℕ) (blocks limit : 
 places_keep loads starts near far first last blocks limit h kept cuts b within some few from to =
     let count : length (in_order blocks) ≡ blocks = names_counted blocks in
     let reaches : AreReaches loads (length (in_order blocks)) limit first last = subst (λ n. AreReaches loads n limit first last) (sym count) h in
-    kept b (slice_index cuts b) some few from (not_before loads (in_order blocks) cuts first last limit (length (in_order blocks)) reaches within b (omega arith) (omega (arith, few, count))) to (not_behind loads (in_order blocks) cuts first last limit reaches within b (omega (arith, few, count)))
+    kept b (slice_index cuts b) some few from (not_before loads (in_order blocks) cuts first last limit (length (in_order blocks)) reaches
+    within b (omega arith) (omega (arith, few, count))) to
+    (not_behind loads (in_order blocks) cuts first last limit reaches within b (omega (arith, few, count)))

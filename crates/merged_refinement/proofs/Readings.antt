@@ -47,12 +47,20 @@ read_one blocks present elements start at cuts b cut h some small level =
       level = λ k from inside. elim (cases_eq (k + 1) b) [
         | inl met ↦
             let next : slice_index (set cuts b cut) (b + 1) ≡ slice_index cuts (b + 1) = other (b + 1) (omega arith) in
-            let there : IsLevelTo (at b) (start (slice_index (set cuts b cut) (b + 1))) (max (slice_index present b) (start (slice_index (set cuts b cut) (b + 1)))) (slice_index (set cuts b cut) b) = subst (λ n. IsLevelTo (at b) (start n) (max (slice_index present b) (start n)) (slice_index (set cuts b cut) b)) (sym next) (subst (λ n. IsLevelTo (at b) (start (slice_index cuts (b + 1))) (max (slice_index present b) (start (slice_index cuts (b + 1)))) n) (sym here) level) in
-            subst (λ n. IsLevelTo (at n) (start (slice_index (set cuts b cut) (n + 1))) (max (slice_index present n) (start (slice_index (set cuts b cut) (n + 1)))) (slice_index (set cuts b cut) n)) (sym met) there
+            let there : IsLevelTo (at b) (start (slice_index (set cuts b cut) (b + 1)))
+            (max (slice_index present b) (start (slice_index (set cuts b cut) (b + 1)))) (slice_index (set cuts b cut) b) = subst
+            (λ n. IsLevelTo (at b) (start n) (max (slice_index present b) (start n)) (slice_index (set cuts b cut) b)) (sym next)
+            (subst (λ n. IsLevelTo (at b) (start (slice_index cuts (b + 1)))
+            (max (slice_index present b) (start (slice_index cuts (b + 1)))) n) (sym here) level) in
+            subst (λ n. IsLevelTo (at n) (start (slice_index (set cuts b cut) (n + 1)))
+            (max (slice_index present n) (start (slice_index (set cuts b cut) (n + 1)))) (slice_index (set cuts b cut) n)) (sym met) there
         | inr apart ↦
             let one : slice_index (set cuts b cut) (k + 1) ≡ slice_index cuts (k + 1) = other (k + 1) apart in
             let two : slice_index (set cuts b cut) (k + 1 + 1) ≡ slice_index cuts (k + 1 + 1) = other (k + 1 + 1) (omega (arith, from, apart)) in
-            subst (λ n. IsLevelTo (at (k + 1)) (start (slice_index (set cuts b cut) (k + 1 + 1))) (max (slice_index present (k + 1)) (start (slice_index (set cuts b cut) (k + 1 + 1)))) n) (sym one) (subst (λ n. IsLevelTo (at (k + 1)) (start n) (max (slice_index present (k + 1)) (start n)) (slice_index cuts (k + 1))) (sym two) (h.level k (omega (arith, from, apart)) inside))
+            subst (λ n. IsLevelTo (at (k + 1)) (start (slice_index (set cuts b cut) (k + 1 + 1)))
+            (max (slice_index present (k + 1)) (start (slice_index (set cuts b cut) (k + 1 + 1)))) n) (sym one)
+            (subst (λ n. IsLevelTo (at (k + 1)) (start n) (max (slice_index present (k + 1)) (start n)) (slice_index cuts (k + 1)))
+            (sym two) (h.level k (omega (arith, from, apart)) inside))
       ];
     }
 

@@ -46,15 +46,20 @@ least_before sum heights i v some inside h is =
             let few : z < length heights = omega (arith, within, counted) in
             let behind : i ≤ z = omega (arith, from, onward, apart) in
             elim (cases_eq y one) [
-              | inl first ↦ subst (λ n. slice_index (set heights one v) n ≤ slice_index (set heights one v) z) (sym first) (omega (arith, here, is, other z apart, h.rises i z (omega arith) behind few))
+              | inl first ↦ subst (λ n. slice_index (set heights one v) n ≤ slice_index (set heights one v) z) (sym first)
+                  (omega (arith, here, is, other z apart, h.rises i z (omega arith) behind few))
               | inr further ↦ omega (arith, other y further, other z apart, h.rises y z (omega (arith, from, further)) onward few)
             ]
       ];
       reached = λ z from within. elim (cases_eq z one) [
         | inl met ↦ elim (cases_lt (slice_index heights i) (sum one)) [
           | inl kept ↦
-              let there = h.reached i (omega arith) inside in
-              (there.0, omega (arith, there.1, met), omega (arith, there.2, counted), subst (λ n. sum there.0 ≤ slice_index (set heights one v) n) (sym met) (omega (arith, here, is, kept, there.3)))
+              let there = h.reached i (omega arith) inside in (
+                there.0,
+                omega (arith, there.1, met),
+                omega (arith, there.2, counted),
+                subst (λ n. sum there.0 ≤ slice_index (set heights one v) n) (sym met) (omega (arith, here, is, kept, there.3)),
+              )
           | inr lower ↦
               (one, omega (arith, met), omega (arith, inside, counted), subst (λ n. sum one ≤ slice_index (set heights one v) n) (sym met) (omega (arith, here, is, lower)))
         ]
@@ -76,7 +81,8 @@ row_of near far start cost below heights some counted h =
       low = λ x from to.
           let place : near + (x - near) ≡ x = omega (arith, from) in
           let here : min (x - near) (length heights - 1) ≡ x - near = omega (arith, from, to, counted) in
-          let low : slice_index heights (x - near) ≤ row_at below (start (near + (x - near))) + cost (near + (x - near)) = h.low (x - near) (omega arith) (omega (arith, from, to, counted)) in
+          let low : slice_index heights (x - near) ≤ row_at below (start (near + (x - near))) + cost (near + (x - near)) = h.low (x - near)
+          (omega arith) (omega (arith, from, to, counted)) in
           let there : slice_index heights (x - near) ≤ row_at below (start x) + cost x = subst (λ n. slice_index heights (x - near) ≤ row_at below (start n) + cost n) place low in
           omega (arith, there, ap (slice_index heights) here);
       reached = λ x from to.

@@ -29,7 +29,9 @@ held_up_to bytes present on n =
 
 held_of_sizes : (bytes present : List ℕ) (on n : ℕ) → n ≤ length bytes → held_before (sizes_on bytes present) on n ≡ held_up_to bytes present on n
 held_of_sizes bytes present on n inside =
-    sym (total_take (λ size. held_bytes size on) (sizes_on bytes present) (0, 0) n (omega (arith, sizes_counted bytes present))) ∙ total_same n (λ i. held_bytes (slice_index_or (sizes_on bytes present) i (0, 0)) on) (λ i. held_bytes (slice_index bytes i, block_of present i) on) (λ i below. ap (λ size. held_bytes size on) (size_at bytes present i (omega arith)))
+    sym (total_take (λ size. held_bytes size on) (sizes_on bytes present) (0, 0) n (omega (arith, sizes_counted bytes present)))
+    ∙ total_same n (λ i. held_bytes (slice_index_or (sizes_on bytes present) i (0, 0)) on)
+    (λ i. held_bytes (slice_index bytes i, block_of present i) on) (λ i below. ap (λ size. held_bytes size on) (size_at bytes present i (omega arith)))
 
 -- a range of elements of a rank holds its bytes there
 held_of_block : (bytes present : List ℕ) (on a b : ℕ) → a ≤ b → b ≤ length bytes → ((i : ℕ) → a ≤ i → i < b → block_of present i ≡ on)
@@ -38,7 +40,10 @@ held_of_block bytes present on a b onward inside stands =
     let here : ℕ → ℕ = λ i. held_bytes (slice_index bytes i, block_of present i) on in
     let same : ℕ → ℕ = λ i. slice_index bytes i in
     let end : a + (b - a) ≡ b = omega arith in
-    let agree : total b here + total a same ≡ total a here + total b same = subst (λ n. total n here + total a same ≡ total a here + total n same) end (total_agree a (b - a) here same (λ i low high. ap (λ q. held_bytes (slice_index bytes i, q) on) (stands i low (omega arith)) ∙ held_there (slice_index bytes i) on)) in
+    let agree : total b here + total a same ≡ total a here + total b same = subst
+    (λ n. total n here + total a same ≡ total a here + total n same) end
+    (total_agree a (b - a) here same (λ i low high. ap (λ q. held_bytes (slice_index bytes i, q) on) (stands i low (omega arith))
+    ∙ held_there (slice_index bytes i) on)) in
     omega (
       arith,
       agree,
@@ -52,7 +57,8 @@ elsewhere : (bytes present : List ℕ) (ranks on i : ℕ) → IsDivision 0 (leng
     → (i < slice_index present on) ⊎ (slice_index present (on + 1) ≤ i) → place_of (sizes_on bytes present) i ≢ on
 elsewhere bytes present ranks on i divides within out same =
     let around = block_around present ranks i (omega (arith, divides.starts)) (omega (arith, divides.ends)) in
-    let place : place_of (sizes_on bytes present) i ≡ around.0 = ap (λ (size : ℕ × ℕ). size.1) (size_at bytes present i within) ∙ block_of_is (length bytes) ranks present around.0 i divides around.1 around.2 around.3 in
+    let place : place_of (sizes_on bytes present) i ≡ around.0 = ap (λ (size : ℕ × ℕ). size.1) (size_at bytes present i within)
+    ∙ block_of_is (length bytes) ranks present around.0 i divides around.1 around.2 around.3 in
     let met : around.0 ≡ on = sym place ∙ same in
     elim out [
       | inl early ↦ omega (arith, early, subst (λ b. slice_index present b ≤ i) met around.2)
@@ -75,12 +81,14 @@ held_to bytes present ranks on x divides few inside =
           let start : held_before sizes on 0 ≡ 0 = refl in
           omega (arith, none, start, load_back bytes from (min x to) (omega (arith, early)))
       | inl behind ↦
-          let none = none_between sizes on 0 from (omega arith) (omega (arith, counted, block.0, block.1)) (λ i low high. off i (omega (arith, high, block.0, block.1)) (inl high)) in
+          let none = none_between sizes on 0 from (omega arith) (omega (arith, counted, block.0, block.1))
+          (λ i low high. off i (omega (arith, high, block.0, block.1)) (inl high)) in
           let start : held_before sizes on 0 ≡ 0 = refl in
           let nothing : held_up_to bytes present on from ≡ 0 = omega (arith, none, start, held_of_sizes bytes present on from (omega (arith, block.0, block.1))) in
           elim (cases_lt to x) [
             | inr inner ↦
-                let all = held_of_block bytes present on from x (omega (arith, behind)) inside (λ i low high. block_of_is (length bytes) ranks present on i divides few low (omega (arith, high, inner))) in
+                let all = held_of_block bytes present on from x (omega (arith, behind)) inside
+                (λ i low high. block_of_is (length bytes) ranks present on i divides few low (omega (arith, high, inner))) in
                 let same : x ≡ min x to = omega (arith, inner) in
                 subst (λ n. held_before sizes on x ≡ load bytes from n) same (omega (arith, all, nothing, held_of_sizes bytes present on x inside))
             | inl past ↦
@@ -99,8 +107,10 @@ held_on bytes present ranks on x divides few inside =
     let to : ℕ = slice_index present (on + 1) in
     let sizes : List (ℕ × ℕ) = sizes_on bytes present in
     let block = block_within (length bytes) ranks present on divides few in
-    let whole : held_before sizes on (length bytes) + held_from sizes on (length bytes) ≡ held_before sizes on x + held_from sizes on x = held_whole sizes on (length bytes) ∙ sym (held_whole sizes on x) in
-    let none : held_from sizes on (length bytes) ≡ 0 = subst (λ n. held_from sizes on n ≡ 0) (sizes_counted bytes present) (ap (sum_by (λ size. held_bytes size on)) (drop-length sizes)) in
+    let whole : held_before sizes on (length bytes) + held_from sizes on (length bytes) ≡ held_before sizes on x + held_from sizes on
+    x = held_whole sizes on (length bytes) ∙ sym (held_whole sizes on x) in
+    let none : held_from sizes on (length bytes) ≡ 0 = subst (λ n. held_from sizes on n ≡ 0) (sizes_counted bytes present)
+    (ap (sum_by (λ size. held_bytes size on)) (drop-length sizes)) in
     let all = held_to bytes present ranks on (length bytes) divides few (omega arith) in
     let before = held_to bytes present ranks on x divides few inside in
     let last : to ≡ min (length bytes) to = omega (arith, block.1) in
@@ -119,7 +129,8 @@ held_on bytes present ranks on x divides few inside =
             let same : x ≡ min x to = omega (arith, inner) in
             let here : x ≡ max x from = omega (arith, behind) in
             let before_x : held_before sizes on x ≡ load bytes from x = subst (λ n. held_before sizes on x ≡ load bytes from n) (sym same) before in
-            let split : load bytes from x + load bytes x to ≡ load bytes from to = omega (arith, load_split bytes from x (omega (arith, behind)), load_split bytes x to inner, load_split bytes from to block.0) in
+            let split : load bytes from x + load bytes x to ≡ load bytes from to = omega
+            (arith, load_split bytes from x (omega (arith, behind)), load_split bytes x to inner, load_split bytes from to block.0) in
             subst (λ n. held_from sizes on x ≡ load bytes n to) here (omega (arith, whole, none, all_to, before_x, split))
       ]
     ]
@@ -128,8 +139,10 @@ held_on bytes present ranks on x divides few inside =
 pub cost_is : (bytes present : List ℕ) (ranks b x : ℕ) → IsDivision 0 (length bytes) ranks present → b + 1 < ranks → x ≤ length bytes
     → cut_cost (sizes_on bytes present) (in_order ranks) b x ≡ standing_cost bytes (slice_index present b) (slice_index present (b + 1)) (slice_index present (b + 1 + 1)) x
 cost_is bytes present ranks b x divides few inside =
-    let one : held_from (sizes_on bytes present) (slice_index (in_order ranks) b) x ≡ held_from (sizes_on bytes present) b x = ap (λ q. held_from (sizes_on bytes present) q x) (name_at ranks b (omega arith)) in
-    let other : held_before (sizes_on bytes present) (slice_index (in_order ranks) (b + 1)) x ≡ held_before (sizes_on bytes present) (b + 1) x = ap (λ q. held_before (sizes_on bytes present) q x) (name_at ranks (b + 1) few) in
+    let one : held_from (sizes_on bytes present) (slice_index (in_order ranks) b) x ≡ held_from (sizes_on bytes present) b x = ap
+    (λ q. held_from (sizes_on bytes present) q x) (name_at ranks b (omega arith)) in
+    let other : held_before (sizes_on bytes present) (slice_index (in_order ranks) (b + 1)) x ≡ held_before (sizes_on bytes present) (b + 1)
+    x = ap (λ q. held_before (sizes_on bytes present) q x) (name_at ranks (b + 1) few) in
     omega (
       arith,
       one,

@@ -61,14 +61,16 @@ gentle s b x h inside within =
           let other : s.at b (s.start near) ≡ s.at b (s.near b) = flat_at s b (s.start near) h (omega arith) reached in
           let level : s.at (b + 1) x ≡ s.at (b + 1) near = row.flat x (omega arith) in
           let here : s.at (b + 1) near ≤ s.at b (s.start near) + cut_cost s.sizes s.names b near = row.low near (omega arith) (omega (arith, before, behind)) in
-          let cheaper : cut_cost s.sizes s.names b near ≤ cut_cost s.sizes s.names b x = cost_falls s.sizes s.names s.present b x near (h.apart b inside) (omega arith) before (present_inside s b h inside) in
+          let cheaper : cut_cost s.sizes s.names b near ≤ cut_cost s.sizes s.names b x = cost_falls s.sizes s.names s.present b x near
+          (h.apart b inside) (omega arith) before (present_inside s b h inside) in
           omega (arith, level, here, one, other, cheaper)
       | inr inner ↦ elim (cases_lt far x) [
         | inr low ↦ row.low x inner low
         | inl late ↦
             let level : s.at (b + 1) x ≡ s.at (b + 1) far = row.level x (omega arith) in
             let here : s.at (b + 1) far ≤ s.at b (s.start far) + cut_cost s.sizes s.names b far = row.low far (omega (arith, before, behind)) (omega arith) in
-            let dearer : cut_cost s.sizes s.names b far ≤ cut_cost s.sizes s.names b x = cost_rises s.sizes s.names s.present b far x (h.apart b inside) behind (omega arith) (omega (arith, h.paired)) in
+            let dearer : cut_cost s.sizes s.names b far ≤ cut_cost s.sizes s.names b x = cost_rises s.sizes s.names s.present b far x
+            (h.apart b inside) behind (omega arith) (omega (arith, h.paired)) in
             let later : s.start far ≤ s.start x = later_start s far x h (omega arith) within in
             let higher : s.at b (s.start far) ≤ s.at b (s.start x) = rises_at s b (s.start far) (s.start x) h (omega arith) later in
             omega (arith, level, here, dearer, higher)
@@ -125,7 +127,8 @@ level_cut s b low cut h inside low_in level =
     let cost : s.at b (s.start cut) + cut_cost s.sizes s.names b cut ≡ s.at (b + 1) low = elim (cases_lt cut y) [
       | inr met ↦
           let here : y ≡ cut = omega (arith, met, onward) in
-          let at_cut : s.at b (s.start cut) + cut_cost s.sizes s.names b cut ≤ s.at (b + 1) cut = subst (λ n. s.at b (s.start n) + cut_cost s.sizes s.names b n ≤ s.at (b + 1) cut) here there in
+          let at_cut : s.at b (s.start cut) + cut_cost s.sizes s.names b cut ≤ s.at (b + 1) cut = subst
+          (λ n. s.at b (s.start n) + cut_cost s.sizes s.names b n ≤ s.at (b + 1) cut) here there in
           omega (arith, at_cut, below, same)
       | inl past ↦ elim (cases_lt cut (max present low)) [
         | inl short ↦
@@ -133,7 +136,8 @@ level_cut s b low cut h inside low_in level =
             let on : s.at (b + 1) (cut + 1) ≤ s.at (b + 1) y = row.rises (cut + 1) y (omega (arith, past)) in
             absurd (omega (arith, higher, on, row.low y (omega (arith, cut_near, onward)) y_far, there))
         | inr full ↦
-            let dearer : cut_cost s.sizes s.names b cut ≤ cut_cost s.sizes s.names b y = cost_rises s.sizes s.names s.present b cut y (h.apart b inside) (omega (arith, full)) onward (omega (arith, y_far, far_in, h.paired)) in
+            let dearer : cut_cost s.sizes s.names b cut ≤ cut_cost s.sizes s.names b y = cost_rises s.sizes s.names s.present b cut y
+            (h.apart b inside) (omega (arith, full)) onward (omega (arith, y_far, far_in, h.paired)) in
             let later : s.start cut ≤ s.start y = later_start s cut y h onward (omega (arith, y_far, far_in)) in
             let higher : s.at b (s.start cut) ≤ s.at b (s.start y) = rises_at s b (s.start cut) (s.start y) h (omega arith) later in
             omega (arith, dearer, higher, there, below, same)
@@ -153,11 +157,15 @@ levels_ordered s b low cut next h inside low_in level level_next =
       | inr ordered ↦ ordered
       | inl back ↦
           let before : cut ≤ slice_index s.present (b + 1) = omega (arith, level.to, start_inside s next h next_in, back) in
-          let later : slice_index s.present (b + 1) ≤ slice_index s.present (b + 1 + 1) = (block_within (length s.sizes) (length s.names) s.present (b + 1) h.divides (omega arith)).0 in
+          let later : slice_index s.present (b + 1) ≤ slice_index s.present
+          (b + 1 + 1) = (block_within (length s.sizes) (length s.names) s.present (b + 1) h.divides (omega arith)).0 in
           let behind : slice_index s.present (b + 1 + 1) ≤ s.far (b + 1 + 1) = h.spans.far_behind (b + 1 + 1) inside in
-          let cheaper : cut_cost s.sizes s.names (b + 1) cut ≤ cut_cost s.sizes s.names (b + 1) next = cost_falls s.sizes s.names s.present (b + 1) next cut (h.apart (b + 1) inside) (omega (arith, back)) (omega (arith, before, later)) (present_inside s (b + 1) h inside) in
-          let low_there : s.at (b + 1 + 1) cut ≤ s.at (b + 1) (s.start cut) + cut_cost s.sizes s.names (b + 1) cut = (h.table.rows (b + 1) inside).low cut (omega (arith, there.near, back)) (omega (arith, before, later, behind)) in
-          let lower : s.at (b + 1) (s.start cut) ≤ s.at (b + 1) cut = rises_at s (b + 1) (s.start cut) cut h (omega arith) (start_inside s cut h (omega (arith, before, later, behind, far_in))) in
+          let cheaper : cut_cost s.sizes s.names (b + 1) cut ≤ cut_cost s.sizes s.names (b + 1) next = cost_falls s.sizes s.names s.present
+          (b + 1) next cut (h.apart (b + 1) inside) (omega (arith, back)) (omega (arith, before, later)) (present_inside s (b + 1) h inside) in
+          let low_there : s.at (b + 1 + 1) cut ≤ s.at (b + 1) (s.start cut) + cut_cost s.sizes s.names (b + 1)
+          cut = (h.table.rows (b + 1) inside).low cut (omega (arith, there.near, back)) (omega (arith, before, later, behind)) in
+          let lower : s.at (b + 1) (s.start cut) ≤ s.at (b + 1) cut = rises_at s (b + 1) (s.start cut) cut h (omega arith)
+          (start_inside s cut h (omega (arith, before, later, behind, far_in))) in
           let higher : s.at (b + 1 + 1) next < s.at (b + 1 + 1) cut = level_next.last cut back (omega (arith, before, later)) in
           absurd (omega (arith, higher, low_there, lower, level.level, cheaper, there.cost, level_next.level))
     ]
@@ -178,7 +186,8 @@ low_inside s cuts zero b h read same =
 low_inside s cuts (suc left) b h read same =
     let inside : b + 1 < length s.names = omega (arith, same) in
     let next = low_inside s cuts left (b + 1) h read (omega (arith, same)) in
-    let cut : IsLevelCut s b (s.start (slice_index cuts (b + 1 + 1))) (slice_index cuts (b + 1)) = level_cut s b (s.start (slice_index cuts (b + 1 + 1))) (slice_index cuts (b + 1)) h inside next.0 (read.level b inside) in
+    let cut : IsLevelCut s b (s.start (slice_index cuts (b + 1 + 1))) (slice_index cuts (b + 1)) = level_cut s b
+    (s.start (slice_index cuts (b + 1 + 1))) (slice_index cuts (b + 1)) h inside next.0 (read.level b inside) in
     let far_in : s.far (b + 1) ≤ length s.loads = h.spans.far_inside (b + 1) inside in
     (omega (arith, later_start s (slice_index cuts (b + 1)) (s.far (b + 1)) h cut.far far_in, h.spans.far_reached b inside), omega (arith, cut.far, far_in))
 
@@ -196,7 +205,8 @@ block_starts s cuts (suc b) h read begins inside =
     let level = read.level b (omega arith) in
     let ordered : slice_index cuts (b + 1) ≤ slice_index cuts (b + 1 + 1) = elim (cases_lt (b + 1 + 1) (length s.names)) [
       | inl more ↦
-          levels_ordered s b (s.start (slice_index cuts (b + 1 + 1 + 1))) (slice_index cuts (b + 1)) (slice_index cuts (b + 1 + 1)) h more (low_at s cuts (b + 1 + 1) h read more) level (read.level (b + 1) more)
+          levels_ordered s b (s.start (slice_index cuts (b + 1 + 1 + 1))) (slice_index cuts (b + 1)) (slice_index cuts (b + 1 + 1)) h more
+          (low_at s cuts (b + 1 + 1) h read more) level (read.level (b + 1) more)
       | inr last ↦
           let all : length s.names ≡ b + 1 + 1 = omega (arith, last, inside) in
           let end : slice_index cuts (b + 1 + 1) ≡ length s.loads = subst (λ n. slice_index cuts n ≡ length s.loads) all read.ends in
@@ -215,9 +225,12 @@ read_cost s cuts zero h read inside = omega arith
 read_cost s cuts (suc b) h read inside =
     let before : cost_to s cuts b + s.at 0 (s.start (slice_index cuts 1)) ≡ s.at b (s.start (slice_index cuts (b + 1))) = read_cost s cuts b h read (omega arith) in
     let low : ℕ = s.start (slice_index cuts (b + 1 + 1)) in
-    let here : IsLevelCut s b low (slice_index cuts (b + 1)) = level_cut s b low (slice_index cuts (b + 1)) h (omega arith) (low_at s cuts (b + 1) h read (omega arith)) (read.level b (omega arith)) in
-    let more : (cost_to s cuts b + cut_cost s.sizes s.names b (slice_index cuts (b + 1))) + s.at 0 (s.start (slice_index cuts 1)) ≡ s.at (b + 1) (s.start (slice_index cuts (b + 1 + 1))) = omega (arith, before, here.cost) in
-    subst (λ n. (cost_to s cuts b + cut_cost s.sizes s.names b (slice_index cuts (b + 1))) + s.at 0 (s.start (slice_index cuts 1)) ≡ s.at n (s.start (slice_index cuts (n + 1)))) (add-one b) more
+    let here : IsLevelCut s b low (slice_index cuts (b + 1)) = level_cut s b low (slice_index cuts (b + 1)) h (omega arith)
+    (low_at s cuts (b + 1) h read (omega arith)) (read.level b (omega arith)) in
+    let more : (cost_to s cuts b + cut_cost s.sizes s.names b (slice_index cuts (b + 1))) + s.at 0 (s.start (slice_index cuts 1)) ≡ s.at
+    (b + 1) (s.start (slice_index cuts (b + 1 + 1))) = omega (arith, before, here.cost) in
+    subst (λ n. (cost_to s cuts b + cut_cost s.sizes s.names b (slice_index cuts (b + 1))) + s.at 0 (s.start (slice_index cuts 1)) ≡ s.at n
+    (s.start (slice_index cuts (n + 1)))) (add-one b) more
 
 -- all cuts cost the height at the end of the table
 pub read_cost_all : (s : Searched) (cuts : List ℕ) → IsSearch s → IsReading s cuts → cuts_cost s.sizes s.names cuts + s.at 0 (s.start (slice_index cuts 1)) ≡ top s
@@ -244,13 +257,20 @@ read_within s cuts h read begins =
         starts = read.starts;
         ordered = IsNonDecreasingBy-from_default (λ x. x) cuts 0 (λ i j onward inside.
             let same : i + (j - i) ≡ j = omega arith in
-            subst (λ n. slice_index cuts i ≤ slice_index cuts n) same (rises_by (slice_index cuts) (length s.names) i (j - i) (λ b within. (block_starts s cuts b h read begins within).1) (omega (arith, read.counted))));
+            subst (λ n. slice_index cuts i ≤ slice_index cuts n) same
+            (rises_by (slice_index cuts) (length s.names) i (j - i) (λ b within. (block_starts s cuts b h read begins within).1)
+            (omega (arith, read.counted))));
         ends = read.ends;
       };
       within = λ b inside.
           let block = block_starts s cuts b h read begins inside in
           let end_in : slice_index cuts (b + 1) ≤ length s.loads = cut_inside s cuts b h read inside in
-          omega (arith, (h.starts (slice_index cuts (b + 1)) end_in).light, load_wider s.loads (slice_index cuts b) (slice_index cuts (b + 1)) (s.start (slice_index cuts (b + 1))) (slice_index cuts (b + 1)) block.0 block.1 (omega arith));
+          omega (
+            arith,
+            (h.starts (slice_index cuts (b + 1)) end_in).light,
+            load_wider s.loads (slice_index cuts b) (slice_index cuts (b + 1)) (s.start (slice_index cuts (b + 1)))
+                (slice_index cuts (b + 1)) block.0 block.1 (omega arith),
+          );
     }
 
 -- where any cuts are within the limit, the first block begins at 0

@@ -27,7 +27,8 @@ unmerged_divides loads runs starts cuts first end blocks h divides inside =
             arith,
             unmerged_at starts cuts i (omega (arith, onward, last)),
             unmerged_at starts cuts j last,
-            start_rises loads runs starts (slice_index cuts i) (slice_index cuts j) h (divides.ordered i j 0 onward last) (omega (arith, divides.ordered j blocks 0 (omega (arith, last, divides.counted)) (omega (arith, divides.counted)), divides.ends, inside)),
+            start_rises loads runs starts (slice_index cuts i) (slice_index cuts j) h (divides.ordered i j 0 onward last)
+                (omega (arith, divides.ordered j blocks 0 (omega (arith, last, divides.counted)) (omega (arith, divides.counted)), divides.ends, inside)),
           ));
       ends = unmerged_at starts cuts blocks (omega (arith, divides.counted)) ∙ ap (slice_index starts) divides.ends;
     }
@@ -38,20 +39,25 @@ unmerged_light : (loads runs starts cuts : List ℕ) (first end blocks limit : �
 unmerged_light loads runs starts cuts first end blocks limit h divides inside within b few =
     let rises : slice_index cuts b ≤ slice_index cuts (b + 1) = divides.ordered b (b + 1) 0 (omega arith) (omega (arith, divides.counted)) in
     let last : slice_index cuts (b + 1) ≤ length runs = omega (arith, divides.ordered (b + 1) blocks 0 (omega arith) (omega (arith, divides.counted)), divides.ends, inside) in
-    rw (unmerged_at starts cuts b (omega (arith, divides.counted)), unmerged_at starts cuts (b + 1) (omega (arith, divides.counted))) (omega (arith, within b few, runs_weigh loads runs starts (slice_index cuts b) (slice_index cuts (b + 1)) h rises last))
+    rw (unmerged_at starts cuts b (omega (arith, divides.counted)), unmerged_at starts cuts (b + 1) (omega (arith, divides.counted)))
+    (omega (arith, within b few, runs_weigh loads runs starts (slice_index cuts b) (slice_index cuts (b + 1)) h rises last))
 
 -- bounds of runs, where these start
 unmerged_bounds : (loads runs starts standing near far : List ℕ) (blocks limit : ℕ) → AreRuns loads runs starts
     → IsDivision 0 (length runs) blocks standing → AreBounds runs standing blocks limit near far
     → AreBounds loads (unmerged starts standing) blocks limit (unmerged starts near) (unmerged starts far)
 unmerged_bounds loads runs starts standing near far blocks limit h divides bounds =
-    let standing_in : (b : ℕ) → b ≤ blocks → slice_index standing b ≤ length runs = λ b few. omega (arith, divides.ordered b blocks 0 few (omega (arith, divides.counted)), divides.ends) in
+    let standing_in : (b : ℕ) → b ≤ blocks → slice_index standing b ≤ length runs = λ b few. omega
+    (arith, divides.ordered b blocks 0 few (omega (arith, divides.counted)), divides.ends) in
     let near_in : slice_index near blocks ≤ length runs = omega (arith, bounds.near_before blocks (omega arith), standing_in blocks (omega arith)) in
-    let far_in : (b : ℕ) → b ≤ blocks → slice_index far b ≤ length runs = λ b few. omega (arith, bounds.far_divides.ordered b blocks 0 few (omega (arith, bounds.far_divides.counted)), bounds.far_divides.ends) in
+    let far_in : (b : ℕ) → b ≤ blocks → slice_index far b ≤ length runs = λ b few. omega
+    (arith, bounds.far_divides.ordered b blocks 0 few (omega (arith, bounds.far_divides.counted)), bounds.far_divides.ends) in
     let near_cuts = unmerged_divides loads runs starts near 0 (slice_index near blocks) blocks h bounds.near_divides near_in in
     let far_cuts = unmerged_divides loads runs starts far (slice_index far 0) (length runs) blocks h bounds.far_divides (omega arith) in
     record {
-      near_divides = subst (λ n. IsDivision n (slice_index (unmerged starts near) blocks) blocks (unmerged starts near)) h.begins (subst (λ n. IsDivision (slice_index starts 0) n blocks (unmerged starts near)) (sym (unmerged_at starts near blocks (omega (arith, bounds.near_divides.counted)))) near_cuts);
+      near_divides = subst (λ n. IsDivision n (slice_index (unmerged starts near) blocks) blocks (unmerged starts near)) h.begins
+          (subst (λ n. IsDivision (slice_index starts 0) n blocks (unmerged starts near))
+          (sym (unmerged_at starts near blocks (omega (arith, bounds.near_divides.counted)))) near_cuts);
       near_within = unmerged_light loads runs starts near 0 (slice_index near blocks) blocks limit h bounds.near_divides near_in bounds.near_within;
       near_before = λ b few.
           omega (
@@ -60,7 +66,9 @@ unmerged_bounds loads runs starts standing near far blocks limit h divides bound
             unmerged_at starts standing b (omega (arith, divides.counted)),
             start_rises loads runs starts (slice_index near b) (slice_index standing b) h (bounds.near_before b few) (standing_in b few),
           );
-      far_divides = subst (λ n. IsDivision n (length loads) blocks (unmerged starts far)) (sym (unmerged_at starts far 0 (omega (arith, bounds.far_divides.counted)))) (subst (λ n. IsDivision (slice_index starts (slice_index far 0)) n blocks (unmerged starts far)) h.ends far_cuts);
+      far_divides = subst (λ n. IsDivision n (length loads) blocks (unmerged starts far))
+          (sym (unmerged_at starts far 0 (omega (arith, bounds.far_divides.counted))))
+          (subst (λ n. IsDivision (slice_index starts (slice_index far 0)) n blocks (unmerged starts far)) h.ends far_cuts);
       far_within = unmerged_light loads runs starts far (slice_index far 0) (length runs) blocks limit h bounds.far_divides (omega arith) bounds.far_within;
       far_behind = λ b few.
           omega (
@@ -87,7 +95,8 @@ each_begins loads runs starts a b x h onward inside single from to =
     let k : ℕ = x - slice_index starts a in
     let end : a + k + (b - (a + k)) ≡ b = omega (arith, single, from, to) in
     let up : slice_index starts a + k ≤ slice_index starts (a + k) = starts_onward loads runs starts a k h (omega (arith, end, inside)) in
-    let rest : slice_index starts (a + k) + (b - (a + k)) ≤ slice_index starts (a + k + (b - (a + k))) = starts_onward loads runs starts (a + k) (b - (a + k)) h (omega (arith, end, inside)) in
+    let rest : slice_index starts (a + k) + (b - (a + k)) ≤ slice_index starts (a + k + (b - (a + k))) = starts_onward loads runs starts
+    (a + k) (b - (a + k)) h (omega (arith, end, inside)) in
     let down : slice_index starts (a + k) + (b - (a + k)) ≤ slice_index starts b = subst (λ n. slice_index starts (a + k) + (b - (a + k)) ≤ slice_index starts n) end rest in
     (a + k, omega (arith, h.counted, end, inside), omega (arith, up, down, single, from, to, end))
 
@@ -96,13 +105,21 @@ unmerged_reaches : (loads runs starts first last : List ℕ) (blocks limit : ℕ
     → length last ≡ blocks + 1 → AreRunReaches runs starts blocks limit first last
     → AreReaches loads blocks limit (unmerged starts first) (unmerged starts last)
 unmerged_reaches loads runs starts first last blocks limit h first_counted last_counted reaches =
-    let first_in : (b : ℕ) → b ≤ blocks → slice_index first b ≤ length runs = λ b few. omega (arith, reaches.first_rises b blocks 0 few (omega (arith, first_counted)), reaches.first_ends) in
-    let last_in : (b : ℕ) → b ≤ blocks → slice_index last b ≤ length runs = λ b few. omega (arith, reaches.last_rises b blocks 0 few (omega (arith, last_counted)), reaches.last_ends) in
+    let first_in : (b : ℕ) → b ≤ blocks → slice_index first b ≤ length runs = λ b few. omega
+    (arith, reaches.first_rises b blocks 0 few (omega (arith, first_counted)), reaches.first_ends) in
+    let last_in : (b : ℕ) → b ≤ blocks → slice_index last b ≤ length runs = λ b few. omega
+    (arith, reaches.last_rises b blocks 0 few (omega (arith, last_counted)), reaches.last_ends) in
     record {
-      first_ends = omega (arith, unmerged_at starts first blocks (omega (arith, first_counted)), start_rises loads runs starts (slice_index first blocks) (length runs) h (first_in blocks (omega arith)) (omega arith), h.ends);
+      first_ends = omega (
+        arith,
+        unmerged_at starts first blocks (omega (arith, first_counted)),
+        start_rises loads runs starts (slice_index first blocks) (length runs) h (first_in blocks (omega arith)) (omega arith),
+        h.ends,
+      );
       first_heavy = λ b few.
           let here : slice_index (unmerged starts first) b ≡ slice_index starts (slice_index first b) = unmerged_at starts first b (omega (arith, first_counted)) in
-          let next : slice_index (unmerged starts first) (b + 1) ≡ slice_index starts (slice_index first (b + 1)) = unmerged_at starts first (b + 1) (omega (arith, first_counted)) in
+          let next : slice_index (unmerged starts first) (b + 1) ≡ slice_index starts (slice_index first (b + 1)) = unmerged_at starts first
+          (b + 1) (omega (arith, first_counted)) in
           elim (cases_lt 0 (slice_index first b)) [
             | inr begin ↦
                 let zero_run : slice_index first b ≡ 0 = omega (arith, begin) in
@@ -110,12 +127,14 @@ unmerged_reaches loads runs starts first last blocks limit h first_counted last_
             | inl some ↦
                 let found = reaches.are_first b few some in
                 let back : slice_index first b - 1 + 1 ≡ slice_index first b = omega (arith, some) in
-                let single : slice_index starts (slice_index first b) ≡ slice_index starts (slice_index first b - 1) + 1 = subst (λ n. slice_index starts n ≡ slice_index starts (slice_index first b - 1) + 1) back found.1 in
+                let single : slice_index starts (slice_index first b) ≡ slice_index starts (slice_index first b - 1) + 1 = subst
+                (λ n. slice_index starts n ≡ slice_index starts (slice_index first b - 1) + 1) back found.1 in
                 let before : slice_index (unmerged starts first) b - 1 ≡ slice_index starts (slice_index first b - 1) = omega (arith, here, single) in
                 let onward : slice_index first b ≤ slice_index first (b + 1) = reaches.first_rises b (b + 1) 0 (omega arith) (omega (arith, first_counted)) in
                 let weigh = runs_weigh loads runs starts (slice_index first b - 1) (slice_index first (b + 1)) h (omega (arith, onward)) (first_in (b + 1) (omega (arith, few))) in
                 let heavy : limit < load loads (slice_index starts (slice_index first b - 1)) (slice_index starts (slice_index first (b + 1))) = omega (arith, found.0, weigh) in
-                inr (subst (λ n. limit < load loads n (slice_index (unmerged starts first) (b + 1))) (sym before) (subst (λ n. limit < load loads (slice_index starts (slice_index first b - 1)) n) (sym next) heavy))
+                inr (subst (λ n. limit < load loads n (slice_index (unmerged starts first) (b + 1))) (sym before)
+                (subst (λ n. limit < load loads (slice_index starts (slice_index first b - 1)) n) (sym next) heavy))
           ];
       last_heavy = λ b few.
           let here : slice_index (unmerged starts last) b ≡ slice_index starts (slice_index last b) = unmerged_at starts last b (omega (arith, last_counted)) in
@@ -130,7 +149,8 @@ unmerged_reaches loads runs starts first last blocks limit h first_counted last_
                 let onward : slice_index last b ≤ slice_index last (b + 1) = reaches.last_rises b (b + 1) 0 (omega arith) (omega (arith, last_counted)) in
                 let weigh = runs_weigh loads runs starts (slice_index last b) (slice_index last (b + 1) + 1) h (omega (arith, onward)) (omega (arith, inner)) in
                 let heavy : limit < load loads (slice_index starts (slice_index last b)) (slice_index starts (slice_index last (b + 1) + 1)) = omega (arith, found.0, weigh) in
-                inr (subst (λ n. limit < load loads n (slice_index (unmerged starts last) (b + 1) + 1)) (sym here) (subst (λ n. limit < load loads (slice_index starts (slice_index last b)) n) behind heavy))
+                inr (subst (λ n. limit < load loads n (slice_index (unmerged starts last) (b + 1) + 1)) (sym here)
+                (subst (λ n. limit < load loads (slice_index starts (slice_index last b)) n) behind heavy))
           ];
     }
 
@@ -164,11 +184,16 @@ single_kept : (loads runs starts standing near far first last : List ℕ) (block
 single_kept loads runs starts standing near far first last blocks limit h divides bounds first_counted last_counted reaches single b x some few near_x first_x x_far x_last =
     let a : ℕ = from_place near first b in
     let z : ℕ = to_place far last b in
-    let far_in : slice_index far b ≤ length runs = omega (arith, bounds.far_divides.ordered b blocks 0 (omega arith) (omega (arith, bounds.far_divides.counted)), bounds.far_divides.ends) in
+    let far_in : slice_index far b ≤ length runs = omega
+    (arith, bounds.far_divides.ordered b blocks 0 (omega arith) (omega (arith, bounds.far_divides.counted)), bounds.far_divides.ends) in
     let near_in : slice_index near b ≤ length runs = omega (arith, far_in, bounds.near_before b (omega arith), bounds.far_behind b (omega arith)) in
     let first_in : slice_index first b ≤ length runs = omega (arith, reaches.first_rises b blocks 0 (omega arith) (omega (arith, first_counted)), reaches.first_ends) in
-    let low : slice_index starts a ≤ x = start_of_later starts (slice_index near b) (slice_index first b) x (omega (arith, near_x, unmerged_at starts near b (omega (arith, bounds.near_divides.counted)))) (omega (arith, first_x, unmerged_at starts first b (omega (arith, first_counted)))) in
-    let high : x ≤ slice_index starts z = start_of_earlier starts (slice_index far b) (slice_index last b) x (omega (arith, x_far, unmerged_at starts far b (omega (arith, bounds.far_divides.counted)))) (omega (arith, x_last, unmerged_at starts last b (omega (arith, last_counted)))) in
+    let low : slice_index starts a ≤ x = start_of_later starts (slice_index near b) (slice_index first b) x
+    (omega (arith, near_x, unmerged_at starts near b (omega (arith, bounds.near_divides.counted))))
+    (omega (arith, first_x, unmerged_at starts first b (omega (arith, first_counted)))) in
+    let high : x ≤ slice_index starts z = start_of_earlier starts (slice_index far b) (slice_index last b) x
+    (omega (arith, x_far, unmerged_at starts far b (omega (arith, bounds.far_divides.counted))))
+    (omega (arith, x_last, unmerged_at starts last b (omega (arith, last_counted)))) in
     let a_in : a ≤ length runs = omega (arith, near_in, first_in) in
     let z_in : z ≤ length runs = omega (arith, far_in) in
     let onward : a ≤ z = elim (cases_lt z a) [
@@ -189,7 +214,8 @@ whole_nearest loads bytes runs run_bytes starts standing near far first last blo
     kept_nearest loads bytes (unmerged starts standing) runs run_bytes starts standing blocks limit cuts (record {
       some_block = some;
       paired = sym hold.ends ∙ same_end ∙ weigh.ends;
-      divides = subst (λ n. IsDivision n (length loads) blocks (unmerged starts standing)) weigh.begins (subst (λ n. IsDivision (slice_index starts 0) n blocks (unmerged starts standing)) weigh.ends whole);
+      divides = subst (λ n. IsDivision n (length loads) blocks (unmerged starts standing)) weigh.begins
+          (subst (λ n. IsDivision (slice_index starts 0) n blocks (unmerged starts standing)) weigh.ends whole);
       runs_weigh = weigh;
       runs_hold = hold;
       standing_divides = divides;
@@ -197,5 +223,7 @@ whole_nearest loads bytes runs run_bytes starts standing near far first last blo
       near = unmerged starts near;
       far = unmerged starts far;
       bounds = unmerged_bounds loads runs starts standing near far blocks limit weigh divides bounds;
-      kept = places_keep loads starts (unmerged starts near) (unmerged starts far) (unmerged starts first) (unmerged starts last) blocks limit (unmerged_reaches loads runs starts first last blocks limit weigh first_counted last_counted reaches) (single_kept loads runs starts standing near far first last blocks limit weigh divides bounds first_counted last_counted reaches single);
+      kept = places_keep loads starts (unmerged starts near) (unmerged starts far) (unmerged starts first) (unmerged starts last) blocks
+          limit (unmerged_reaches loads runs starts first last blocks limit weigh first_counted last_counted reaches)
+          (single_kept loads runs starts standing near far first last blocks limit weigh divides bounds first_counted last_counted reaches single);
     }) nearest

@@ -22,7 +22,8 @@ to_place far last b = min (slice_index far b) (slice_index last b)
 -- between these places of each cut between blocks, if there are any, every run has one element
 abbrev pub AreSingle : List ℕ → ℕ → List ℕ → List ℕ → List ℕ → List ℕ → Type 0
 AreSingle starts blocks near far first last =
-    (b : ℕ) → 0 < b → b < blocks → from_place near first b ≤ to_place far last b → slice_index starts (to_place far last b) ≡ slice_index starts (from_place near first b) + (to_place far last b - from_place near first b)
+    (b : ℕ) → 0 < b → b < blocks → from_place near first b ≤ to_place far last b
+    → slice_index starts (to_place far last b) ≡ slice_index starts (from_place near first b) + (to_place far last b - from_place near first b)
 
 -- the run with this number has one element
 abbrev pub IsSingle : List ℕ → ℕ → Type 0
@@ -37,7 +38,8 @@ AreFirst loads starts blocks limit first =
 -- and behind none of these: up to the run behind the next one, which has one element, unless the runs end there
 abbrev pub AreLast : List ℕ → List ℕ → ℕ → ℕ → List ℕ → Type 0
 AreLast loads starts blocks limit last =
-    (b : ℕ) → b < blocks → slice_index last (b + 1) < length loads → (limit < load loads (slice_index last b) (slice_index last (b + 1) + 1)) × IsSingle starts (slice_index last (b + 1))
+    (b : ℕ) → b < blocks → slice_index last (b + 1) < length loads
+    → (limit < load loads (slice_index last b) (slice_index last (b + 1) + 1)) × IsSingle starts (slice_index last (b + 1))
 
 -- both
 pub record AreRunReaches (loads starts : List ℕ) (blocks limit : ℕ) (first last : List ℕ) : Type 0 where

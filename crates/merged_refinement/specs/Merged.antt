@@ -22,7 +22,8 @@ pub record AreBounds (loads present : List ℕ) (blocks limit : ℕ) (near far :
 -- of any cuts within the limit each one between blocks that lies between its bounds, these included, begins a run
 abbrev pub KeepsCuts : List ℕ → List ℕ → ℕ → ℕ → List ℕ → List ℕ → Type 0
 KeepsCuts loads starts blocks limit near far =
-    (cuts : List ℕ) (b : ℕ) → AreWithin loads (in_order blocks) limit cuts → 0 < b → b < blocks → slice_index near b ≤ slice_index cuts b → slice_index cuts b ≤ slice_index far b → IsStart starts (slice_index cuts b)
+    (cuts : List ℕ) (b : ℕ) → AreWithin loads (in_order blocks) limit cuts → 0 < b → b < blocks → slice_index near b ≤ slice_index cuts b
+    → slice_index cuts b ≤ slice_index far b → IsStart starts (slice_index cuts b)
 
 -- How far cuts within the limit reach. With the element before it, a block from a first place to the next one is above the
 -- limit, unless it begins at 0; and so is one from a last place up to the element behind the next one, unless that ends the chain.

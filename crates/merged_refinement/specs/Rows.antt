@@ -60,7 +60,8 @@ pub record IsTable (bytes : List ℕ) (t : Table) : Type 0 where
 -- the rows of the first blocks
 abbrev pub ArePiledUp : List ℕ → Table → ℕ → List (ℕ × List ℕ) → Type 0
 ArePiledUp bytes t blocks rows =
-    ArePiled (sizes_on bytes t.present.now) (in_order (length t.near.now - 1)) (2 ^ 62) (slice_index t.starts.now) (slice_index t.near.now) (slice_index t.far.now) blocks (rows_at rows)
+    ArePiled (sizes_on bytes t.present.now) (in_order (length t.near.now - 1)) (2 ^ 62) (slice_index t.starts.now) (slice_index t.near.now)
+    (slice_index t.far.now) blocks (rows_at rows)
 
 -- no height of a block's row is above this
 abbrev pub AreSmall : List ℕ → Table → ℕ → List (ℕ × List ℕ) → Type 0

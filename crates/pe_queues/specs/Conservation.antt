@@ -36,7 +36,9 @@ with_take v x = traffic v.seats v.rooms v.puts (v.takes ++ x ∷ [])
 abbrev pub of_both : {T : Type 0} → Traffic T → Traffic T → Traffic T
 of_both v w = traffic (v.seats + w.seats) (v.rooms + w.rooms) (v.puts ++ w.puts) (v.takes ++ w.takes)
 
--- The rule. Of each pass the traffic is known; the passes are all seats, one of which brought the room; what was put through all of them is what was taken through all of them together with what the queue holds, however values are weighed; and nothing has gone through a pass that is no seat
+-- The rule. Of each pass the traffic is known; the passes are all seats, one of which brought the room; what was put through all of
+-- them is what was taken through all of them together with what the queue holds, however values are weighed; and nothing has gone
+-- through a pass that is no seat
 pub record Conserved {T : Type 0} (items : List T) (passes : List (Traffic T)) : Type 0 where
   pub seats : sum_by (λ (v : Traffic T). v.seats) passes ≡ SEATS
   pub rooms : sum_by (λ (v : Traffic T). v.rooms) passes ≡ 1

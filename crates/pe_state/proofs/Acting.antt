@@ -31,7 +31,8 @@ pub record Holds {C : Type 0} (pe v : PeView C) (x : Item) (parcel : Parcel) (lo
   pub parcel_is : x.parcel ≡ parcel
   pub look_is : x.address ≡ look
 
-pub held_again : {C : Type 0} (pe v : PeView C) (h : Option Item) (x : Item) (parcel : Parcel) (look : Option ℕ) → Holds pe v x parcel look → pe ≡ held (record v { hand = h }) parcel look
+pub held_again : {C : Type 0} (pe v : PeView C) (h : Option Item) (x : Item) (parcel : Parcel) (look : Option ℕ) → Holds pe v x parcel look
+    → pe ≡ held (record v { hand = h }) parcel look
 held_again pe v h x parcel look i =
     i.view_is
     ∙ ap (λ y. record v { hand = y }) i.in_hand
@@ -58,7 +59,8 @@ module _ {C : Type 0} (step : Step C) (pack : C → List ℕ) (unpack : List ℕ
   passing_without v h l None = refl
   passing_without v h l (Some q) = refl
 
-  letter_without : (v : PeView C) (h : Option Item) (l : LetterView) (look : Option ℕ) (f : Option (ElementView C)) → on_letter step pack v l look f ≡ on_letter step pack (record v { hand = h }) l look f
+  letter_without : (v : PeView C) (h : Option Item) (l : LetterView) (look : Option ℕ) (f : Option (ElementView C))
+      → on_letter step pack v l look f ≡ on_letter step pack (record v { hand = h }) l look f
   letter_without v h l look None = passing_without v h l look
   letter_without v h l look (Some el) = refl
 
@@ -67,17 +69,23 @@ module _ {C : Type 0} (step : Step C) (pack : C → List ℕ) (unpack : List ℕ
   idle pe v e none = ap (acting step pack unpack) (sym e) ∙ ap (acting_on step pack unpack v) (sym none)
 
   -- an element that has started executes its letter, and no other does
-  pub waits : (v : PeView C) (l : LetterView) (look : Option ℕ) (f : Option (ElementView C)) (el : ElementView C) (p : Progress) → f ≡ Some el → p ≡ el.progress → not p.started ≡ true → on_letter step pack v l look f ≡ None
-  waits v l look f el p e s h = ap (on_letter step pack v l look) e ∙ ap (λ b. if b then Some (executed step pack v l) else None) (sym (ap (λ x. x.started) s) ∙ not_true p.started h)
+  pub waits : (v : PeView C) (l : LetterView) (look : Option ℕ) (f : Option (ElementView C)) (el : ElementView C) (p : Progress)
+      → f ≡ Some el → p ≡ el.progress → not p.started ≡ true → on_letter step pack v l look f ≡ None
+  waits v l look f el p e s h = ap (on_letter step pack v l look) e
+      ∙ ap (λ b. if b then Some (executed step pack v l) else None) (sym (ap (λ x. x.started) s) ∙ not_true p.started h)
 
-  pub runs : (v : PeView C) (l : LetterView) (look : Option ℕ) (f : Option (ElementView C)) (el : ElementView C) (p : Progress) → f ≡ Some el → p ≡ el.progress → not p.started ≡ false → on_letter step pack v l look f ≡ Some (executed step pack v l)
-  runs v l look f el p e s h = ap (on_letter step pack v l look) e ∙ ap (λ b. if b then Some (executed step pack v l) else None) (sym (ap (λ x. x.started) s) ∙ not_false p.started h)
+  pub runs : (v : PeView C) (l : LetterView) (look : Option ℕ) (f : Option (ElementView C)) (el : ElementView C) (p : Progress)
+      → f ≡ Some el → p ≡ el.progress → not p.started ≡ false → on_letter step pack v l look f ≡ Some (executed step pack v l)
+  runs v l look f el p e s h = ap (on_letter step pack v l look) e
+      ∙ ap (λ b. if b then Some (executed step pack v l) else None) (sym (ap (λ x. x.started) s) ∙ not_false p.started h)
 
-  installing_without : (v : PeView C) (h : Option Item) (p : PackedView) (r : Result (C × ℕ) PupError) → installing step pack unpack v p r ≡ installing step pack unpack (record v { hand = h }) p r
+  installing_without : (v : PeView C) (h : Option Item) (p : PackedView) (r : Result (C × ℕ) PupError)
+      → installing step pack unpack v p r ≡ installing step pack unpack (record v { hand = h }) p r
   installing_without v h p (Ok x) = refl
   installing_without v h p (Err e) = refl
 
-  element_without : (v : PeView C) (h : Option Item) (p : PackedView) (f : Option (ElementView C)) → on_element step pack unpack v p f ≡ on_element step pack unpack (record v { hand = h }) p f
+  element_without : (v : PeView C) (h : Option Item) (p : PackedView) (f : Option (ElementView C))
+      → on_element step pack unpack v p f ≡ on_element step pack unpack (record v { hand = h }) p f
   element_without v h p None = installing_without v h p (unpack p.bytes)
   element_without v h p (Some el) = refl
 
@@ -157,7 +165,8 @@ module _ {T E : Type 0} (tracing : Bool) (before after : List TraceEntry) where
   pub traced_nothing : {C : Type 0} (x : T) (acting : Option (Acting C)) → acting ≡ None → after ≡ before → Traces {T = T} {E = E} (Ok x) tracing (trace_of acting) before after
   traced_nothing x acting none same = record { ok = same ∙ traced_none tracing before ∙ sym (ap (λ a. traced tracing before (trace_of a)) none); err = tt }
 
-  pub traced_so : {C : Type 0} (x : T) (acting : Option (Acting C)) (a : Acting C) → acting ≡ Some a → after ≡ traced tracing before a.trace → Traces {T = T} {E = E} (Ok x) tracing (trace_of acting) before after
+  pub traced_so : {C : Type 0} (x : T) (acting : Option (Acting C)) (a : Acting C) → acting ≡ Some a → after ≡ traced tracing before a.trace
+      → Traces {T = T} {E = E} (Ok x) tracing (trace_of acting) before after
   traced_so x acting a some new = record { ok = new ∙ sym (ap (λ a. traced tracing before (trace_of a)) some); err = tt }
 
   pub untraced : (result : Result T E) (entries : List TraceEntry) → IsErr result → after ≡ before → Traces result tracing entries before after

@@ -44,13 +44,15 @@ length_set (y ∷ xs) zero x = refl
 length_set (y ∷ xs) (suc i) x = let h = length_set xs i x in omega arith
 
 -- how many elements are left from a row on
-pub left_from : {X : Type 0} (rows : List (List (ℕ × X))) (i : ℕ) (z : List (ℕ × X)) → i < length rows → z ≡ get_or rows i z → length (entries_of (drop i rows)) ≡ length z + length (entries_of (drop (i + 1) rows))
+pub left_from : {X : Type 0} (rows : List (List (ℕ × X))) (i : ℕ) (z : List (ℕ × X)) → i < length rows → z ≡ get_or rows i z
+    → length (entries_of (drop i rows)) ≡ length z + length (entries_of (drop (i + 1) rows))
 left_from {X} rows i z h read =
     let first : drop i rows ≡ z ∷ drop (i + 1) rows = drop_more rows i z h ∙ ap (λ (y : List (ℕ × X)). y ∷ drop (i + 1) rows) (sym read) in
     ap (λ (rs : List (List (ℕ × X))). length (entries_of rs)) first ∙ length-append z (entries_of (drop (i + 1) rows))
 
 -- the next row of a walk, where the one before it is at its end
-pub next_row : {X : Type 0} (now z row all : List (ℕ × X)) (rows after : List (List (ℕ × X))) → now ++ entries_of rows ≡ all → length now ≡ 0 → rows ≡ z ∷ after → row ≡ z → row ++ entries_of after ≡ all
+pub next_row : {X : Type 0} (now z row all : List (ℕ × X)) (rows after : List (List (ℕ × X))) → now ++ entries_of rows ≡ all
+    → length now ≡ 0 → rows ≡ z ∷ after → row ≡ z → row ++ entries_of after ≡ all
 next_row {X} [] z row all rows after same none first is =
     ap (λ (y : List (ℕ × X)). y ++ entries_of after) is ∙ sym (ap (λ (rs : List (List (ℕ × X))). entries_of rs) first) ∙ same
 next_row (x ∷ now) z row all rows after same none first is = absurd (omega arith)
@@ -70,7 +72,8 @@ rows_long low (row ∷ rows) r =
 module _ {C : Type 0} where
   pub keyed_found : (room : List (ℕ × ElementView C)) → AreKeyed room → IsKeyed room
   keyed_found [] k q = tt
-  keyed_found (p ∷ room) k q = pick (is_eq (nat_cmp q p.0)) (Some p.1) (found q room) (λ (el : ElementView C). el.index ≡ q) (λ t. k.0 ∙ sym (equals q p.0 t)) (λ t. keyed_found room k.1 q)
+  keyed_found (p ∷ room) k q = pick (is_eq (nat_cmp q p.0)) (Some p.1) (found q room) (λ (el : ElementView C). el.index ≡ q)
+      (λ t. k.0 ∙ sym (equals q p.0 t)) (λ t. keyed_found room k.1 q)
 
   keyed_changed : (e : ℕ) (x : ElementView C) (room : List (ℕ × ElementView C)) → x.index ≡ e → AreKeyed room → AreKeyed (changed e x room)
   keyed_changed e x [] i k = tt
@@ -98,7 +101,8 @@ module _ {C : Type 0} where
       by false later = (k.0, later)
 
   -- the row of an index has what its room has at that index
-  pub found_there : (rows : List (List (ℕ × ElementView C))) (i e : ℕ) (z : List (ℕ × ElementView C)) → IsRoom rows → i < length rows → i ≡ row_of e → z ≡ get_or rows i z → found e z ≡ found e (entries_of rows)
+  pub found_there : (rows : List (List (ℕ × ElementView C))) (i e : ℕ) (z : List (ℕ × ElementView C)) → IsRoom rows → i < length rows
+      → i ≡ row_of e → z ≡ get_or rows i z → found e z ≡ found e (entries_of rows)
   found_there rows i e z room h at read =
       ap (λ (r : List (ℕ × ElementView C)). found e r) read ∙ sym (found_in_row 0 rows room.in_rows i e z h (low_of e i at) (high_of e i at))
 
@@ -106,7 +110,8 @@ module _ {C : Type 0} where
   found_nowhere rows i e room h at = let low = low_of e i at in found_in_none 0 rows room.in_rows e (omega arith)
 
   -- one more row, where no element stands
-  pub pushed_row : (rows after : List (List (ℕ × ElementView C))) (z : List (ℕ × ElementView C)) → IsRoom rows → length rows < row_count → after ≡ rows ++ z ∷ [] → z ≡ [] → (entries_of after ≡ entries_of rows) × IsRoom after
+  pub pushed_row : (rows after : List (List (ℕ × ElementView C))) (z : List (ℕ × ElementView C)) → IsRoom rows → length rows < row_count
+      → after ≡ rows ++ z ∷ [] → z ≡ [] → (entries_of after ≡ entries_of rows) × IsRoom after
   pushed_row rows after z room few is empty =
       let after_is : after ≡ rows ++ [] ∷ [] = is ∙ ap (λ (y : List (ℕ × ElementView C)). rows ++ y ∷ []) empty in
       let same : entries_of after ≡ entries_of rows = ap (λ (rs : List (List (ℕ × ElementView C))). entries_of rs) after_is ∙ entries_of_more rows in
@@ -139,7 +144,8 @@ module _ {C : Type 0} where
       let long = length_set rows i y in
       (is, record { keyed = subst (λ (r : List (ℕ × ElementView C)). AreKeyed r) (sym is) keyed; in_rows = are; few = omega arith })
 
-  module _ (rows : List (List (ℕ × ElementView C))) (i e : ℕ) (z y : List (ℕ × ElementView C)) (room : IsRoom rows) (h : i < length rows) (at : i ≡ row_of e) (read : z ≡ get_or rows i z) where
+  module _ (rows : List (List (ℕ × ElementView C))) (i e : ℕ) (z y : List (ℕ × ElementView C)) (room : IsRoom rows) (h : i < length rows)
+      (at : i ≡ row_of e) (read : z ≡ get_or rows i z) where
     pub same_row : y ≡ z → (entries_of (set rows i y) ≡ entries_of rows) × IsRoom (set rows i y)
     same_row is =
         let same : set rows i y ≡ rows = ap (λ (r : List (ℕ × ElementView C)). set rows i r) (is ∙ read) ∙ set_same rows i z h in
@@ -153,38 +159,51 @@ module _ {C : Type 0} where
         as_room rows i y (joined e x (entries_of rows)) room.few
         (subst (λ (r : List (ℕ × ElementView C)). entries_of (set rows i r) ≡ joined e x (entries_of rows)) is_y (joined_in_row e x 0 rows room.in_rows i z h low high))
         (keyed_joined e x (entries_of rows) key room.keyed)
-        (subst (λ (r : List (ℕ × ElementView C)). AreRows 0 (set rows i r)) is_y (still_rows 0 rows room.in_rows i z (joined e x (get_or rows i z)) h (λ w. within_joined (0 + row_width * i) (0 + row_width * i + row_width) e x (get_or rows i z) low high w)))
+        (subst (λ (r : List (ℕ × ElementView C)). AreRows 0 (set rows i r)) is_y
+        (still_rows 0 rows room.in_rows i z (joined e x (get_or rows i z)) h
+        (λ w. within_joined (0 + row_width * i) (0 + row_width * i + row_width) e x (get_or rows i z) low high w)))
 
     pub changed_row : (x : ElementView C) → x.index ≡ e → y ≡ changed e x z → (entries_of (set rows i y) ≡ changed e x (entries_of rows)) × IsRoom (set rows i y)
     changed_row x key is =
         let is_y : changed e x (get_or rows i z) ≡ y = ap (λ (r : List (ℕ × ElementView C)). changed e x r) (sym read) ∙ sym is in
         as_room rows i y (changed e x (entries_of rows)) room.few
-        (subst (λ (r : List (ℕ × ElementView C)). entries_of (set rows i r) ≡ changed e x (entries_of rows)) is_y (changed_in_row e x 0 rows room.in_rows i z h (low_of e i at) (high_of e i at)))
+        (subst (λ (r : List (ℕ × ElementView C)). entries_of (set rows i r) ≡ changed e x (entries_of rows)) is_y
+        (changed_in_row e x 0 rows room.in_rows i z h (low_of e i at) (high_of e i at)))
         (keyed_changed e x (entries_of rows) key room.keyed)
-        (subst (λ (r : List (ℕ × ElementView C)). AreRows 0 (set rows i r)) is_y (still_rows 0 rows room.in_rows i z (changed e x (get_or rows i z)) h (λ w. within_changed (0 + row_width * i) (0 + row_width * i + row_width) e x (get_or rows i z) w)))
+        (subst (λ (r : List (ℕ × ElementView C)). AreRows 0 (set rows i r)) is_y
+        (still_rows 0 rows room.in_rows i z (changed e x (get_or rows i z)) h
+        (λ w. within_changed (0 + row_width * i) (0 + row_width * i + row_width) e x (get_or rows i z) w)))
 
     pub without_row : y ≡ without e z → (entries_of (set rows i y) ≡ without e (entries_of rows)) × IsRoom (set rows i y)
     without_row is =
         let is_y : without e (get_or rows i z) ≡ y = ap (λ (r : List (ℕ × ElementView C)). without e r) (sym read) ∙ sym is in
         as_room rows i y (without e (entries_of rows)) room.few
-        (subst (λ (r : List (ℕ × ElementView C)). entries_of (set rows i r) ≡ without e (entries_of rows)) is_y (without_in_row e 0 rows room.in_rows i z h (low_of e i at) (high_of e i at)))
+        (subst (λ (r : List (ℕ × ElementView C)). entries_of (set rows i r) ≡ without e (entries_of rows)) is_y
+        (without_in_row e 0 rows room.in_rows i z h (low_of e i at) (high_of e i at)))
         (keyed_without e (entries_of rows) room.keyed)
-        (subst (λ (r : List (ℕ × ElementView C)). AreRows 0 (set rows i r)) is_y (still_rows 0 rows room.in_rows i z (without e (get_or rows i z)) h (λ w. within_without (0 + row_width * i) (0 + row_width * i + row_width) e (get_or rows i z) w)))
+        (subst (λ (r : List (ℕ × ElementView C)). AreRows 0 (set rows i r)) is_y
+        (still_rows 0 rows room.in_rows i z (without e (get_or rows i z)) h
+        (λ w. within_without (0 + row_width * i) (0 + row_width * i + row_width) e (get_or rows i z) w)))
 
-    pub ran_row : (step : Step C) (pack : C → List ℕ) (n pe : ℕ) (done : Done) → y ≡ ran_in step pack z e n pe done → (entries_of (set rows i y) ≡ ran_in step pack (entries_of rows) e n pe done) × IsRoom (set rows i y)
+    pub ran_row : (step : Step C) (pack : C → List ℕ) (n pe : ℕ) (done : Done) → y ≡ ran_in step pack z e n pe done
+        → (entries_of (set rows i y) ≡ ran_in step pack (entries_of rows) e n pe done) × IsRoom (set rows i y)
     ran_row step pack n pe done is = by (found e z) refl is
       where
         there : found e z ≡ found e (entries_of rows)
         there = found_there rows i e z room h at read
 
-        by : (o : Option (ElementView C)) → found e z ≡ o → y ≡ option_map_or (λ el. changed e (ran step pack el n pe done) z) o z → (entries_of (set rows i y) ≡ ran_in step pack (entries_of rows) e n pe done) × IsRoom (set rows i y)
+        by : (o : Option (ElementView C)) → found e z ≡ o → y ≡ option_map_or (λ el. changed e (ran step pack el n pe done) z) o z
+            → (entries_of (set rows i y) ≡ ran_in step pack (entries_of rows) e n pe done) × IsRoom (set rows i y)
         by None none k =
             let got = same_row k in
-            let rest : ran_in step pack (entries_of rows) e n pe done ≡ entries_of rows = ap (λ (o : Option (ElementView C)). option_map_or (λ el. changed e (ran step pack el n pe done) (entries_of rows)) o (entries_of rows)) (sym there ∙ none) in
+            let rest : ran_in step pack (entries_of rows) e n pe done ≡ entries_of rows = ap
+            (λ (o : Option (ElementView C)). option_map_or (λ el. changed e (ran step pack el n pe done) (entries_of rows)) o
+            (entries_of rows)) (sym there ∙ none) in
             (got.0 ∙ sym rest, got.1)
         by (Some el) some k =
             let flat : found e (entries_of rows) ≡ Some el = sym there ∙ some in
             let key : el.index ≡ e = subst (λ (o : Option (ElementView C)). IfSome o (λ el. el.index ≡ e)) flat (keyed_found (entries_of rows) room.keyed e) in
             let got = changed_row (ran step pack el n pe done) key k in
-            let rest : ran_in step pack (entries_of rows) e n pe done ≡ changed e (ran step pack el n pe done) (entries_of rows) = ap (λ (o : Option (ElementView C)). option_map_or (λ el. changed e (ran step pack el n pe done) (entries_of rows)) o (entries_of rows)) flat in
+            let rest : ran_in step pack (entries_of rows) e n pe done ≡ changed e (ran step pack el n pe done) (entries_of rows) = ap
+            (λ (o : Option (ElementView C)). option_map_or (λ el. changed e (ran step pack el n pe done) (entries_of rows)) o (entries_of rows)) flat in
             (got.0 ∙ sym rest, got.1)

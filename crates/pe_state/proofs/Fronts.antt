@@ -32,7 +32,8 @@ pub front_again : (q : ℕ) (old xs new : List Item) (x : Item) → old ≡ x �
 front_again q old xs new x e f = f ∙ sym (ap (front_at q) e)
 
 -- the front was looked for, and given up
-pub looked_and_gave_up : {C : Type 0} (pe v : PeView C) (q : ℕ) (x : Item) (xs : List Item) → v ≡ pe → pe.hand ≡ None → v.outbox ≡ x ∷ xs → record v { outbox = xs; kept = Some q } ≡ gave_up (looked pe q)
+pub looked_and_gave_up : {C : Type 0} (pe v : PeView C) (q : ℕ) (x : Item) (xs : List Item) → v ≡ pe → pe.hand ≡ None → v.outbox ≡ x ∷ xs
+    → record v { outbox = xs; kept = Some q } ≡ gave_up (looked pe q)
 looked_and_gave_up {C} pe v q x xs e hand front =
     let looks : looked pe q ≡ looked_in pe q None = ap (λ (o : Option ℕ). looked_in pe q o) (ap (hand_wants_in pe) hand) in
     let first : pe.outbox ≡ x ∷ xs = sym (ap (λ (p : PeView C). p.outbox) e) ∙ front in

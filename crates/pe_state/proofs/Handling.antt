@@ -25,8 +25,29 @@ module _ {C : Type 0} (step : Step C) (pack : C → List ℕ) (pe v : PeView C) 
       let sends = sends_in step pack v.room e v.n done in
       ap (λ h. record v { room = room; hand = h; outbox = outbox; notes = notes; count = count; kept = None }) same
       ∙ ap (λ r. record v { room = r; hand = hand; outbox = outbox; notes = notes; count = count; kept = None }) ran
-      ∙ ap (λ out. record v { room = ran_in step pack v.room e v.n v.me done; hand = hand; outbox = out; notes = notes; count = count; kept = None }) (posted ∙ ap (λ out. out ++ letters_of v.me v.count sends) o)
-      ∙ ap (λ ns. record v { room = ran_in step pack v.room e v.n v.me done; hand = hand; outbox = v.outbox ++ letters_of v.me v.count sends; notes = ns; count = count; kept = None })
+      ∙ ap (λ out. record v {
+        room = ran_in step pack v.room e v.n v.me done;
+        hand = hand;
+        outbox = out;
+        notes = notes;
+        count = count;
+        kept = None;
+      }) (posted ∙ ap (λ out. out ++ letters_of v.me v.count sends) o)
+      ∙ ap (λ ns. record v {
+        room = ran_in step pack v.room e v.n v.me done;
+        hand = hand;
+        outbox = v.outbox ++ letters_of v.me v.count sends;
+        notes = ns;
+        count = count;
+        kept = None;
+      })
       (owed ∙ ap (λ ns. ns ++ option_to_list note) m ∙ ap (λ n. v.notes ++ option_to_list n) told)
-      ∙ ap (λ k. record v { room = ran_in step pack v.room e v.n v.me done; hand = hand; outbox = v.outbox ++ letters_of v.me v.count sends; notes = v.notes ++ option_to_list (note_in step pack v.room e v.n v.me done); count = k; kept = None }) more
+      ∙ ap (λ k. record v {
+        room = ran_in step pack v.room e v.n v.me done;
+        hand = hand;
+        outbox = v.outbox ++ letters_of v.me v.count sends;
+        notes = v.notes ++ option_to_list (note_in step pack v.room e v.n v.me done);
+        count = k;
+        kept = None;
+      }) more
       ∙ ap (λ p. handled step pack p e done hand) view

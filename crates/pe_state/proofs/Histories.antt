@@ -70,7 +70,8 @@ waits_is el round h = by el.progress.synced refl h
     by false t k = cc
 
 pub may_resume_after : {C : Type 0} (pe : PeView C) (e round : ℕ) (el : ElementView C) → found e pe.room ≡ Some el → waits_for el ≡ Some round → MayHandleAt pe e (Resumption round)
-may_resume_after {C} pe e round el at waits = subst (λ (o : Option (ElementView C)). IfSome o (λ el. MayHandle el.progress (Resumption round))) (sym at) (inr (waits_is el round waits))
+may_resume_after {C} pe e round el at waits = subst
+    (λ (o : Option (ElementView C)). IfSome o (λ el. MayHandle el.progress (Resumption round))) (sym at) (inr (waits_is el round waits))
 
 module _ {C : Type 0} {step : Step C} {fits : C → Type 0} {pack : C → List ℕ} {opened : List C} where
   -- a PE that is seen otherwise
@@ -78,7 +79,8 @@ module _ {C : Type 0} {step : Step C} {fits : C → Type 0} {pack : C → List �
   holds_same {v} {now} e h = subst (λ (x : PeView C). HasHistories step fits pack opened x) (sym e) h
 
   -- and one whose other parts have changed
-  pub still_holds : {v w : PeView C} → HasHistories step fits pack opened v → w.n ≡ v.n → w.room ≡ v.room → w.hand ≡ v.hand → w.outbox ≡ v.outbox → HasHistories step fits pack opened w
+  pub still_holds : {v w : PeView C} → HasHistories step fits pack opened v → w.n ≡ v.n → w.room ≡ v.room → w.hand ≡ v.hand
+      → w.outbox ≡ v.outbox → HasHistories step fits pack opened w
   still_holds {v} {w} h n room hand outbox =
       record {
         same_array = n ∙ h.same_array;
@@ -115,7 +117,8 @@ module _ {C : Type 0} (step : Step C) (fits : C → Type 0) (pack : C → List �
         outbox = All-nil (λ (x : Item). IsParcelHistory step fits pack opened x.parcel);
       }
 
-  pub placed_holds : (pe : PeView C) (e : ℕ) (chare : C) → HasHistories step fits pack opened pe → slice_get opened e ≡ Some chare → HasHistories step fits pack opened (placed pe e chare)
+  pub placed_holds : (pe : PeView C) (e : ℕ) (chare : C) → HasHistories step fits pack opened pe → slice_get opened e ≡ Some chare
+      → HasHistories step fits pack opened (placed pe e chare)
   placed_holds pe e chare h at =
       record {
         same_array = h.same_array;
@@ -125,13 +128,18 @@ module _ {C : Type 0} (step : Step C) (fits : C → Type 0) (pack : C → List �
       }
 
   -- an element runs in its room
-  ran_room_at : (room : List (ℕ × ElementView C)) (e n pe : ℕ) (done : Done) (o : Option (ElementView C)) → n ≡ length opened → All (IsHistory step pack opened) (values_of room) → IfSome o (IsHistory step pack opened) → IfSome o (λ el. MayHandle el.progress done) → All (IsHistory step pack opened) (values_of (option_map_or (λ el. changed e (ran step pack el n pe done) room) o room))
+  ran_room_at : (room : List (ℕ × ElementView C)) (e n pe : ℕ) (done : Done) (o : Option (ElementView C)) → n ≡ length opened
+      → All (IsHistory step pack opened) (values_of room) → IfSome o (IsHistory step pack opened)
+      → IfSome o (λ el. MayHandle el.progress done) → All (IsHistory step pack opened)
+      (values_of (option_map_or (λ el. changed e (ran step pack el n pe done) room) o room))
   ran_room_at room e n pe done None same all h may = all
   ran_room_at room e n pe done (Some el) same all h may =
       All-values-set_value (is_at (nat_cmp e)) (IsHistory step pack opened) room (ran step pack el n pe done) all
       (subst (λ (k : ℕ). IsHistory step pack opened (ran step pack el k pe done)) (sym same) (history_ran step pack opened el pe done h may))
 
-  ran_room : (room : List (ℕ × ElementView C)) (e n pe : ℕ) (done : Done) → n ≡ length opened → All (IsHistory step pack opened) (values_of room) → IfSome (found e room) (λ el. MayHandle el.progress done) → All (IsHistory step pack opened) (values_of (ran_in step pack room e n pe done))
+  ran_room : (room : List (ℕ × ElementView C)) (e n pe : ℕ) (done : Done) → n ≡ length opened
+      → All (IsHistory step pack opened) (values_of room) → IfSome (found e room) (λ el. MayHandle el.progress done)
+      → All (IsHistory step pack opened) (values_of (ran_in step pack room e n pe done))
   ran_room room e n pe done same all may =
       ran_room_at room e n pe done (found e room) same all
       (IfSome-lookup_from_All (IsHistory step pack opened) (is_at (nat_cmp e)) room all) may
@@ -140,14 +148,16 @@ module _ {C : Type 0} (step : Step C) (fits : C → Type 0) (pack : C → List �
   letters_hold : (me k : ℕ) (sends : List (ℕ × List ℕ)) → All IsItemHistory (letters_of {P = PackedView} me k sends)
   letters_hold me k [] = All-nil IsItemHistory
   letters_hold me k (send ∷ sends) =
-      All-cons IsItemHistory (record { parcel = Letter (record { id = (me, k); to = send.0; body = send.1; hops = 0 }); address = None }) (letters_of {P = PackedView} me (k + 1) sends) tt (letters_hold me (k + 1) sends)
+      All-cons IsItemHistory (record { parcel = Letter (record { id = (me, k); to = send.0; body = send.1; hops = 0 }); address = None })
+      (letters_of {P = PackedView} me (k + 1) sends) tt (letters_hold me (k + 1) sends)
 
   unshelved_hold : (q : ℕ) (letters : List LetterView) → All IsItemHistory (map (letter_at q) letters)
   unshelved_hold q [] = All-nil IsItemHistory
   unshelved_hold q (l ∷ letters) = All-cons IsItemHistory (letter_at q l) (map (letter_at q) letters) tt (unshelved_hold q letters)
 
   -- after a handler
-  pub handled_holds : (pe : PeView C) (e : ℕ) (done : Done) (hand : Option Item) → HasHistories step fits pack opened pe → MayHandleAt pe e done → IfSome hand IsItemHistory → HasHistories step fits pack opened (handled step pack pe e done hand)
+  pub handled_holds : (pe : PeView C) (e : ℕ) (done : Done) (hand : Option Item) → HasHistories step fits pack opened pe
+      → MayHandleAt pe e done → IfSome hand IsItemHistory → HasHistories step fits pack opened (handled step pack pe e done hand)
   handled_holds pe e done hand h may held =
       record {
         same_array = h.same_array;
@@ -157,7 +167,8 @@ module _ {C : Type 0} (step : Step C) (fits : C → Type 0) (pack : C → List �
       }
 
   -- so of a PE whose parts are those after it: outbox0 is the outbox before
-  pub handler_holds : {v w : PeView C} (e : ℕ) (done : Done) (hand : Option Item) (outbox0 : List Item) → HasHistories step fits pack opened v → MayHandleAt v e done → IfSome hand IsItemHistory
+  pub handler_holds : {v w : PeView C} (e : ℕ) (done : Done) (hand : Option Item) (outbox0 : List Item)
+      → HasHistories step fits pack opened v → MayHandleAt v e done → IfSome hand IsItemHistory
       → w.n ≡ v.n
       → w.room ≡ ran_in step pack v.room e v.n v.me done
       → w.hand ≡ hand
@@ -168,7 +179,8 @@ module _ {C : Type 0} (step : Step C) (fits : C → Type 0) (pack : C → List �
       still_holds (handled_holds v e done hand h may held) n room same
       (posted ∙ ap (λ xs. xs ++ letters_of v.me v.count (sends_in step pack v.room e v.n done)) o)
 
-  pub resumed_holds : (pe : PeView C) (e round : ℕ) → HasHistories step fits pack opened pe → MayHandleAt pe e (Resumption round) → HasHistories step fits pack opened (resumed step pack pe e round)
+  pub resumed_holds : (pe : PeView C) (e round : ℕ) → HasHistories step fits pack opened pe → MayHandleAt pe e (Resumption round)
+      → HasHistories step fits pack opened (resumed step pack pe e round)
   resumed_holds pe e round h may = handled_holds pe e (Resumption round) pe.hand h may h.hand
 
   -- Look
@@ -190,18 +202,21 @@ module _ {C : Type 0} (step : Step C) (fits : C → Type 0) (pack : C → List �
   looked_holds pe q h = looked_in_holds pe q (hand_wants pe) h
 
   -- Depart
-  leaving_holds : (q : ℕ) (o : Option (ElementView C)) → IfSome o (IsHistory step pack opened) → IfSome o (λ el. fits el.chare) → All IsItemHistory (option_to_list (option_map (element_at q) (option_map (packed pack) o)))
+  leaving_holds : (q : ℕ) (o : Option (ElementView C)) → IfSome o (IsHistory step pack opened) → IfSome o (λ el. fits el.chare)
+      → All IsItemHistory (option_to_list (option_map (element_at q) (option_map (packed pack) o)))
   leaving_holds q None h f = All-nil IsItemHistory
   leaving_holds q (Some el) h f =
       All-cons IsItemHistory (element_at q (packed pack el)) [] (record { chare = el.chare; is_value = f; is_pack = refl; is_history = h }) (All-nil IsItemHistory)
 
-  pub departed_holds : (pe : PeView C) (e q : ℕ) → HasHistories step fits pack opened pe → IfSome (found e pe.room) (λ el. fits el.chare) → HasHistories step fits pack opened (departed pack pe e q)
+  pub departed_holds : (pe : PeView C) (e q : ℕ) → HasHistories step fits pack opened pe → IfSome (found e pe.room) (λ el. fits el.chare)
+      → HasHistories step fits pack opened (departed pack pe e q)
   departed_holds pe e q h f =
       record {
         same_array = h.same_array;
         room = All-map-remove_entry (is_at (nat_cmp e)) (λ x. x.1) (IsHistory step pack opened) pe.room h.room;
         hand = h.hand;
-        outbox = All-append IsItemHistory pe.outbox _ h.outbox (leaving_holds q (found e pe.room) (IfSome-lookup_from_All (IsHistory step pack opened) (is_at (nat_cmp e)) pe.room h.room) f);
+        outbox = All-append IsItemHistory pe.outbox _ h.outbox
+            (leaving_holds q (found e pe.room) (IfSome-lookup_from_All (IsHistory step pack opened) (is_at (nat_cmp e)) pe.room h.room) f);
       }
 
   -- Report
@@ -217,7 +232,8 @@ module _ {C : Type 0} (step : Step C) (fits : C → Type 0) (pack : C → List �
   front_holds [] h = tt
   front_holds (x ∷ xs) h = All-head IsItemHistory x xs h
 
-  pub handed_back_holds : (pe : PeView C) (parcel : Parcel) → HasHistories step fits pack opened pe → IsParcelHistory step fits pack opened parcel → HasHistories step fits pack opened (handed_back pe parcel)
+  pub handed_back_holds : (pe : PeView C) (parcel : Parcel) → HasHistories step fits pack opened pe
+      → IsParcelHistory step fits pack opened parcel → HasHistories step fits pack opened (handed_back pe parcel)
   handed_back_holds pe parcel h k =
       record { same_array = h.same_array; room = h.room; hand = h.hand; outbox = All-cons IsItemHistory (record { parcel = parcel; address = pe.kept }) pe.outbox k h.outbox }
 
@@ -225,11 +241,13 @@ module _ {C : Type 0} (step : Step C) (fits : C → Type 0) (pack : C → List �
   pub first_holds : (outbox xs : List Item) (x : Item) → outbox ≡ x ∷ xs → All IsItemHistory outbox → IsItemHistory x
   first_holds outbox xs x e h = All-head IsItemHistory x xs (subst (λ (v : List Item). All IsItemHistory v) e h)
 
-  pub received_holds : (pe : PeView C) (parcel : Parcel) → HasHistories step fits pack opened pe → IsParcelHistory step fits pack opened parcel → HasHistories step fits pack opened (received pe parcel)
+  pub received_holds : (pe : PeView C) (parcel : Parcel) → HasHistories step fits pack opened pe
+      → IsParcelHistory step fits pack opened parcel → HasHistories step fits pack opened (received pe parcel)
   received_holds pe parcel h k = record { same_array = h.same_array; room = h.room; hand = k; outbox = h.outbox }
 
   -- with a parcel in its hand again, and with an empty hand
-  pub held_holds : (pe : PeView C) (parcel : Parcel) (look : Option ℕ) → HasHistories step fits pack opened pe → IsParcelHistory step fits pack opened parcel → HasHistories step fits pack opened (held pe parcel look)
+  pub held_holds : (pe : PeView C) (parcel : Parcel) (look : Option ℕ) → HasHistories step fits pack opened pe
+      → IsParcelHistory step fits pack opened parcel → HasHistories step fits pack opened (held pe parcel look)
   held_holds pe parcel look h k = record { same_array = h.same_array; room = h.room; hand = k; outbox = h.outbox }
 
   pub emptied_holds : (pe : PeView C) (hand : Option Item) → hand ≡ None → HasHistories step fits pack opened pe → HasHistories step fits pack opened (record pe { hand = hand })
@@ -244,7 +262,8 @@ module _ {C : Type 0} (step : Step C) (fits : C → Type 0) (pack : C → List �
   forwarding_holds pe l q h =
       record { same_array = h.same_array; room = h.room; hand = tt; outbox = All-push IsItemHistory pe.outbox _ h.outbox tt }
 
-  passing_holds : (pe : PeView C) (l : LetterView) (look : Option ℕ) → HasHistories step fits pack opened pe → IfSome (passing pe l look) (λ a. HasHistories step fits pack opened a.pe)
+  passing_holds : (pe : PeView C) (l : LetterView) (look : Option ℕ) → HasHistories step fits pack opened pe
+      → IfSome (passing pe l look) (λ a. HasHistories step fits pack opened a.pe)
   passing_holds pe l None h = tt
   passing_holds pe l (Some q) h = by (nat_eq q pe.me)
     where
@@ -252,7 +271,8 @@ module _ {C : Type 0} (step : Step C) (fits : C → Type 0) (pack : C → List �
       by true = shelving_holds pe l h
       by false = forwarding_holds pe l q h
 
-  letter_holds : (pe : PeView C) (l : LetterView) (look : Option ℕ) (o : Option (ElementView C)) → found l.to pe.room ≡ o → HasHistories step fits pack opened pe → IfSome (on_letter step pack pe l look o) (λ a. HasHistories step fits pack opened a.pe)
+  letter_holds : (pe : PeView C) (l : LetterView) (look : Option ℕ) (o : Option (ElementView C)) → found l.to pe.room ≡ o
+      → HasHistories step fits pack opened pe → IfSome (on_letter step pack pe l look o) (λ a. HasHistories step fits pack opened a.pe)
   letter_holds pe l look (Some el) at h = by el.progress.started refl
     where
       by : (b : Bool) → el.progress.started ≡ b → IfSome (if b then Some (executed step pack pe l) else None) (λ a. HasHistories step fits pack opened a.pe)
@@ -261,7 +281,8 @@ module _ {C : Type 0} (step : Step C) (fits : C → Type 0) (pack : C → List �
   letter_holds pe l look None at h = passing_holds pe l look h
 
   -- with one more letter at the back of its outbox: outbox0 is the outbox before
-  pub posted_holds : {v w : PeView C} (l : LetterView) (q : Option ℕ) (outbox0 : List Item) → HasHistories step fits pack opened v → w.n ≡ v.n → w.room ≡ v.room → w.hand ≡ v.hand → outbox0 ≡ v.outbox
+  pub posted_holds : {v w : PeView C} (l : LetterView) (q : Option ℕ) (outbox0 : List Item) → HasHistories step fits pack opened v
+      → w.n ≡ v.n → w.room ≡ v.room → w.hand ≡ v.hand → outbox0 ≡ v.outbox
       → w.outbox ≡ outbox0 ++ record { parcel = Letter l; address = q } ∷ []
       → HasHistories step fits pack opened w
   posted_holds {v} {w} l q outbox0 h n room hand o pushed =
@@ -271,7 +292,8 @@ module _ {C : Type 0} (step : Step C) (fits : C → Type 0) (pack : C → List �
       in
       still_holds more n room hand (pushed ∙ ap (λ xs. xs ++ x ∷ []) o)
 
-  pub installed_holds : (pe : PeView C) (p : PackedView) (chare : C) → HasHistories step fits pack opened pe → IsHistory step pack opened (unpacked p chare) → HasHistories step fits pack opened (installed pe p chare)
+  pub installed_holds : (pe : PeView C) (p : PackedView) (chare : C) → HasHistories step fits pack opened pe
+      → IsHistory step pack opened (unpacked p chare) → HasHistories step fits pack opened (installed pe p chare)
   installed_holds pe p chare h k =
       record {
         same_array = h.same_array;
@@ -283,20 +305,25 @@ module _ {C : Type 0} (step : Step C) (fits : C → Type 0) (pack : C → List �
   module _ (counted : C → Type 0) (unpack : List ℕ → Result (C × ℕ) PupError)
       (trip : (s : C) (rest : List ℕ) → fits s → counted s → length (pack s) ≤ STATE_BYTES → unpack (pack s ++ rest) ≡ Ok (s, length (pack s)))
       (packs : (s : C) → fits s → counted s × (length (pack s) ≤ STATE_BYTES)) where
-    installing_holds : (pe : PeView C) (p : PackedView) (r : Result (C × ℕ) PupError) → unpack p.bytes ≡ r → HasHistories step fits pack opened pe → IsPackedHistory step fits pack opened p → IfSome (installing step pack unpack pe p r) (λ a. HasHistories step fits pack opened a.pe)
+    installing_holds : (pe : PeView C) (p : PackedView) (r : Result (C × ℕ) PupError) → unpack p.bytes ≡ r
+        → HasHistories step fits pack opened pe → IsPackedHistory step fits pack opened p
+        → IfSome (installing step pack unpack pe p r) (λ a. HasHistories step fits pack opened a.pe)
     installing_holds pe p (Err error) is h k = tt
     installing_holds pe p (Ok x) is h k =
         installed_holds pe p x.0 h (history_unpacked step fits counted pack unpack opened p x.0 x.1 trip packs k is)
 
-    element_holds : (pe : PeView C) (p : PackedView) (o : Option (ElementView C)) → HasHistories step fits pack opened pe → IsPackedHistory step fits pack opened p → IfSome (on_element step pack unpack pe p o) (λ a. HasHistories step fits pack opened a.pe)
+    element_holds : (pe : PeView C) (p : PackedView) (o : Option (ElementView C)) → HasHistories step fits pack opened pe
+        → IsPackedHistory step fits pack opened p → IfSome (on_element step pack unpack pe p o) (λ a. HasHistories step fits pack opened a.pe)
     element_holds pe p (Some el) h k = tt
     element_holds pe p None h k = installing_holds pe p (unpack p.bytes) refl h k
 
-    parcel_holds : (pe : PeView C) (parcel : Parcel) (look : Option ℕ) → HasHistories step fits pack opened pe → IsParcelHistory step fits pack opened parcel → IfSome (on_parcel step pack unpack pe parcel look) (λ a. HasHistories step fits pack opened a.pe)
+    parcel_holds : (pe : PeView C) (parcel : Parcel) (look : Option ℕ) → HasHistories step fits pack opened pe
+        → IsParcelHistory step fits pack opened parcel → IfSome (on_parcel step pack unpack pe parcel look) (λ a. HasHistories step fits pack opened a.pe)
     parcel_holds pe (Letter l) look h k = letter_holds pe l look (found l.to pe.room) refl h
     parcel_holds pe (Element p) look h k = element_holds pe p (found p.index pe.room) h k
 
-    hand_holds : (pe : PeView C) (o : Option Item) → HasHistories step fits pack opened pe → IfSome o IsItemHistory → IfSome (acting_on step pack unpack pe o) (λ a. HasHistories step fits pack opened a.pe)
+    hand_holds : (pe : PeView C) (o : Option Item) → HasHistories step fits pack opened pe → IfSome o IsItemHistory
+        → IfSome (acting_on step pack unpack pe o) (λ a. HasHistories step fits pack opened a.pe)
     hand_holds pe None h k = tt
     hand_holds pe (Some x) h k = parcel_holds pe x.parcel x.address h k
 

@@ -55,7 +55,8 @@ module _ {C : Type 0} where
       let first : drop place pes ≡ z ∷ drop (place + 1) pes = drop_more pes place z h ∙ ap (λ (pe : PeView C). pe ∷ drop (place + 1) pes) (sym read) in
       ap (λ (rest : List (PeView C)). element_on e rest) first ∙ ap (λ (o : Option (ElementView C)). option_or o (element_on e (drop (place + 1) pes))) some
 
-  pub others_stay : (e place : ℕ) (pes : List (PeView C)) (z y : PeView C) → z ≡ get_or pes place z → y ≡ taken e z → (i : ℕ) → i ≢ e → element_on i (set pes place y) ≡ element_on i pes
+  pub others_stay : (e place : ℕ) (pes : List (PeView C)) (z y : PeView C) → z ≡ get_or pes place z → y ≡ taken e z → (i : ℕ) → i ≢ e
+      → element_on i (set pes place y) ≡ element_on i pes
   others_stay e place pes z y read is i other =
       ap (λ (pe : PeView C). element_on i (set pes place pe)) (is ∙ ap (taken e) read) ∙ others_after e place pes z i other
 
@@ -86,7 +87,8 @@ module _ {C : Type 0} where
       apart h same = absurd (omega (arith, h, same))
 
   -- the elements from an index on, once the one with it was taken out of the PEs, and once none was found
-  pub gave : (next n index : ℕ) (before after : List (PeView C)) (el : ElementView C) → next < n → index ≡ next → Some el ≡ element_on index before → ((i : ℕ) → i ≢ index → element_on i after ≡ element_on i before)
+  pub gave : (next n index : ℕ) (before after : List (PeView C)) (el : ElementView C) → next < n → index ≡ next
+      → Some el ≡ element_on index before → ((i : ℕ) → i ≢ index → element_on i after ≡ element_on i before)
       → elements_at (range_with_len next (n - next)) before ≡ el ∷ elements_at (range_with_len (next + 1) (n - (next + 1))) after
   gave next n index before after el h same value others =
       let here : element_on next before ≡ Some el = ap (λ (i : ℕ). element_on i before) (sym same) ∙ sym value in
@@ -94,7 +96,8 @@ module _ {C : Type 0} where
       ∙ ap (λ (o : Option (ElementView C)). option_to_list o ++ elements_at (range_with_len (next + 1) (n - (next + 1))) before) here
       ∙ ap (λ (xs : List (ElementView C)). el ∷ xs) (sym (still_behind index (next + 1) (n - (next + 1)) before after (omega arith) others))
 
-  pub passed : (next n index : ℕ) (before after : List (PeView C)) → next < n → index ≡ next → None ≡ element_on index before → ((i : ℕ) → i ≢ index → element_on i after ≡ element_on i before)
+  pub passed : (next n index : ℕ) (before after : List (PeView C)) → next < n → index ≡ next → None ≡ element_on index before
+      → ((i : ℕ) → i ≢ index → element_on i after ≡ element_on i before)
       → elements_at (range_with_len (next + 1) (n - (next + 1))) after ≡ elements_at (range_with_len next (n - next)) before
   passed next n index before after h same value others =
       let here : element_on next before ≡ None = ap (λ (i : ℕ). element_on i before) (sym same) ∙ sym value in

@@ -72,7 +72,8 @@ module _ {X : Type 0} where
   changed_before e x [] ys a = changed_above e x ys a
   changed_before e x (p ∷ xs) ys a = by (is_eq (nat_cmp e p.0)) (changed_before e x xs ys a)
     where
-      by : (b : Bool) → changed e x (xs ++ ys) ≡ changed e x xs ++ ys → cond b ((p.0, x) ∷ (xs ++ ys)) (p ∷ changed e x (xs ++ ys)) ≡ cond b ((p.0, x) ∷ xs) (p ∷ changed e x xs) ++ ys
+      by : (b : Bool) → changed e x (xs ++ ys) ≡ changed e x xs ++ ys
+          → cond b ((p.0, x) ∷ (xs ++ ys)) (p ∷ changed e x (xs ++ ys)) ≡ cond b ((p.0, x) ∷ xs) (p ∷ changed e x xs) ++ ys
       by true later = refl
       by false later = ap (λ (r : List (ℕ × X)). p ∷ r) later
 
@@ -85,7 +86,8 @@ module _ {X : Type 0} where
   joined_before e x (p ∷ xs) ys a = by (nat_cmp e p.0) (joined_before e x xs ys a)
     where
       by : (o : Ordering) → joined e x (xs ++ ys) ≡ joined e x xs ++ ys
-          → match_ordering o ((e, x) ∷ p ∷ (xs ++ ys)) ((p.0, x) ∷ (xs ++ ys)) (p ∷ joined e x (xs ++ ys)) ≡ match_ordering o ((e, x) ∷ p ∷ xs) ((p.0, x) ∷ xs) (p ∷ joined e x xs) ++ ys
+          → match_ordering o ((e, x) ∷ p ∷ (xs ++ ys)) ((p.0, x) ∷ (xs ++ ys)) (p ∷ joined e x (xs ++ ys)) ≡ match_ordering o
+          ((e, x) ∷ p ∷ xs) ((p.0, x) ∷ xs) (p ∷ joined e x xs) ++ ys
       by Less later = refl
       by Equal later = refl
       by Greater later = ap (λ (r : List (ℕ × X)). p ∷ r) later
@@ -103,7 +105,8 @@ module _ {X : Type 0} where
       by false later = ap (λ (r : List (ℕ × X)). p ∷ r) later
 
   -- in the i-th row, which begins with the index low + 64 i
-  pub found_in_row : (low : ℕ) (rows : List (List (ℕ × X))) → AreRows low rows → (i e : ℕ) (d : List (ℕ × X)) → i < length rows → low + row_width * i ≤ e → e < low + row_width * i + row_width → found e (entries_of rows) ≡ found e (get_or rows i d)
+  pub found_in_row : (low : ℕ) (rows : List (List (ℕ × X))) → AreRows low rows → (i e : ℕ) (d : List (ℕ × X)) → i < length rows
+      → low + row_width * i ≤ e → e < low + row_width * i + row_width → found e (entries_of rows) ≡ found e (get_or rows i d)
   found_in_row low [] r i e d h a b = absurd (omega arith)
   found_in_row low (row ∷ rows) r zero e d h a b = found_before e row (entries_of rows) (rows_above (low + row_width) e rows r.1 (omega arith))
   found_in_row low (row ∷ rows) r (suc i) e d h a b =
@@ -120,25 +123,32 @@ module _ {X : Type 0} where
   -- a change that passes over what is below, and leaves alone what is above
   edit_in_row : (f : List (ℕ × X) → List (ℕ × X)) (e : ℕ)
       → ((xs ys : List (ℕ × X)) → AreBelow e xs → f (xs ++ ys) ≡ xs ++ f ys) → ((xs ys : List (ℕ × X)) → AreAbove e ys → f (xs ++ ys) ≡ f xs ++ ys)
-      → (low : ℕ) (rows : List (List (ℕ × X))) → AreRows low rows → (i : ℕ) (d : List (ℕ × X)) → i < length rows → low + row_width * i ≤ e → e < low + row_width * i + row_width → entries_of (set rows i (f (get_or rows i d))) ≡ f (entries_of rows)
+      → (low : ℕ) (rows : List (List (ℕ × X))) → AreRows low rows → (i : ℕ) (d : List (ℕ × X)) → i < length rows → low + row_width * i ≤ e
+      → e < low + row_width * i + row_width → entries_of (set rows i (f (get_or rows i d))) ≡ f (entries_of rows)
   edit_in_row f e past front low [] r i d h a b = absurd (omega arith)
   edit_in_row f e past front low (row ∷ rows) r zero d h a b = sym (front row (entries_of rows) (rows_above (low + row_width) e rows r.1 (omega arith)))
   edit_in_row f e past front low (row ∷ rows) r (suc i) d h a b =
       ap (λ (ys : List (ℕ × X)). row ++ ys) (edit_in_row f e past front (low + row_width) rows r.1 i d (omega arith) (omega arith) (omega arith))
       ∙ sym (past row (entries_of rows) (row_below low (low + row_width) e row r.0 (omega arith)))
 
-  pub changed_in_row : (e : ℕ) (x : X) (low : ℕ) (rows : List (List (ℕ × X))) → AreRows low rows → (i : ℕ) (d : List (ℕ × X)) → i < length rows → low + row_width * i ≤ e → e < low + row_width * i + row_width → entries_of (set rows i (changed e x (get_or rows i d))) ≡ changed e x (entries_of rows)
+  pub changed_in_row : (e : ℕ) (x : X) (low : ℕ) (rows : List (List (ℕ × X))) → AreRows low rows → (i : ℕ) (d : List (ℕ × X))
+      → i < length rows → low + row_width * i ≤ e → e < low + row_width * i + row_width
+      → entries_of (set rows i (changed e x (get_or rows i d))) ≡ changed e x (entries_of rows)
   changed_in_row e x = edit_in_row (changed e x) e (changed_past e x) (changed_before e x)
 
-  pub joined_in_row : (e : ℕ) (x : X) (low : ℕ) (rows : List (List (ℕ × X))) → AreRows low rows → (i : ℕ) (d : List (ℕ × X)) → i < length rows → low + row_width * i ≤ e → e < low + row_width * i + row_width → entries_of (set rows i (joined e x (get_or rows i d))) ≡ joined e x (entries_of rows)
+  pub joined_in_row : (e : ℕ) (x : X) (low : ℕ) (rows : List (List (ℕ × X))) → AreRows low rows → (i : ℕ) (d : List (ℕ × X))
+      → i < length rows → low + row_width * i ≤ e → e < low + row_width * i + row_width
+      → entries_of (set rows i (joined e x (get_or rows i d))) ≡ joined e x (entries_of rows)
   joined_in_row e x = edit_in_row (joined e x) e (joined_past e x) (joined_before e x)
 
-  pub without_in_row : (e : ℕ) (low : ℕ) (rows : List (List (ℕ × X))) → AreRows low rows → (i : ℕ) (d : List (ℕ × X)) → i < length rows → low + row_width * i ≤ e → e < low + row_width * i + row_width → entries_of (set rows i (without e (get_or rows i d))) ≡ without e (entries_of rows)
+  pub without_in_row : (e : ℕ) (low : ℕ) (rows : List (List (ℕ × X))) → AreRows low rows → (i : ℕ) (d : List (ℕ × X)) → i < length rows
+      → low + row_width * i ≤ e → e < low + row_width * i + row_width → entries_of (set rows i (without e (get_or rows i d))) ≡ without e (entries_of rows)
   without_in_row e = edit_in_row (without e) e (without_past e) (without_before e)
 
   -- rows stay rows
   pub still_rows : (low : ℕ) (rows : List (List (ℕ × X))) → AreRows low rows → (i : ℕ) (d row : List (ℕ × X)) → i < length rows
-      → (IsWithin (low + row_width * i) (low + row_width * i + row_width) (get_or rows i d) → IsWithin (low + row_width * i) (low + row_width * i + row_width) row) → AreRows low (set rows i row)
+      → (IsWithin (low + row_width * i) (low + row_width * i + row_width) (get_or rows i d)
+      → IsWithin (low + row_width * i) (low + row_width * i + row_width) row) → AreRows low (set rows i row)
   still_rows low [] r i d row h keeps = absurd (omega arith)
   still_rows low (here ∷ rows) r zero d row h keeps =
       let at : low + row_width * 0 ≡ low = omega arith in

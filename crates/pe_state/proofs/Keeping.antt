@@ -13,7 +13,8 @@ use Rattle.chares.specs.declared.sends.SendError.TheVariants as Send
 use Rattle.pe_state.proofs.Reasons.{same_reason}
 
 -- these parts are as they were
-pub same_view : {C : Type 0} (v now : PeView C) (room : List (ℕ × ElementView C)) (outbox : List Item) (notes : List Note) (count : ℕ) → room ≡ v.room → outbox ≡ v.outbox → notes ≡ v.notes → count ≡ v.count → v ≡ now
+pub same_view : {C : Type 0} (v now : PeView C) (room : List (ℕ × ElementView C)) (outbox : List Item) (notes : List Note) (count : ℕ)
+    → room ≡ v.room → outbox ≡ v.outbox → notes ≡ v.notes → count ≡ v.count → v ≡ now
     → record v { room = room; outbox = outbox; notes = notes; count = count } ≡ now
 same_view {C} v now room outbox notes count r o n k e =
     ap (λ x. record v { room = x; outbox = outbox; notes = notes; count = count }) r
@@ -50,7 +51,8 @@ pub out_of_memory : {T : Type 0} (R : SendError → Type 0) (r : Result T StepEr
 out_of_memory R (Ok x) h = tt
 out_of_memory R (Err error) h = subst (λ (v : StepError). RefusesStep R v) (sym h) tt
 
-pub refused_so : {T : Type 0} (R : SendError → Type 0) (error : SendError) (r : Result T StepError) → IsErrAnd r (λ step. step ≡ step_error_of error) → (error ≢ Send.OutOfMemory → R error) → IfErr r (RefusesStep R)
+pub refused_so : {T : Type 0} (R : SendError → Type 0) (error : SendError) (r : Result T StepError)
+    → IsErrAnd r (λ step. step ≡ step_error_of error) → (error ≢ Send.OutOfMemory → R error) → IfErr r (RefusesStep R)
 refused_so R error (Ok x) h k = tt
 refused_so R error (Err step) h k = same_reason R error step h k
 

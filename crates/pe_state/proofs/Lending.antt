@@ -12,8 +12,10 @@ lending me n longest k outbox b rs = record { me = me; n = n; longest = longest;
 abbrev pub Posts : {P R E : Type 0} → Result R E → Posting P → Posting P → TraceEntry → List (ℕ × List ℕ) → Type 0
 Posts r s t rep sends = OnOk r (t ≡ posted (with_entry s rep) sends)
 
-module _ {P R E : Type 0} {longest : ℕ} (r : Result R E) (me n k : ℕ) (outbox : List (Out P)) (b : Bool) (rs : List TraceEntry) (s t : Posting P) (lent : s ≡ lending me n longest k outbox b rs) where
-  pub outbox_after : (rep : TraceEntry) (sends : List (ℕ × List ℕ)) (back old : List (Out P)) → back ≡ t.outbox → outbox ≡ old → Posts r s t rep sends → OnOk r (back ≡ old ++ letters_of me k sends)
+module _ {P R E : Type 0} {longest : ℕ} (r : Result R E) (me n k : ℕ) (outbox : List (Out P)) (b : Bool) (rs : List TraceEntry)
+    (s t : Posting P) (lent : s ≡ lending me n longest k outbox b rs) where
+  pub outbox_after : (rep : TraceEntry) (sends : List (ℕ × List ℕ)) (back old : List (Out P)) → back ≡ t.outbox → outbox ≡ old
+      → Posts r s t rep sends → OnOk r (back ≡ old ++ letters_of me k sends)
   outbox_after rep sends back old e o h = by r h
     where
       by : (r : Result R E) → Posts r s t rep sends → OnOk r (back ≡ old ++ letters_of me k sends)
@@ -27,7 +29,8 @@ module _ {P R E : Type 0} {longest : ℕ} (r : Result R E) (me n k : ℕ) (outbo
       by (Ok x) h = e ∙ ap (λ p. p.count) h ∙ ap (λ p. p.count + length sends) lent
       by (Err x) h = tt
 
-  pub reports_after : (rep : TraceEntry) (sends : List (ℕ × List ℕ)) (back old : List TraceEntry) → back ≡ t.trace → rs ≡ old → Posts r s t rep sends → OnOk r (back ≡ traced b old (rep ∷ posts_of me k sends))
+  pub reports_after : (rep : TraceEntry) (sends : List (ℕ × List ℕ)) (back old : List TraceEntry) → back ≡ t.trace → rs ≡ old
+      → Posts r s t rep sends → OnOk r (back ≡ traced b old (rep ∷ posts_of me k sends))
   reports_after rep sends back old e o h = by r h
     where
       by : (r : Result R E) → Posts r s t rep sends → OnOk r (back ≡ traced b old (rep ∷ posts_of me k sends))

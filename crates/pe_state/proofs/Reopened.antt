@@ -35,11 +35,13 @@ left_below pes me [] lt = tt
 left_below pes me (x ∷ xs) lt = (lt, left_below pes me xs lt)
 
 module _ {C : Type 0} (step : Step C) (fits : C → Type 0) (pack : C → List ℕ) (opened : List C) where
-  hand_holds : (pes me : ℕ) (hand : Option Item) → IfSome hand (IsItemHistory step fits pack opened) → IfSome (option_map (readdressed pes me) hand) (IsItemHistory step fits pack opened)
+  hand_holds : (pes me : ℕ) (hand : Option Item) → IfSome hand (IsItemHistory step fits pack opened)
+      → IfSome (option_map (readdressed pes me) hand) (IsItemHistory step fits pack opened)
   hand_holds pes me None h = tt
   hand_holds pes me (Some x) h = h
 
-  reopened_holds : (pes : ℕ) (pe : PeView C) (left : List Parcel) → HasHistories step fits pack opened pe → All (IsParcelHistory step fits pack opened) left → HasHistories step fits pack opened (reopened pes pe left)
+  reopened_holds : (pes : ℕ) (pe : PeView C) (left : List Parcel) → HasHistories step fits pack opened pe
+      → All (IsParcelHistory step fits pack opened) left → HasHistories step fits pack opened (reopened pes pe left)
   reopened_holds pes pe left h k =
       record {
         same_array = h.same_array;
@@ -51,7 +53,8 @@ module _ {C : Type 0} (step : Step C) (fits : C → Type 0) (pack : C → List �
       }
 
   -- so it is one of the run
-  pub reopened_of_run : (pes : ℕ) (pe : PeView C) (left : List Parcel) → pe.me < pes → pe.n ≤ ELEMENTS → HasHistories step fits pack opened pe → All (IsParcelHistory step fits pack opened) left → IsOfRun step fits pack opened pes (reopened pes pe left)
+  pub reopened_of_run : (pes : ℕ) (pe : PeView C) (left : List Parcel) → pe.me < pes → pe.n ≤ ELEMENTS
+      → HasHistories step fits pack opened pe → All (IsParcelHistory step fits pack opened) left → IsOfRun step fits pack opened pes (reopened pes pe left)
   reopened_of_run pes pe left lt few h k =
       record {
         histories = reopened_holds pes pe left h k;

@@ -37,7 +37,8 @@ module _ {X : Type 0} where
 
   -- the indices before this place are less than that one, and the others are greater
   abbrev pub IsGap : ℕ → List (ℕ × X) → ℕ → Type 0
-  IsGap e row i = (i ≤ length row) × ((k : ℕ) (d : ℕ × X) → k < i → (slice_index_or row k d).0 < e) × ((k : ℕ) (d : ℕ × X) → i ≤ k → k < length row → e < (slice_index_or row k d).0)
+  IsGap e row i = (i ≤ length row) × ((k : ℕ) (d : ℕ × X) → k < i → (slice_index_or row k d).0 < e)
+      × ((k : ℕ) (d : ℕ × X) → i ≤ k → k < length row → e < (slice_index_or row k d).0)
 
   -- where an element stands, and what an edit at its place is
   pub record StandsAt (e : ℕ) (row : List (ℕ × X)) (i : ℕ) : Type 0 where

@@ -37,7 +37,9 @@ module _ {C : Type 0} (step : Step C) (fits : C → Type 0) (pack : C → List �
   keeps_call : (call : Call C) (seat' : SeatView Parcel) → MayCall pe call → IsRunning call → seat'.post ≡ seat.post → seat'.seats ≡ seat.seats
       → Matches (with_call step pack unpack w.ledger pe call) seat' → Kept (after_call step pack unpack pe call) seat'
   keeps_call call seat' may running post_is seats_is m =
-      let l : IsLocalAccount step opened w.start (after_call step pack unpack pe call) (with_call step pack unpack w.ledger pe call) = local_call step fits pack opened w.start unpack pe w.ledger call may running histories keyed w.local in
+      let l : IsLocalAccount step opened w.start (after_call step pack unpack pe call)
+      (with_call step pack unpack w.ledger pe call) = local_call step fits pack opened w.start unpack pe w.ledger call may running
+      histories keyed w.local in
       let me : (after_call step pack unpack pe call).me ≡ pe.me = l.same_me ∙ sym w.local.same_me in
       record {
         own = post_is ∙ w.own;
@@ -57,7 +59,8 @@ module _ {C : Type 0} (step : Step C) (fits : C → Type 0) (pack : C → List �
   pub keeps_sent : (q : ℕ) (parcel : Parcel) → q < pes seat.post → front_parcel pe.outbox ≡ Some parcel → Kept (gave_up pe) (after_put seat q parcel)
   keeps_sent q parcel lt front =
       keeps_call Send (after_put seat q parcel) tt tt refl refl
-      (subst (λ (o : Option Parcel). Matches (entered_in w.ledger [] (option_to_list o) []) (after_put seat q parcel)) (sym front) (matches_put w.ledger seat q parcel [] lt w.matches))
+      (subst (λ (o : Option Parcel). Matches (entered_in w.ledger [] (option_to_list o) []) (after_put seat q parcel)) (sym front)
+      (matches_put w.ledger seat q parcel [] lt w.matches))
 
   pub keeps_looked : (q : ℕ) → Kept (after_call step pack unpack pe (Look q)) seat
   keeps_looked q = keeps_call (Look q) seat tt tt refl refl (matches_still w.ledger seat [] w.matches)
@@ -82,9 +85,13 @@ module _ {C : Type 0} (step : Step C) (fits : C → Type 0) (pack : C → List �
   -- a parcel that came back at once
   pub keeps_back : (parcel : Parcel) → front_parcel pe.outbox ≡ Some parcel → Kept (handed_back (gave_up pe) parcel) seat
   keeps_back parcel front =
-      let given : IsLocalAccount step opened w.start (gave_up pe) (entered_in w.ledger [] (option_to_list (front_parcel pe.outbox)) []) = local_call step fits pack opened w.start unpack pe w.ledger Send tt tt histories keyed w.local in
+      let given : IsLocalAccount step opened w.start (gave_up pe)
+      (entered_in w.ledger [] (option_to_list (front_parcel pe.outbox)) []) = local_call step fits pack opened w.start unpack pe
+      w.ledger Send tt tt histories keyed w.local in
       let still : HasHistories step fits pack opened (gave_up pe) = gave_up_holds step fits pack opened pe histories in
-      let l : IsLocalAccount step opened w.start (handed_back (gave_up pe) parcel) (entered_in (entered_in w.ledger [] (option_to_list (front_parcel pe.outbox)) []) (parcel ∷ []) [] []) = local_call step fits pack opened w.start unpack (gave_up pe) (entered_in w.ledger [] (option_to_list (front_parcel pe.outbox)) []) (HandBack parcel) tt tt still keyed given in
+      let l : IsLocalAccount step opened w.start (handed_back (gave_up pe) parcel)
+      (entered_in (entered_in w.ledger [] (option_to_list (front_parcel pe.outbox)) []) (parcel ∷ []) [] []) = local_call step fits pack
+      opened w.start unpack (gave_up pe) (entered_in w.ledger [] (option_to_list (front_parcel pe.outbox)) []) (HandBack parcel) tt tt still keyed given in
       record {
         own = w.own;
         share = w.share;
@@ -93,7 +100,8 @@ module _ {C : Type 0} (step : Step C) (fits : C → Type 0) (pack : C → List �
         started = w.started;
         ledger = entered_in (entered_in w.ledger [] (option_to_list (front_parcel pe.outbox)) []) (parcel ∷ []) [] [];
         local = l;
-        matches = subst (λ (o : Option Parcel). Matches (entered_in (entered_in w.ledger [] (option_to_list o) []) (parcel ∷ []) [] []) seat) (sym front) (matches_back w.ledger seat parcel [] [] w.matches);
+        matches = subst (λ (o : Option Parcel). Matches (entered_in (entered_in w.ledger [] (option_to_list o) []) (parcel ∷ []) [] [])
+            seat) (sym front) (matches_back w.ledger seat parcel [] [] w.matches);
       }
 
 -- a parcel that was received, and executed at once where it is a letter that can be
@@ -105,7 +113,8 @@ pub keeps_executed : {C : Type 0} (step : Step C) (fits : C → Type 0) (pack : 
     → pe' ≡ (if acts then pe_after (received pe parcel) (acting step pack unpack (received pe parcel)) else received pe parcel)
     → IsSeated step opened count run pe' (after_take seat q parcel)
 keeps_executed {C} step fits pack unpack opened count run pe seat w keyed histories q parcel lt empty pe' false acts is =
-    subst (λ (v : PeView C). IsSeated step opened count run v (after_take seat q parcel)) (sym is) (keeps_received step fits pack unpack opened count run pe seat w keyed histories q parcel lt empty)
+    subst (λ (v : PeView C). IsSeated step opened count run v (after_take seat q parcel)) (sym is)
+    (keeps_received step fits pack unpack opened count run pe seat w keyed histories q parcel lt empty)
 keeps_executed {C} step fits pack unpack opened count run pe seat w keyed histories q parcel lt empty pe' true acts is =
     let seated = keeps_received step fits pack unpack opened count run pe seat w keyed histories q parcel lt empty in
     let whole = received_holds step fits pack opened pe parcel histories (executes_letter step pack unpack fits opened pe parcel (acts.0 refl)) in

@@ -38,7 +38,8 @@ resumed_end item bytes xs end =
     rw (append-nil xs, sum) refl
 
 -- the refusal of an item is that of the list
-pub refused_by : {T U : Type 0} (item : Result T PupError) (whole : Result U PupError) (e : PupError) → ((f : PupError) → item ≡ Err f → whole ≡ Err f) → UnpackAnswer item (Err e) → UnpackAnswer whole (Err e)
+pub refused_by : {T U : Type 0} (item : Result T PupError) (whole : Result U PupError) (e : PupError)
+    → ((f : PupError) → item ≡ Err f → whole ≡ Err f) → UnpackAnswer item (Err e) → UnpackAnswer whole (Err e)
 refused_by item whole Short same told = same Short told
 refused_by item whole Bad same told = same Bad told
 refused_by item whole TooLong same told = same TooLong told

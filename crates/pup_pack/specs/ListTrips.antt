@@ -17,7 +17,14 @@ pub items_round_trip : {T : Type 0} (fits counted : T → Type 0) (pack : T → 
     → unpack_items item (length xs) (flat_map pack xs ++ rest) ≡ Ok (xs, length (flat_map pack xs))
 items_round_trip fits counted pack item law [] rest f c few = refl
 items_round_trip fits counted pack item law (x ∷ xs) rest f c few =
-    rw append_assoc (rw (law.trip x (flat_map pack xs ++ rest) (All-head fits x xs f) (All-head counted x xs c) (le_first (pack x) (flat_map pack xs) few), drop-append_seam (pack x) (flat_map pack xs ++ rest), items_round_trip fits counted pack item law xs rest (All-tail fits x xs f) (All-tail counted x xs c) (le_second (pack x) (flat_map pack xs) few), length-append (pack x) (flat_map pack xs)) refl)
+    rw append_assoc (rw (
+      law.trip x (flat_map pack xs ++ rest) (All-head fits x xs f) (All-head counted x xs c)
+          (le_first (pack x) (flat_map pack xs) few),
+      drop-append_seam (pack x) (flat_map pack xs ++ rest),
+      items_round_trip fits counted pack item law xs rest (All-tail fits x xs f) (All-tail counted x xs c)
+          (le_second (pack x) (flat_map pack xs) few),
+      length-append (pack x) (flat_map pack xs),
+    ) refl)
 
 pub count_round_trip : (n : ℕ) (rest : List ℕ) → n ≤ STATE_BYTES → unpack_count (to_be_bytes w32 n ++ rest) ≡ Ok n
 count_round_trip n rest few =
@@ -32,7 +39,9 @@ pub list_round_trip : {T : Type 0} (fits counted : T → Type 0) (pack : T → L
     → (xs : List T) (rest : List ℕ) → All fits xs → All counted xs → IsCounted xs → length (pack_list pack xs) ≤ STATE_BYTES
     → unpack_list item (pack_list pack xs ++ rest) ≡ Ok (xs, length (pack_list pack xs))
 list_round_trip fits counted pack item law xs rest f c count few =
-    rw append_assoc (rw (count_round_trip (length xs) (flat_map pack xs ++ rest) count) (rw (items_round_trip fits counted pack item law xs rest f c (le_second (to_be_bytes w32 (length xs)) (flat_map pack xs) few)) (rw (count_more (length (flat_map pack xs))) (within-few xs (length (pack_list pack xs)) few))))
+    rw append_assoc (rw (count_round_trip (length xs) (flat_map pack xs ++ rest) count)
+    (rw (items_round_trip fits counted pack item law xs rest f c (le_second (to_be_bytes w32 (length xs)) (flat_map pack xs) few))
+    (rw (count_more (length (flat_map pack xs))) (within-few xs (length (pack_list pack xs)) few))))
 
 pub first_round_trip : (bytes rest : List ℕ) → 4 + length bytes ≤ STATE_BYTES → unpack_first (length bytes) (bytes ++ rest) ≡ Ok (bytes, 4 + length bytes)
 first_round_trip bytes rest few =
@@ -41,4 +50,5 @@ first_round_trip bytes rest few =
 
 pub bytes_round_trip : (bytes rest : List ℕ) → length (pack_bytes bytes) ≤ STATE_BYTES → unpack_bytes (pack_bytes bytes ++ rest) ≡ Ok (bytes, length (pack_bytes bytes))
 bytes_round_trip bytes rest few =
-    rw (count_round_trip (length bytes) (bytes ++ rest) (omega (arith, few))) (first_round_trip bytes rest (omega (arith, few)) ∙ ap (λ n. Ok (bytes, n)) (count_more (length bytes)))
+    rw (count_round_trip (length bytes) (bytes ++ rest) (omega (arith, few)))
+    (first_round_trip bytes rest (omega (arith, few)) ∙ ap (λ n. Ok (bytes, n)) (count_more (length bytes)))

@@ -20,7 +20,8 @@ le_first xs ys few = omega (arith, length-append xs ys)
 pub le_second : (xs ys : List ℕ) {n : ℕ} → length (xs ++ ys) ≤ n → length ys ≤ n
 le_second xs ys few = omega (arith, length-append xs ys)
 
-pub pair_round_trip : {T U : Type 0} (p : T → List ℕ) (q : U → List ℕ) (first : List ℕ → Result (T × ℕ) PupError) (second : List ℕ → Result (U × ℕ) PupError) (x : T) (y : U) (rest : List ℕ)
+pub pair_round_trip : {T U : Type 0} (p : T → List ℕ) (q : U → List ℕ) (first : List ℕ → Result (T × ℕ) PupError)
+    (second : List ℕ → Result (U × ℕ) PupError) (x : T) (y : U) (rest : List ℕ)
     → ((r : List ℕ) → first (p x ++ r) ≡ Ok (x, length (p x)))
     → ((r : List ℕ) → second (q y ++ r) ≡ Ok (y, length (q y)))
     → length (p x ++ q y) ≤ STATE_BYTES

@@ -30,5 +30,6 @@ pub judged_round_trip : {S : Type 0} (test : S → Bool) (value : Result (S × �
 judged_round_trip test value s n passes unpacked = rw (unpacked, passes) refl
 
 -- a value is read from what it was written as
-pub decoded_round_trip : {F S : Type 0} (read : F → Option S) (value : Result (F × ℕ) PupError) (x : F) (s : S) (n : ℕ) → read x ≡ Some s → value ≡ Ok (x, n) → decoded read value ≡ Ok (s, n)
+pub decoded_round_trip : {F S : Type 0} (read : F → Option S) (value : Result (F × ℕ) PupError) (x : F) (s : S) (n : ℕ) → read x ≡ Some s
+    → value ≡ Ok (x, n) → decoded read value ≡ Ok (s, n)
 decoded_round_trip read value x s n reads unpacked = rw (unpacked, reads) refl

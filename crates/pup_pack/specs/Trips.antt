@@ -57,16 +57,23 @@ pub option_trips : {T : Type 0} {fits counted : T → Type 0} {pack : T → List
 option_trips {fits = fits} {counted = counted} {pack = pack} {unpack = unpack} item =
     record { trip = λ o rest fit count few. option_round_trip fits counted pack unpack item o rest fit count few }
 
-pub pair_trips : {T U : Type 0} {f c : T → Type 0} {p : T → List ℕ} {u : List ℕ → Result (T × ℕ) PupError} {g d : U → Type 0} {q : U → List ℕ} {v : List ℕ → Result (U × ℕ) PupError}
+pub pair_trips : {T U : Type 0} {f c : T → Type 0} {p : T → List ℕ} {u : List ℕ → Result (T × ℕ) PupError} {g d : U → Type 0}
+    {q : U → List ℕ} {v : List ℕ → Result (U × ℕ) PupError}
     → RoundTrip f c p u → RoundTrip g d q v → RoundTrip (λ s. f s.0 × g s.1) (λ s. c s.0 × d s.1) (λ s. p s.0 ++ q s.1) (unpack_pair u v)
 pair_trips {p = p} {u = u} {q = q} {v = v} first second =
-    record { trip = λ s rest fit count few. pair_round_trip p q u v s.0 s.1 rest (λ r. first.trip s.0 r fit.0 count.0 (le_first (p s.0) (q s.1) few)) (λ r. second.trip s.1 r fit.1 count.1 (le_second (p s.0) (q s.1) few)) few }
+    record {
+      trip = λ s rest fit count few. pair_round_trip p q u v s.0 s.1 rest
+          (λ r. first.trip s.0 r fit.0 count.0 (le_first (p s.0) (q s.1) few)) (λ r. second.trip s.1 r fit.1 count.1 (le_second (p s.0) (q s.1) few)) few;
+    }
 
 -- of a struct that is made again from its fields
 pub struct_trips : {F S : Type 0} {f c : F → Type 0} {p : F → List ℕ} {u : List ℕ → Result (F × ℕ) PupError} (fields : S → F) (make : F → S) → ((s : S) → make (fields s) ≡ s)
     → RoundTrip f c p u → RoundTrip (λ s. f (fields s)) (λ s. c (fields s)) (λ s. p (fields s)) (λ bytes. made make (u bytes))
 struct_trips {p = p} {u = u} fields make same whole =
-    record { trip = λ s rest fit count few. subst (λ t. made make (u (p (fields s) ++ rest)) ≡ Ok (t, length (p (fields s)))) (same s) (made_round_trip make (u (p (fields s) ++ rest)) (fields s) (length (p (fields s))) (whole.trip (fields s) rest fit count few)) }
+    record {
+      trip = λ s rest fit count few. subst (λ t. made make (u (p (fields s) ++ rest)) ≡ Ok (t, length (p (fields s)))) (same s)
+          (made_round_trip make (u (p (fields s) ++ rest)) (fields s) (length (p (fields s))) (whole.trip (fields s) rest fit count few));
+    }
 
 -- of a tuple, from the laws of its parts
 pub three_trips : {X Y Z : Type 0}
@@ -121,7 +128,8 @@ pub six_trips : {U V W X Y Z : Type 0}
     (λ s. c1 s.0 × (c2 s.1 × (c3 s.2 × (c4 s.3 × (c5 s.4 × c6 s.5)))))
     (λ s. p1 s.0 ++ (p2 s.1 ++ (p3 s.2 ++ (p4 s.3 ++ (p5 s.4 ++ p6 s.5)))))
     (λ bytes. made six_of (unpack_pair u1 (unpack_pair u2 (unpack_pair u3 (unpack_pair u4 (unpack_pair u5 u6)))) bytes))
-six_trips first second third fourth fifth sixth = struct_trips pairs_of_six six_of (λ _. refl) (pair_trips first (pair_trips second (pair_trips third (pair_trips fourth (pair_trips fifth sixth)))))
+six_trips first second third fourth fifth sixth = struct_trips pairs_of_six six_of (λ _. refl)
+    (pair_trips first (pair_trips second (pair_trips third (pair_trips fourth (pair_trips fifth sixth)))))
 
 -- of a type with a test that each of its values passes
 pub judged_trips : {S : Type 0} {f c : S → Type 0} {p : S → List ℕ} {u : List ℕ → Result (S × ℕ) PupError} (test : S → Bool)
@@ -134,7 +142,10 @@ pub coded_trips : {F S : Type 0} {f c : F → Type 0} {p : F → List ℕ} {u : 
     → ((s : S) → fits s → make (code s) ≡ s) → ((s : S) → fits s → f (code s))
     → RoundTrip f c p u → RoundTrip fits (λ s. c (code s)) (λ s. p (code s)) (λ bytes. made make (u bytes))
 coded_trips {p = p} {u = u} fits code make same fitting whole =
-    record { trip = λ s rest fit count few. subst (λ t. made make (u (p (code s) ++ rest)) ≡ Ok (t, length (p (code s)))) (same s fit) (made_round_trip make (u (p (code s) ++ rest)) (code s) (length (p (code s))) (whole.trip (code s) rest (fitting s fit) count few)) }
+    record {
+      trip = λ s rest fit count few. subst (λ t. made make (u (p (code s) ++ rest)) ≡ Ok (t, length (p (code s)))) (same s fit)
+          (made_round_trip make (u (p (code s) ++ rest)) (code s) (length (p (code s))) (whole.trip (code s) rest (fitting s fit) count few));
+    }
 
 pub signed_trips : (w : Width) {p : ℕ → List ℕ} {u : List ℕ → Result (ℕ × ℕ) PupError} → RoundTrip (λ n. n < 2 ^ bits w) (λ _. Unit {0}) p u
     → RoundTrip (FitsSigned w) (λ _. Unit {0}) (pack_signed w p) (unpack_signed w u)
@@ -170,7 +181,10 @@ pub decoded_trips : {F S : Type 0} {f c : F → Type 0} {p : F → List ℕ} {u 
     → ((s : S) → fits s → read (code s) ≡ Some s) → ((s : S) → fits s → f (code s))
     → RoundTrip f c p u → RoundTrip fits (λ s. c (code s)) (λ s. p (code s)) (λ bytes. decoded read (u bytes))
 decoded_trips {p = p} {u = u} fits code read same fitting whole =
-    record { trip = λ s rest fit count few. decoded_round_trip read (u (p (code s) ++ rest)) (code s) s (length (p (code s))) (same s fit) (whole.trip (code s) rest (fitting s fit) count few) }
+    record {
+      trip = λ s rest fit count few. decoded_round_trip read (u (p (code s) ++ rest)) (code s) s (length (p (code s))) (same s fit)
+          (whole.trip (code s) rest (fitting s fit) count few);
+    }
 
 pub bool_trips : RoundTrip (λ _. Unit {0}) (λ _. Unit {0}) pack_bool unpack_bool
 bool_trips = record { trip = λ b rest _ _ _. decoded_round_trip bool_of (unpack_u8 (pack_bool b ++ rest)) (bool_code b) b 1 (bool_again b) refl }

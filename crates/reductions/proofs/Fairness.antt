@@ -53,7 +53,16 @@ module _ {V : Type 0} (combined : V → V → V) (n : ℕ) where
   pub opening_fair : IsFair [] (λ _. false) opening_exchange
   opening_fair =
       record {
-        member = λ i within. record { few = omega arith; least = omega arith; full = λ e. cc; own = λ w e. cc; idle = λ e. refl; busy = λ e. cc; heard = λ k v e. cc; got_few = omega arith };
+        member = λ i within. record {
+          few = omega arith;
+          least = omega arith;
+          full = λ e. cc;
+          own = λ w e. cc;
+          idle = λ e. refl;
+          busy = λ e. cc;
+          heard = λ k v e. cc;
+          got_few = omega arith;
+        };
         held = λ p j v within e. cc;
         ways = tt;
         distinct = tt;
@@ -109,18 +118,21 @@ module _ {V : Type 0} (combined : V → V → V) (n : ℕ) where
 
       given_grows : Grows x given
       given_grows j k w e =
-          at_by (λ y. slice_get y.gave k ≡ Some w) x.members i (record { node = with_own (x.members i).node value; gave = (x.members i).gave ++ value ∷ []; got = (x.members i).got }) j
+          at_by (λ y. slice_get y.gave k ≡ Some w) x.members i
+          (record { node = with_own (x.members i).node value; gave = (x.members i).gave ++ value ∷ []; got = (x.members i).got }) j
           (λ same. get_front (x.members i).gave (value ∷ []) k w (subst (λ t. slice_get (x.members t).gave k ≡ Some w) same e))
           (λ other. e)
 
       given_parts : (p : ℕ) → (given.members p).node.parts ≡ (x.members p).node.parts
       given_parts p =
-          at_by (λ y. y.node.parts ≡ (x.members p).node.parts) x.members i (record { node = with_own (x.members i).node value; gave = (x.members i).gave ++ value ∷ []; got = (x.members i).got }) p
+          at_by (λ y. y.node.parts ≡ (x.members p).node.parts) x.members i
+          (record { node = with_own (x.members i).node value; gave = (x.members i).gave ++ value ∷ []; got = (x.members i).got }) p
           (λ same. ap (λ t. (x.members t).node.parts) (sym same)) (λ other. refl)
 
       given_got : (p : ℕ) → (given.members p).got ≡ (x.members p).got
       given_got p =
-          at_by (λ y. y.got ≡ (x.members p).got) x.members i (record { node = with_own (x.members i).node value; gave = (x.members i).gave ++ value ∷ []; got = (x.members i).got }) p
+          at_by (λ y. y.got ≡ (x.members p).got) x.members i
+          (record { node = with_own (x.members i).node value; gave = (x.members i).gave ++ value ∷ []; got = (x.members i).got }) p
           (λ same. ap (λ t. (x.members t).got) (sym same)) (λ other. refl)
 
       given_way : (way : Way V) → IsWay outs gone x way → IsWay outs gone given way
@@ -133,7 +145,8 @@ module _ {V : Type 0} (combined : V → V → V) (n : ℕ) where
           record {
             member = λ j below.
                 at_by (IsMember outs (gone j)) x.members i (record { node = with_own (x.members i).node value; gave = (x.members i).gave ++ value ∷ []; got = (x.members i).got }) j
-                (λ same. subst (λ t. IsMember outs (gone t) (record { node = with_own (x.members i).node value; gave = (x.members i).gave ++ value ∷ []; got = (x.members i).got })) (sym same) giver)
+                (λ same. subst (λ t. IsMember outs (gone t) (record
+                { node = with_own (x.members i).node value; gave = (x.members i).gave ++ value ∷ []; got = (x.members i).got })) (sym same) giver)
                 (λ other. fair.member j below);
             held = λ p j v below e. part_stays outs gone x given p j v given_grows (fair.held p j v below (ap (part_in j) (sym (given_parts p)) ∙ e));
             ways = all_map (IsWay outs gone x) (IsWay outs gone given) given_way x.ways fair.ways;

@@ -215,7 +215,8 @@ module _ {V : Type 0} (combined : V → V → V) (n : ℕ) (few : n ≤ ELEMENTS
             held = passed_held;
             ways = all_join (IsWay combined n outs gone_now passed) x.ways ((parent i, Part (slot i) value) ∷ [])
                 (all_map (IsWay combined n outs gone x) (IsWay combined n outs gone_now passed) passed_way x.ways fair.ways) (new_way, tt);
-            distinct = distinct_more x.ways (parent i, Part (slot i) value) (all_map (IsWay combined n outs gone x) (Differs (parent i, Part (slot i) value)) alone x.ways fair.ways) fair.distinct;
+            distinct = distinct_more x.ways (parent i, Part (slot i) value)
+                (all_map (IsWay combined n outs gone x) (Differs (parent i, Part (slot i) value)) alone x.ways fair.ways) fair.distinct;
             closed = passed_closed;
             root = not_now 0 (λ e. absurd (omega (arith, e, positive))) fair.root;
             right = λ k v e. fold_stays combined n x passed k v 0 (slot 0) passed_grows (fair.right k v e);
@@ -340,7 +341,8 @@ module _ {V : Type 0} (combined : V → V → V) (n : ℕ) (few : n ≤ ELEMENTS
 
       done_right : (k : ℕ) (v : V) → (slice_get outs k ≡ Some v) ⊎ ((k ≡ length outs) × (v ≡ value)) → IsFold combined n done k v 0 (slot 0)
       done_right k v (inl front) = fold_stays combined n x done k v 0 (slot 0) done_grows (fair.right k v front)
-      done_right k v (inr last) = subst (λ t. IsFold combined n done t v 0 (slot 0)) (sym last.0) (subst (λ t. IsFold combined n done (length outs) t 0 (slot 0)) (sym last.1) result_fold)
+      done_right k v (inr last) = subst (λ t. IsFold combined n done t v 0 (slot 0)) (sym last.0)
+          (subst (λ t. IsFold combined n done (length outs) t 0 (slot 0)) (sym last.1) result_fold)
 
       pub done_fair : IsFair combined n outs_now (λ k. false) done
       done_fair =
@@ -371,7 +373,8 @@ module _ {V : Type 0} (combined : V → V → V) (n : ℕ) (few : n ≤ ELEMENTS
           ∙ ap (λ w. w ++ passed_on n i (Some value)) (sym (no_ways i within value e root)) in (
             outs ++ value ∷ [],
             (λ k. false),
-            subst (λ w. IsFair combined n (outs ++ value ∷ []) (λ k. false) (record { members = set_at x.members i (sender i within value e); ways = w })) to (done_fair i within value e root),
+            subst (λ w. IsFair combined n (outs ++ value ∷ []) (λ k. false)
+                (record { members = set_at x.members i (sender i within value e); ways = w })) to (done_fair i within value e root),
           )
       by (inr other) =
           let test : (i == 0) ≡ false = grind (arith, nat_tests) in
@@ -379,7 +382,8 @@ module _ {V : Type 0} (combined : V → V → V) (n : ℕ) (few : n ≤ ELEMENTS
           ap (λ b. x.ways ++ (if b then to_all n (Whole value) else (parent i, Part (slot i) value) ∷ [])) (sym test) in (
             outs,
             set_at gone i true,
-            subst (λ w. IsFair combined n outs (set_at gone i true) (record { members = set_at x.members i (sender i within value e); ways = w })) to (passed_fair i within value e (omega (arith, other))),
+            subst (λ w. IsFair combined n outs (set_at gone i true)
+                (record { members = set_at x.members i (sender i within value e); ways = w })) to (passed_fair i within value e (omega (arith, other))),
           )
 
   pub on_fair : (i : ℕ) → i < n → SomeFair (sends_on n x i (gathered combined n i (x.members i).node.own (x.members i).node.parts SLOTS))

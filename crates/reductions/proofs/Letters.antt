@@ -36,7 +36,8 @@ pub both_posted : {P M V : Type 0} (p q r : Posting P) (pack : M → List ℕ) (
     → q ≡ posted p (letters (user_pack pack) sends) → r ≡ posted q (letters (tree_pack pack value_pack) more)
     → r ≡ posted p (letters (tree_pack pack value_pack) (as_user sends ++ more))
 both_posted p q r pack value_pack sends more first second =
-    posted_both p q r (letters (tree_pack pack value_pack) (as_user sends)) (letters (tree_pack pack value_pack) more) (first ∙ ap (posted p) (user_letters pack value_pack sends)) second
+    posted_both p q r (letters (tree_pack pack value_pack) (as_user sends)) (letters (tree_pack pack value_pack) more)
+    (first ∙ ap (posted p) (user_letters pack value_pack sends)) second
     ∙ ap (posted p) (sym (map-append (λ x. (x.0, tree_pack pack value_pack x.1)) (as_user sends) more))
 
 -- the same of a value that goes on from an element
@@ -76,7 +77,8 @@ broadcast_worn {M = M} p message counted body Worn count short refused other = (
 broadcast_worn p message counted body OutOfMemory count short refused other = absurd (other refl)
 
 pub broadcast_refused_worn : {P M : Type 0} (p : Posting P) (message : M) (counted : Type 0) (body : List ℕ) (result : Result ⊤ SendError) → counted → length body ≤ p.longest
-    → MatchResult result (λ _. IsBroadcast p counted body) (RefusesBroadcast p counted body) → IfErr result (λ e. e ≢ OutOfMemory → (e ≡ Worn) × (LETTERS < p.count + length (to_all p.n message)))
+    → MatchResult result (λ _. IsBroadcast p counted body) (RefusesBroadcast p counted body)
+    → IfErr result (λ e. e ≢ OutOfMemory → (e ≡ Worn) × (LETTERS < p.count + length (to_all p.n message)))
 broadcast_refused_worn p message counted body (Ok _) count short answer = tt
 broadcast_refused_worn p message counted body (Err e) count short answer = broadcast_worn p message counted body e count short answer
 

@@ -30,6 +30,7 @@ gathered_none combined n i own parts = refl
 
 -- with one slot more there is its part, if it is that of a child
 pub gathered_more : {V : Type 0} (combined : V → V → V) (n i : ℕ) (own : Option V) (parts : List (ℕ × V)) (s : ℕ)
-    → gathered combined n i own parts (s + 1) ≡ (if has_child n i s then joined combined (gathered combined n i own parts s) (part_in s parts) else gathered combined n i own parts s)
+    → gathered combined n i own parts (s + 1) ≡ (if has_child n i s then joined combined (gathered combined n i own parts s)
+    (part_in s parts) else gathered combined n i own parts s)
 unfolding gathered
 gathered_more combined n i own parts s = rw add-one refl

@@ -154,8 +154,10 @@ module _ {V : Type 0} (combined : V → V → V) (n i : ℕ) (contribution : ℕ
   right_by : (s : ℕ) (b : Bool) (value : V) → nat_lt s (slot i) && nat_lt (child i s) n ≡ b → s < slot i
       → AreParts combined n contribution i parts
       → ((v : V) → gathered combined n i (Some (contribution i)) parts s ≡ Some v → v ≡ tree_fold combined n contribution i s)
-      → (if b then joined combined (gathered combined n i (Some (contribution i)) parts s) (part_in s parts) else gathered combined n i (Some (contribution i)) parts s) ≡ Some value
-      → value ≡ (if nat_lt (child i s) n then combined (tree_fold combined n contribution i s) (tree_fold combined n contribution (child i s) s) else tree_fold combined n contribution i s)
+      → (if b then joined combined (gathered combined n i (Some (contribution i)) parts s) (part_in s parts) else gathered combined n i
+      (Some (contribution i)) parts s) ≡ Some value
+      → value ≡ (if nat_lt (child i s) n then combined (tree_fold combined n contribution i s)
+      (tree_fold combined n contribution (child i s) s) else tree_fold combined n contribution i s)
   right_by s true value test below right ih e =
       let has : child i s < n = grind (arith, nat_tests, test) in
       let is_true : nat_lt (child i s) n ≡ true = grind (arith, nat_tests) in
@@ -196,7 +198,8 @@ module _ {V : Type 0} (combined : V → V → V) (n i : ℕ) (contribution : ℕ
       → ((j : ℕ) → has_child n i j ≡ true → part_in j parts ≡ Some (tree_fold combined n contribution (child i j) j))
       → gathered combined n i (Some (contribution i)) parts s ≡ Some (tree_fold combined n contribution i s)
       → (if b then joined combined (gathered combined n i (Some (contribution i)) parts s) (part_in s parts) else gathered combined n i (Some (contribution i)) parts s)
-      ≡ Some (if nat_lt (child i s) n then combined (tree_fold combined n contribution i s) (tree_fold combined n contribution (child i s) s) else tree_fold combined n contribution i s)
+      ≡ Some (if nat_lt (child i s) n then combined (tree_fold combined n contribution i s)
+      (tree_fold combined n contribution (child i s) s) else tree_fold combined n contribution i s)
   there_by s true test below there ih =
       let is_true : nat_lt (child i s) n ≡ true = grind (arith, nat_tests, test) in
       rw (is_true, ih, there s test) refl

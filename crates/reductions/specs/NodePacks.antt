@@ -57,7 +57,8 @@ node_unpack unpack bytes = judged is_node (made of_parts (unpack_pair (unpack_op
 -- the law of the pack of a node, by that of a value
 pub node_trips : {V : Type 0} {fits counted : V → Type 0} {pack : V → List ℕ} {unpack : List ℕ → Result (V × ℕ) PupError} → RoundTrip fits counted pack unpack
     → RoundTrip (λ node. node_fits fits node × (is_node node ≡ true)) (node_counted counted) (node_pack pack) (node_unpack unpack)
-node_trips value = judged_trips is_node (struct_trips parts_of of_parts (λ _. refl) (pair_trips (option_trips value) (pair_trips (list_trips (pair_trips u8_trips value)) bool_trips)))
+node_trips value = judged_trips is_node (struct_trips parts_of of_parts (λ _. refl)
+    (pair_trips (option_trips value) (pair_trips (list_trips (pair_trips u8_trips value)) bool_trips)))
 
 module _ {V : Type 0} (fits counted : V → Type 0) (pack : V → List ℕ) (small : (v : V) → fits v → counted v × (length (pack v) ≤ VALUE_BYTES)) where
   parts_counted : (parts : List (ℕ × V)) → All (part_fits fits) parts → All (part_counted counted) parts

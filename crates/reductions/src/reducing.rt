@@ -121,7 +121,8 @@ impl<A: Allocator + Copy, C: Contributes<A>> Reducing<C, A> {
         requires same_array { sends.old.n ≡ here.now.n }
         ensures state { OnOk result (self.new ≡ (reacts C.step C.Value.combined (waiting self.old waits) here.now.me here.now.n input).state) }
         ensures effect { IfOk result (λ e. e ≡ (reacts C.step C.Value.combined (waiting self.old waits) here.now.me here.now.n input).effect) }
-        ensures sends { OnOk result (sends.new ≡ posted sends.old (letters (tree_pack C.Message.pack C.Value.pack) (reacts C.step C.Value.combined (waiting self.old waits) here.now.me here.now.n input).sends)) }
+        ensures sends { OnOk result (sends.new ≡ posted sends.old (letters (tree_pack C.Message.pack C.Value.pack)
+            (reacts C.step C.Value.combined (waiting self.old waits) here.now.me here.now.n input).sends)) }
         ensures err { OnErr result (self.new ≡ self.old) }
         ensures refused { IfErr result (λ e. e ≢ OutOfMemory → C.refuses self.old.chare here.now.me here.now.n sends.old.count input e
             ⊎ ((e ≡ Worn) × (LETTERS < sends.old.count + length (reacts C.step C.Value.combined (waiting self.old waits) here.now.me here.now.n input).sends))) }
@@ -152,9 +153,11 @@ impl<A: Allocator + Copy, C: Contributes<A>> Reducing<C, A> {
         requires same_array { sends.old.n ≡ here.now.n }
         ensures state { OnOk result (self.new ≡ (gets_part C.step C.Value.combined self.old here.now.me here.now.n part).state) }
         ensures effect { IfOk result (λ e. e ≡ no_work) }
-        ensures sends { OnOk result (sends.new ≡ posted sends.old (letters (tree_pack C.Message.pack C.Value.pack) (gets_part C.step C.Value.combined self.old here.now.me here.now.n part).sends)) }
+        ensures sends { OnOk result (sends.new ≡ posted sends.old (letters (tree_pack C.Message.pack C.Value.pack)
+            (gets_part C.step C.Value.combined self.old here.now.me here.now.n part).sends)) }
         ensures err { OnErr result (self.new ≡ self.old) }
-        ensures refused { IfErr result (λ e. e ≢ OutOfMemory → (e ≡ Worn) × (LETTERS < sends.old.count + length (gets_part C.step C.Value.combined self.old here.now.me here.now.n part).sends)) }
+        ensures refused { IfErr result (λ e. e ≢ OutOfMemory → (e ≡ Worn)
+            × (LETTERS < sends.old.count + length (gets_part C.step C.Value.combined self.old here.now.me here.now.n part).sends)) }
         ensures only_posts { (out : List (ℕ × List ℕ)) × (sends.new ≡ posted sends.old out) }
     {
         if self.node.is_full() {

@@ -6,7 +6,9 @@ use Rattle.chain_refinement.proofs.CutCosts.{held_whole}
 use Rattle.chain_refinement.proofs.HeldBytes.{cost_moves_on, held_few}
 
 -- one place back
-pub cost_moves_back : (sizes : List (ℕ × ℕ)) (from to x : ℕ) (d : ℕ × ℕ) → x < length sizes → held_from sizes from x + held_before sizes to x + held_bytes (get_or sizes x d) to ≡ held_from sizes from (x + 1) + held_before sizes to (x + 1) + held_bytes (get_or sizes x d) from
+pub cost_moves_back : (sizes : List (ℕ × ℕ)) (from to x : ℕ) (d : ℕ × ℕ) → x < length sizes
+    → held_from sizes from x + held_before sizes to x + held_bytes (get_or sizes x d) to ≡ held_from sizes from (x + 1) + held_before sizes
+    to (x + 1) + held_bytes (get_or sizes x d) from
 cost_moves_back sizes from to x d inside = sym (cost_moves_on sizes from to x d inside)
 
 -- what a cut costs is far below 2^63

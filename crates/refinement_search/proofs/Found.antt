@@ -42,7 +42,8 @@ pub record AreFound (c : Chain) (loads : List ℕ) (limit : ℕ) (heights : List
   pub read : AreRead (length heights) c.present.now (length c.starts.now - 1) (slice_index c.starts.now) (height_at heights) cuts
   pub some_within : (others : List ℕ) × AreWithin loads c.names.now limit others
 
-is_search : (c : Chain) (loads : List ℕ) (limit : ℕ) (heights : List (List (ℕ × ℕ))) (cuts : List ℕ) → AreFound c loads limit heights cuts → IsSearch (searched c loads limit heights)
+is_search : (c : Chain) (loads : List ℕ) (limit : ℕ) (heights : List (List (ℕ × ℕ))) (cuts : List ℕ) → AreFound c loads limit heights cuts
+    → IsSearch (searched c loads limit heights)
 is_search c loads limit heights cuts h =
     record {
       paired = h.paired;
@@ -54,23 +55,28 @@ is_search c loads limit heights cuts h =
       table = h.piled;
     }
 
-reading : (c : Chain) (loads : List ℕ) (limit : ℕ) (heights : List (List (ℕ × ℕ))) (cuts : List ℕ) → AreFound c loads limit heights cuts → AreRead (length c.names.now) c.present.now (length loads) (slice_index c.starts.now) (height_at heights) cuts
+reading : (c : Chain) (loads : List ℕ) (limit : ℕ) (heights : List (List (ℕ × ℕ))) (cuts : List ℕ) → AreFound c loads limit heights cuts
+    → AreRead (length c.names.now) c.present.now (length loads) (slice_index c.starts.now) (height_at heights) cuts
 reading c loads limit heights cuts h =
     let elements : length c.starts.now - 1 ≡ length loads = omega (arith, h.chain.counted, h.paired) in
-    subst (λ n. AreRead (length c.names.now) c.present.now n (slice_index c.starts.now) (height_at heights) cuts) elements (subst (λ n. AreRead n c.present.now (length c.starts.now - 1) (slice_index c.starts.now) (height_at heights) cuts) h.counted h.read)
+    subst (λ n. AreRead (length c.names.now) c.present.now n (slice_index c.starts.now) (height_at heights) cuts) elements
+    (subst (λ n. AreRead n c.present.now (length c.starts.now - 1) (slice_index c.starts.now) (height_at heights) cuts) h.counted h.read)
 
 costs_by : (sizes : List (ℕ × ℕ)) (names cuts : List ℕ) (n : ℕ) → IsSizes sizes → total n (λ b. cut_cost sizes names b (slice_index cuts (b + 1))) ≤ n * 2 ^ 37
 costs_by sizes names cuts zero valid = omega arith
 costs_by sizes names cuts (suc n) valid =
     omega (arith, costs_by sizes names cuts n valid, cost_few sizes (slice_index names n) (slice_index names (n + 1)) (slice_index cuts (n + 1)) valid)
 
-begins : (c : Chain) (loads : List ℕ) (limit : ℕ) (heights : List (List (ℕ × ℕ))) (cuts : List ℕ) → AreFound c loads limit heights cuts → slice_index c.starts.now (slice_index cuts 1) ≡ 0
+begins : (c : Chain) (loads : List ℕ) (limit : ℕ) (heights : List (List (ℕ × ℕ))) (cuts : List ℕ) → AreFound c loads limit heights cuts
+    → slice_index c.starts.now (slice_index cuts 1) ≡ 0
 begins c loads limit heights cuts h =
     let others : List ℕ = h.some_within.0 in
-    let few : cuts_cost c.sizes.now c.names.now others < 2 ^ 62 = omega (arith, costs_by c.sizes.now c.names.now others (length c.names.now - 1) h.chain.sized, h.chain.few_blocks) in
+    let few : cuts_cost c.sizes.now c.names.now others < 2 ^ 62 = omega
+    (arith, costs_by c.sizes.now c.names.now others (length c.names.now - 1) h.chain.sized, h.chain.few_blocks) in
     read_begins (searched c loads limit heights) cuts others (is_search c loads limit heights cuts h) (reading c loads limit heights cuts h) h.some_within.1 few
 
-pub proved_where_found : (c : Chain) (loads : List ℕ) (limit : ℕ) (heights : List (List (ℕ × ℕ))) (cuts : List ℕ) → AreFound c loads limit heights cuts → AreProved loads c.sizes.now c.names.now limit cuts heights
+pub proved_where_found : (c : Chain) (loads : List ℕ) (limit : ℕ) (heights : List (List (ℕ × ℕ))) (cuts : List ℕ)
+    → AreFound c loads limit heights cuts → AreProved loads c.sizes.now c.names.now limit cuts heights
 proved_where_found c loads limit heights cuts h =
     let one = is_search c loads limit heights cuts h in
     let read = reading c loads limit heights cuts h in
@@ -83,17 +89,24 @@ proved_where_found c loads limit heights cuts h =
       bound = read_bound (searched c loads limit heights) cuts one read from;
     }
 
-pub nearest_where_found : (c : Chain) (loads : List ℕ) (limit : ℕ) (heights : List (List (ℕ × ℕ))) (cuts : List ℕ) → AreFound c loads limit heights cuts → AreNearest loads c.sizes.now c.names.now c.present.now limit cuts
+pub nearest_where_found : (c : Chain) (loads : List ℕ) (limit : ℕ) (heights : List (List (ℕ × ℕ))) (cuts : List ℕ)
+    → AreFound c loads limit heights cuts → AreNearest loads c.sizes.now c.names.now c.present.now limit cuts
 nearest_where_found c loads limit heights cuts h =
     read_nearest (searched c loads limit heights) cuts (is_search c loads limit heights cuts h) (reading c loads limit heights cuts h) (begins c loads limit heights cuts h)
 
 -- the least starts of a chain never fall
-starts_onward : (loads : List ℕ) (limit : ℕ) (starts : List ℕ) (x y : ℕ) → length starts ≡ length loads + 1 → AreStarts loads limit (slice_index starts) → x ≤ y → y < length starts → slice_index starts x ≤ slice_index starts y
+starts_onward : (loads : List ℕ) (limit : ℕ) (starts : List ℕ) (x y : ℕ) → length starts ≡ length loads + 1
+    → AreStarts loads limit (slice_index starts) → x ≤ y → y < length starts → slice_index starts x ≤ slice_index starts y
 starts_onward loads limit starts x y counted are onward inside =
     starts_rise loads limit (slice_index starts) x y are onward (omega arith)
 
 -- the lists of a chain fit together, where each is what its maker promises
-pub spanned : (c : Chain) (loads : List ℕ) (limit : ℕ) → IsSizes c.sizes.now → length loads ≡ length c.sizes.now → 0 < length c.names.now → length c.names.now ≤ PES → IsNaming (length c.names.now) c.names.now → StandInOrder c.sizes.now c.names.now c.present.now → length c.starts.now ≡ length loads + 1 → AreStarts loads limit (slice_index c.starts.now) → length c.near.now ≡ length c.names.now → AreNears c.present.now (length c.names.now) (slice_index c.starts.now) (slice_index c.near.now) → length c.far.now ≡ length c.names.now → AreFars c.present.now (length c.names.now) (length c.starts.now - 1) (slice_index c.starts.now) (slice_index c.far.now) → IsSpanned c
+pub spanned : (c : Chain) (loads : List ℕ) (limit : ℕ) → IsSizes c.sizes.now → length loads ≡ length c.sizes.now → 0 < length c.names.now
+    → length c.names.now ≤ PES → IsNaming (length c.names.now) c.names.now → StandInOrder c.sizes.now c.names.now c.present.now
+    → length c.starts.now ≡ length loads + 1 → AreStarts loads limit (slice_index c.starts.now) → length c.near.now ≡ length c.names.now
+    → AreNears c.present.now (length c.names.now) (slice_index c.starts.now) (slice_index c.near.now)
+    → length c.far.now ≡ length c.names.now → AreFars c.present.now (length c.names.now) (length c.starts.now - 1)
+    (slice_index c.starts.now) (slice_index c.far.now) → IsSpanned c
 spanned c loads limit sized paired some few naming order counted starts nears near fars far =
     let elements : length c.starts.now - 1 ≡ length c.sizes.now = omega arith in
     record {
@@ -107,5 +120,7 @@ spanned c loads limit sized paired some few naming order counted starts nears ne
       apart = λ b inside. apart_from_order c.sizes.now c.names.now c.present.now b naming order inside;
       nears = nears;
       fars = fars;
-      spans = spans_of c.present.now (length c.names.now) (length c.sizes.now) (slice_index c.starts.now) (slice_index c.near.now) (slice_index c.far.now) near (subst (λ n. AreFars c.present.now (length c.names.now) n (slice_index c.starts.now) (slice_index c.far.now)) elements far);
+      spans = spans_of c.present.now (length c.names.now) (length c.sizes.now) (slice_index c.starts.now) (slice_index c.near.now)
+          (slice_index c.far.now) near (subst (λ n. AreFars c.present.now (length c.names.now) n (slice_index c.starts.now)
+          (slice_index c.far.now)) elements far);
     }

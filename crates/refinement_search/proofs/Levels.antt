@@ -83,12 +83,15 @@ first_step row near =
     }
 
 -- the steps up to the next place
-pub step_more : (row : List ℕ) (near place : ℕ) (steps : List (ℕ × ℕ)) (last : ℕ) → AreStepsTo row near place steps last → last ≤ slice_index row (place + 1) → AreStepsTo row near (place + 1) (with_step steps (place + 1) (slice_index row (place + 1) - last)) (slice_index row (place + 1))
+pub step_more : (row : List ℕ) (near place : ℕ) (steps : List (ℕ × ℕ)) (last : ℕ) → AreStepsTo row near place steps last
+    → last ≤ slice_index row (place + 1) → AreStepsTo row near (place + 1)
+    (with_step steps (place + 1) (slice_index row (place + 1) - last)) (slice_index row (place + 1))
 step_more row near place steps last h low =
     let at : ℕ = place + 1 in
     let rise : ℕ = slice_index row (place + 1) - last in
     let one : IsStepped steps at rise (with_step steps at rise) = stepped steps at rise h.before in
-    let there : (x : ℕ) → at ≤ x → height (with_step steps at rise) x ≡ slice_index row (place + 1) = λ x onward. omega (arith, one.later x onward, h.behind x (omega arith), low) in
+    let there : (x : ℕ) → at ≤ x → height (with_step steps at rise) x ≡ slice_index row (place + 1) = λ x onward. omega
+    (arith, one.later x onward, h.behind x (omega arith), low) in
     record {
       onward = omega (arith, h.onward);
       before = one.before;
@@ -112,7 +115,8 @@ steps_done row near far place steps last h same =
     }
 
 -- a level up to where the height rises
-pub level_ends : (steps : List (ℕ × ℕ)) (low far cut : ℕ) → low ≤ cut → cut < far → height steps cut ≡ height steps low → height steps cut < height steps (cut + 1) → IsLevelTo (height steps) low far cut
+pub level_ends : (steps : List (ℕ × ℕ)) (low far cut : ℕ) → low ≤ cut → cut < far → height steps cut ≡ height steps low
+    → height steps cut < height steps (cut + 1) → IsLevelTo (height steps) low far cut
 level_ends steps low far cut from to level higher =
     record {
       from = from;

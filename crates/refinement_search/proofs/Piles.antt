@@ -11,7 +11,8 @@ use Rattle.chain_refinement.proofs.Climbs.{height_rises}
 use Rattle.refinement_search.proofs.CostsBack.{cost_few}
 
 -- rows of the same numbers
-row_same : (near far : ℕ) (start cost below above below₂ above₂ : ℕ → ℕ) → ((x : ℕ) → below₂ x ≡ below x) → ((x : ℕ) → above₂ x ≡ above x) → IsRow near far start cost below above → IsRow near far start cost below₂ above₂
+row_same : (near far : ℕ) (start cost below above below₂ above₂ : ℕ → ℕ) → ((x : ℕ) → below₂ x ≡ below x) → ((x : ℕ) → above₂ x ≡ above x)
+    → IsRow near far start cost below above → IsRow near far start cost below₂ above₂
 row_same near far start cost below above below₂ above₂ lower upper row =
     record {
       flat = λ x early. omega (arith, row.flat x early, upper x, upper near);
@@ -34,7 +35,8 @@ height_put rows steps b x counted = ap (λ s. height s x) (get_or_push rows step
 first_height : (rise x : ℕ) → 0 < x → height ((1, rise) ∷ []) x ≡ rise
 first_height rise x some = rw (le-leb 1 x (omega arith)) (omega arith)
 
-first_heights : (rise : ℕ) (row : List ℕ) → slice_index row 0 ≡ 0 → ((x : ℕ) → 0 < x → x < length row → slice_index row x ≡ rise) → (x : ℕ) → x < length row → height ((1, rise) ∷ []) x ≡ slice_index row x
+first_heights : (rise : ℕ) (row : List ℕ) → slice_index row 0 ≡ 0 → ((x : ℕ) → 0 < x → x < length row → slice_index row x ≡ rise) → (x : ℕ)
+    → x < length row → height ((1, rise) ∷ []) x ≡ slice_index row x
 first_heights rise row first elsewhere zero inside = sym first
 first_heights rise row first elsewhere (suc x) inside =
     first_height rise (suc x) (omega arith) ∙ sym (elsewhere (suc x) (omega arith) inside)
@@ -49,7 +51,8 @@ piled_first c =
       rows = λ b inside. absurd (omega arith);
     }
 
-pub topped_first : (near far : ℕ) (row : List ℕ) → far < length row → slice_index row 0 ≡ 0 → ((x : ℕ) → 0 < x → x < length row → slice_index row x ≡ 2 ^ 62) → AreTopped near far 0 (((1, 2 ^ 62) ∷ []) ∷ []) row
+pub topped_first : (near far : ℕ) (row : List ℕ) → far < length row → slice_index row 0 ≡ 0
+    → ((x : ℕ) → 0 < x → x < length row → slice_index row x ≡ 2 ^ 62) → AreTopped near far 0 (((1, 2 ^ 62) ∷ []) ∷ []) row
 topped_first near far row inside first elsewhere =
     record {
       heights = λ x from to. first_heights (2 ^ 62) row first elsewhere x (omega arith);
@@ -62,13 +65,17 @@ topped_first near far row inside first elsewhere =
     }
 
 -- up to its first place a row is level
-flat_on : (c : Chain) (blocks : ℕ) (at : ℕ → ℕ → ℕ) (b x : ℕ) → IsSpanned c → ArePiledOn c blocks at → b < blocks → x ≤ slice_index c.near.now b → at b x ≡ at b (slice_index c.near.now b)
+flat_on : (c : Chain) (blocks : ℕ) (at : ℕ → ℕ → ℕ) (b x : ℕ) → IsSpanned c → ArePiledOn c blocks at → b < blocks
+    → x ≤ slice_index c.near.now b → at b x ≡ at b (slice_index c.near.now b)
 flat_on c blocks at zero x h piled inside early = ap (at 0) (omega (arith, h.spans.first, early))
 flat_on c blocks at (suc b) x h piled inside early =
     subst (λ n. x ≤ slice_index c.near.now n → at n x ≡ at n (slice_index c.near.now n)) (add-one b) (λ there. (piled.rows b (omega arith)).flat x there) early
 
 -- what is compared at a place of a row is the height of the row below and what the cut costs
-sum_is : (c : Chain) (b : ℕ) (rows : List (List (ℕ × ℕ))) (below : List ℕ) (x : ℕ) → IsSpanned c → b + 1 < length c.names.now → ArePiledOn c (b + 1) (height_at rows) → AreTopped (slice_index c.near.now b) (slice_index c.far.now b) b rows below → x ≤ slice_index c.far.now (b + 1) → sum_at c.sizes.now c.starts.now below (slice_index c.near.now b) (slice_index c.names.now b) (slice_index c.names.now (b + 1)) x ≡ height_at rows b (slice_index c.starts.now x) + cut_cost c.sizes.now c.names.now b x
+sum_is : (c : Chain) (b : ℕ) (rows : List (List (ℕ × ℕ))) (below : List ℕ) (x : ℕ) → IsSpanned c → b + 1 < length c.names.now
+    → ArePiledOn c (b + 1) (height_at rows) → AreTopped (slice_index c.near.now b) (slice_index c.far.now b) b rows below
+    → x ≤ slice_index c.far.now (b + 1) → sum_at c.sizes.now c.starts.now below (slice_index c.near.now b) (slice_index c.names.now b)
+    (slice_index c.names.now (b + 1)) x ≡ height_at rows b (slice_index c.starts.now x) + cut_cost c.sizes.now c.names.now b x
 sum_is c b rows below x h inside piled topped to =
     let start : ℕ = slice_index c.starts.now x in
     let near : ℕ = slice_index c.near.now b in
@@ -81,16 +88,23 @@ sum_is c b rows below x h inside piled topped to =
           subst (λ n. slice_index below n ≡ height_at rows b start) same (sym (topped.heights start inner reached))
       | inl early ↦
           let same : near ≡ max start near = omega arith in
-          subst (λ n. slice_index below n ≡ height_at rows b start) same (sym (flat_on c (b + 1) (height_at rows) b start h piled (omega arith) (omega arith) ∙ topped.heights near (omega arith) spans))
+          subst (λ n. slice_index below n ≡ height_at rows b start) same
+          (sym (flat_on c (b + 1) (height_at rows) b start h piled (omega arith) (omega arith) ∙ topped.heights near (omega arith) spans))
     ] in
     ap (λ n. n + cut_cost c.sizes.now c.names.now b x) there
 
 -- a row is written over the one below it
 abbrev pub IsWrittenOn : Chain → ℕ → List ℕ → List ℕ → Type 0
 IsWrittenOn c b below above =
-    IsWrittenFrom (slice_index c.far.now (b + 1)) (sum_at c.sizes.now c.starts.now below (slice_index c.near.now b) (slice_index c.names.now b) (slice_index c.names.now (b + 1))) below above (slice_index c.near.now (b + 1))
+    IsWrittenFrom (slice_index c.far.now (b + 1)) (sum_at c.sizes.now c.starts.now below (slice_index c.near.now b)
+    (slice_index c.names.now b) (slice_index c.names.now (b + 1))) below above (slice_index c.near.now (b + 1))
 
-row_on : (c : Chain) (b : ℕ) (rows : List (List (ℕ × ℕ))) (below above : List ℕ) (steps : List (ℕ × ℕ)) → IsSpanned c → b + 1 < length c.names.now → ArePiledOn c (b + 1) (height_at rows) → AreTopped (slice_index c.near.now b) (slice_index c.far.now b) b rows below → IsWrittenOn c b below above → AreStepsOf above (slice_index c.near.now (b + 1)) (slice_index c.far.now (b + 1)) steps → IsRow (slice_index c.near.now (b + 1)) (slice_index c.far.now (b + 1)) (slice_index c.starts.now) (cut_cost c.sizes.now c.names.now b) (height_at rows b) (height steps)
+row_on : (c : Chain) (b : ℕ) (rows : List (List (ℕ × ℕ))) (below above : List ℕ) (steps : List (ℕ × ℕ)) → IsSpanned c
+    → b + 1 < length c.names.now → ArePiledOn c (b + 1) (height_at rows)
+    → AreTopped (slice_index c.near.now b) (slice_index c.far.now b) b rows below → IsWrittenOn c b below above
+    → AreStepsOf above (slice_index c.near.now (b + 1)) (slice_index c.far.now (b + 1)) steps
+    → IsRow (slice_index c.near.now (b + 1)) (slice_index c.far.now (b + 1)) (slice_index c.starts.now) (cut_cost c.sizes.now c.names.now b)
+    (height_at rows b) (height steps)
 row_on c b rows below above steps h inside piled topped written stepped =
     let near : ℕ = slice_index c.near.now (b + 1) in
     let far : ℕ = slice_index c.far.now (b + 1) in
@@ -106,7 +120,10 @@ row_on c b rows below above steps h inside piled topped written stepped =
     }
 
 -- a pile with one more row
-pub piled_more : (c : Chain) (b : ℕ) (rows : List (List (ℕ × ℕ))) (below above : List ℕ) (steps : List (ℕ × ℕ)) → IsSpanned c → b + 1 < length c.names.now → length rows ≡ b + 1 → ArePiledOn c (b + 1) (height_at rows) → AreTopped (slice_index c.near.now b) (slice_index c.far.now b) b rows below → IsWrittenOn c b below above → AreStepsOf above (slice_index c.near.now (b + 1)) (slice_index c.far.now (b + 1)) steps → ArePiledOn c (b + 1 + 1) (height_at (rows ++ steps ∷ []))
+pub piled_more : (c : Chain) (b : ℕ) (rows : List (List (ℕ × ℕ))) (below above : List ℕ) (steps : List (ℕ × ℕ)) → IsSpanned c
+    → b + 1 < length c.names.now → length rows ≡ b + 1 → ArePiledOn c (b + 1) (height_at rows)
+    → AreTopped (slice_index c.near.now b) (slice_index c.far.now b) b rows below → IsWrittenOn c b below above
+    → AreStepsOf above (slice_index c.near.now (b + 1)) (slice_index c.far.now (b + 1)) steps → ArePiledOn c (b + 1 + 1) (height_at (rows ++ steps ∷ []))
 piled_more c b rows below above steps h inside counted piled topped written stepped =
     let kept : (k x : ℕ) → k < b + 1 → height_at (rows ++ steps ∷ []) k x ≡ height_at rows k x = λ k x within. height_kept rows steps k x (omega arith) in
     record {
@@ -114,21 +131,32 @@ piled_more c b rows below above steps h inside counted piled topped written step
       elsewhere = λ x some. omega (arith, kept 0 x (omega arith), piled.elsewhere x some);
       rises = λ x y onward. omega (arith, kept 0 x (omega arith), kept 0 y (omega arith), piled.rises x y onward);
       rows = λ k within. elim (cases_lt (k + 1) (b + 1)) [
-        | inl earlier ↦ row_same (slice_index c.near.now (k + 1)) (slice_index c.far.now (k + 1)) (slice_index c.starts.now) (cut_cost c.sizes.now c.names.now k) (height_at rows k) (height_at rows (k + 1)) (height_at (rows ++ steps ∷ []) k) (height_at (rows ++ steps ∷ []) (k + 1)) (λ x. kept k x (omega arith)) (λ x. kept (k + 1) x (omega arith)) (piled.rows k earlier)
+        | inl earlier ↦ row_same (slice_index c.near.now (k + 1)) (slice_index c.far.now (k + 1)) (slice_index c.starts.now)
+            (cut_cost c.sizes.now c.names.now k) (height_at rows k) (height_at rows (k + 1)) (height_at (rows ++ steps ∷ []) k)
+            (height_at (rows ++ steps ∷ []) (k + 1)) (λ x. kept k x (omega arith)) (λ x. kept (k + 1) x (omega arith)) (piled.rows k earlier)
         | inr here ↦
             let met : b ≡ k = omega arith in
-            subst (λ n. IsRow (slice_index c.near.now (n + 1)) (slice_index c.far.now (n + 1)) (slice_index c.starts.now) (cut_cost c.sizes.now c.names.now n) (height_at (rows ++ steps ∷ []) n) (height_at (rows ++ steps ∷ []) (n + 1))) met
-            (row_same (slice_index c.near.now (b + 1)) (slice_index c.far.now (b + 1)) (slice_index c.starts.now) (cut_cost c.sizes.now c.names.now b) (height_at rows b) (height steps) (height_at (rows ++ steps ∷ []) b) (height_at (rows ++ steps ∷ []) (b + 1)) (λ x. kept b x (omega arith)) (λ x. height_put rows steps (b + 1) x counted) (row_on c b rows below above steps h inside piled topped written stepped))
+            subst (λ n. IsRow (slice_index c.near.now (n + 1)) (slice_index c.far.now (n + 1)) (slice_index c.starts.now)
+            (cut_cost c.sizes.now c.names.now n) (height_at (rows ++ steps ∷ []) n) (height_at (rows ++ steps ∷ []) (n + 1))) met
+            (row_same (slice_index c.near.now (b + 1)) (slice_index c.far.now (b + 1)) (slice_index c.starts.now)
+            (cut_cost c.sizes.now c.names.now b) (height_at rows b) (height steps) (height_at (rows ++ steps ∷ []) b)
+            (height_at (rows ++ steps ∷ []) (b + 1)) (λ x. kept b x (omega arith)) (λ x. height_put rows steps (b + 1) x counted)
+            (row_on c b rows below above steps h inside piled topped written stepped))
       ];
     }
 
 -- the last row of a pile with one more row
-pub topped_more : (c : Chain) (b : ℕ) (rows : List (List (ℕ × ℕ))) (below above : List ℕ) (steps : List (ℕ × ℕ)) → IsSpanned c → b + 1 < length c.names.now → length rows ≡ b + 1 → length below ≡ length c.starts.now → AreTopped (slice_index c.near.now b) (slice_index c.far.now b) b rows below → IsWrittenOn c b below above → AreStepsOf above (slice_index c.near.now (b + 1)) (slice_index c.far.now (b + 1)) steps → AreTopped (slice_index c.near.now (b + 1)) (slice_index c.far.now (b + 1)) (b + 1) (rows ++ steps ∷ []) above
+pub topped_more : (c : Chain) (b : ℕ) (rows : List (List (ℕ × ℕ))) (below above : List ℕ) (steps : List (ℕ × ℕ)) → IsSpanned c
+    → b + 1 < length c.names.now → length rows ≡ b + 1 → length below ≡ length c.starts.now
+    → AreTopped (slice_index c.near.now b) (slice_index c.far.now b) b rows below → IsWrittenOn c b below above
+    → AreStepsOf above (slice_index c.near.now (b + 1)) (slice_index c.far.now (b + 1)) steps
+    → AreTopped (slice_index c.near.now (b + 1)) (slice_index c.far.now (b + 1)) (b + 1) (rows ++ steps ∷ []) above
 topped_more c b rows below above steps h inside counted room topped written stepped =
     let near : ℕ = slice_index c.near.now (b + 1) in
     let far : ℕ = slice_index c.far.now (b + 1) in
     let far_in : far ≤ length c.sizes.now = h.spans.far_inside (b + 1) inside in
-    let below_in : slice_index c.near.now b ≤ length c.sizes.now = omega (arith, h.spans.near_before b (omega arith), h.spans.far_behind b (omega arith), h.spans.far_inside b (omega arith)) in
+    let below_in : slice_index c.near.now b ≤ length c.sizes.now = omega
+    (arith, h.spans.near_before b (omega arith), h.spans.far_behind b (omega arith), h.spans.far_inside b (omega arith)) in
     record {
       heights = λ x from to. height_put rows steps (b + 1) x counted ∙ stepped.heights x from to;
       small = λ x within. elim (cases_lt x near) [

@@ -27,7 +27,9 @@ near_none present blocks start near counted first =
       reached = λ k within. absurd (omega arith);
     }
 
-pub near_more : (present : List ℕ) (blocks : ℕ) (start : ℕ → ℕ) (near : List ℕ) (b place : ℕ) → AreNearsTo present blocks start near b → b + 1 < blocks → slice_index near b ≤ place → place ≤ slice_index present (b + 1) → start place ≤ slice_index near b → AreNearsTo present blocks start (set near (b + 1) place) (b + 1)
+pub near_more : (present : List ℕ) (blocks : ℕ) (start : ℕ → ℕ) (near : List ℕ) (b place : ℕ) → AreNearsTo present blocks start near b
+    → b + 1 < blocks → slice_index near b ≤ place → place ≤ slice_index present (b + 1) → start place ≤ slice_index near b
+    → AreNearsTo present blocks start (set near (b + 1) place) (b + 1)
 near_more present blocks start near b place h inside onward to reached =
     let here : slice_index (set near (b + 1) place) (b + 1) ≡ place = get_or-set_same near (b + 1) place 0 (omega (arith, h.counted)) in
     let other : (k : ℕ) → k ≢ b + 1 → slice_index (set near (b + 1) place) k ≡ slice_index near k = λ k apart. get_or-set_other near (b + 1) k place 0 apart in
@@ -43,14 +45,16 @@ near_more present blocks start near b place h inside onward to reached =
         | inr apart ↦ omega (arith, other k (omega arith), other (k + 1) (omega (arith, apart)), h.rises k (omega (arith, apart)))
       ];
       reached = λ k within. elim (cases_eq k b) [
-        | inl met ↦ subst (λ n. start (slice_index (set near (b + 1) place) (n + 1)) ≤ slice_index (set near (b + 1) place) n) (sym met) (subst (λ y. start y ≤ slice_index (set near (b + 1) place) b) (sym here) (omega (arith, other b (omega arith))))
+        | inl met ↦ subst (λ n. start (slice_index (set near (b + 1) place) (n + 1)) ≤ slice_index (set near (b + 1) place) n) (sym met)
+            (subst (λ y. start y ≤ slice_index (set near (b + 1) place) b) (sym here) (omega (arith, other b (omega arith))))
         | inr apart ↦
             let next : slice_index (set near (b + 1) place) (k + 1) ≡ slice_index near (k + 1) = other (k + 1) (omega (arith, apart)) in
             subst (λ y. start y ≤ slice_index (set near (b + 1) place) k) (sym next) (omega (arith, other k (omega arith), h.reached k (omega (arith, apart))))
       ];
     }
 
-pub near_all : (present : List ℕ) (blocks : ℕ) (start : ℕ → ℕ) (near : List ℕ) (b : ℕ) → AreNearsTo present blocks start near b → b + 1 ≡ blocks → AreNears present blocks start (slice_index near)
+pub near_all : (present : List ℕ) (blocks : ℕ) (start : ℕ → ℕ) (near : List ℕ) (b : ℕ) → AreNearsTo present blocks start near b
+    → b + 1 ≡ blocks → AreNears present blocks start (slice_index near)
 near_all present blocks start near b h last =
     record {
       first = h.first;
@@ -68,7 +72,9 @@ pub present_rises : (elements blocks : ℕ) (present : List ℕ) (b : ℕ) → I
 present_rises elements blocks present b divides inside = (block_within elements blocks present b divides (omega arith)).0
 
 -- the last place of the last row
-pub far_none : (present : List ℕ) (blocks elements : ℕ) (start : ℕ → ℕ) (far : List ℕ) (place : ℕ) → 0 < blocks → length far ≡ blocks → IsDivision 0 elements blocks present → start elements ≤ elements → place ≡ max (slice_index present (blocks - 1)) (start elements) → AreFarsFrom present blocks elements start (slice_index (set far (blocks - 1) place)) (blocks - 1)
+pub far_none : (present : List ℕ) (blocks elements : ℕ) (start : ℕ → ℕ) (far : List ℕ) (place : ℕ) → 0 < blocks → length far ≡ blocks
+    → IsDivision 0 elements blocks present → start elements ≤ elements → place ≡ max (slice_index present (blocks - 1)) (start elements)
+    → AreFarsFrom present blocks elements start (slice_index (set far (blocks - 1) place)) (blocks - 1)
 far_none present blocks elements start far place some counted divides small is =
     let here : slice_index (set far (blocks - 1) place) (blocks - 1) ≡ place = get_or-set_same far (blocks - 1) place 0 (omega arith) in
     let present_in : slice_index present (blocks - 1) ≤ elements = present_inside elements blocks present (blocks - 1) divides (omega arith) in
@@ -84,7 +90,10 @@ far_none present blocks elements start far place some counted divides small is =
       last = omega (arith, here, is);
     }
 
-pub far_one : (present : List ℕ) (blocks elements : ℕ) (start : ℕ → ℕ) (far : List ℕ) (b place : ℕ) → length far ≡ blocks → IsDivision 0 elements blocks present → ((x : ℕ) → x ≤ elements → start x ≤ x) → 0 < b → b < blocks → AreFarsFrom present blocks elements start (slice_index far) b → place ≡ max (slice_index present (b - 1)) (start (slice_index far b)) → AreFarsFrom present blocks elements start (slice_index (set far (b - 1) place)) (b - 1)
+pub far_one : (present : List ℕ) (blocks elements : ℕ) (start : ℕ → ℕ) (far : List ℕ) (b place : ℕ) → length far ≡ blocks
+    → IsDivision 0 elements blocks present → ((x : ℕ) → x ≤ elements → start x ≤ x) → 0 < b → b < blocks
+    → AreFarsFrom present blocks elements start (slice_index far) b → place ≡ max (slice_index present (b - 1)) (start (slice_index far b))
+    → AreFarsFrom present blocks elements start (slice_index (set far (b - 1) place)) (b - 1)
 far_one present blocks elements start far b place counted divides small some within h is =
     let one : ℕ = b - 1 in
     let here : slice_index (set far one place) one ≡ place = get_or-set_same far one place 0 (omega arith) in
@@ -104,8 +113,10 @@ far_one present blocks elements start far b place counted divides small some wit
         | inl met ↦
             let next : slice_index (set far one place) b ≡ slice_index far b = other b (omega arith) in
             let same : one + 1 ≡ b = omega arith in
-            let there : start (slice_index (set far one place) b) ≤ slice_index (set far one place) one = subst (λ y. start y ≤ slice_index (set far one place) one) (sym next) (omega (arith, here, is)) in
-            subst (λ n. start (slice_index (set far one place) (n + 1)) ≤ slice_index (set far one place) n) (sym met) (subst (λ n. start (slice_index (set far one place) n) ≤ slice_index (set far one place) one) (sym same) there)
+            let there : start (slice_index (set far one place) b) ≤ slice_index (set far one place) one = subst
+            (λ y. start y ≤ slice_index (set far one place) one) (sym next) (omega (arith, here, is)) in
+            subst (λ n. start (slice_index (set far one place) (n + 1)) ≤ slice_index (set far one place) n) (sym met)
+            (subst (λ n. start (slice_index (set far one place) n) ≤ slice_index (set far one place) one) (sym same) there)
         | inr apart ↦
             let next : slice_index (set far one place) (k + 1) ≡ slice_index far (k + 1) = other (k + 1) (omega arith) in
             subst (λ y. start y ≤ slice_index (set far one place) k) (sym next) (omega (arith, other k apart, h.reached k (omega (arith, apart)) inside))
@@ -114,7 +125,8 @@ far_one present blocks elements start far b place counted divides small some wit
     }
 
 -- the first and the last places together
-pub spans_of : (present : List ℕ) (blocks elements : ℕ) (start near far : ℕ → ℕ) → AreNears present blocks start near → AreFars present blocks elements start far → AreSpans present blocks elements start near far
+pub spans_of : (present : List ℕ) (blocks elements : ℕ) (start near far : ℕ → ℕ) → AreNears present blocks start near
+    → AreFars present blocks elements start far → AreSpans present blocks elements start near far
 spans_of present blocks elements start near far nears fars =
     record {
       first = nears.first;

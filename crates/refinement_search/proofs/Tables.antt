@@ -61,14 +61,16 @@ gentle s b x h inside within =
           let other : s.at b (s.start near) ≡ s.at b (s.near b) = flat_at s b (s.start near) h (omega arith) reached in
           let level : s.at (b + 1) x ≡ s.at (b + 1) near = row.flat x (omega arith) in
           let here : s.at (b + 1) near ≤ s.at b (s.start near) + cut_cost s.sizes s.names b near = row.low near (omega arith) (omega (arith, before, behind)) in
-          let cheaper : cut_cost s.sizes s.names b near ≤ cut_cost s.sizes s.names b x = cost_falls s.sizes s.names s.present b x near (h.apart b inside) (omega arith) before (present_inside s b h inside) in
+          let cheaper : cut_cost s.sizes s.names b near ≤ cut_cost s.sizes s.names b x = cost_falls s.sizes s.names s.present b x near
+          (h.apart b inside) (omega arith) before (present_inside s b h inside) in
           omega (arith, level, here, one, other, cheaper)
       | inr inner ↦ elim (cases_lt far x) [
         | inr low ↦ row.low x inner low
         | inl late ↦
             let level : s.at (b + 1) x ≡ s.at (b + 1) far = row.level x (omega arith) in
             let here : s.at (b + 1) far ≤ s.at b (s.start far) + cut_cost s.sizes s.names b far = row.low far (omega (arith, before, behind)) (omega arith) in
-            let dearer : cut_cost s.sizes s.names b far ≤ cut_cost s.sizes s.names b x = cost_rises s.sizes s.names s.present b far x (h.apart b inside) behind (omega arith) (omega (arith, h.paired)) in
+            let dearer : cut_cost s.sizes s.names b far ≤ cut_cost s.sizes s.names b x = cost_rises s.sizes s.names s.present b far x
+            (h.apart b inside) behind (omega arith) (omega (arith, h.paired)) in
             let later : s.start far ≤ s.start x = later_start s far x h (omega arith) within in
             let higher : s.at b (s.start far) ≤ s.at b (s.start x) = rises_at s b (s.start far) (s.start x) h (omega arith) later in
             omega (arith, level, here, dearer, higher)
@@ -98,7 +100,8 @@ pub record IsLevelCut (s : Searched) (b low cut : ℕ) : Type 0 where
   pub cost : s.at b (s.start cut) + cut_cost s.sizes s.names b cut ≡ s.at (b + 1) low
 
 -- the height that a level has is that of the block before it and what the cut costs
-pub level_cut : (s : Searched) (b low cut : ℕ) → IsSearch s → b + 1 < length s.names → low ≤ s.far (b + 1) → IsLevel (s.at (b + 1)) (slice_index s.present (b + 1)) low cut → IsLevelCut s b low cut
+pub level_cut : (s : Searched) (b low cut : ℕ) → IsSearch s → b + 1 < length s.names → low ≤ s.far (b + 1)
+    → IsLevel (s.at (b + 1)) (slice_index s.present (b + 1)) low cut → IsLevelCut s b low cut
 level_cut s b low cut h inside low_in level =
     let row : IsRow (s.near (b + 1)) (s.far (b + 1)) s.start (cut_cost s.sizes s.names b) (s.at b) (s.at (b + 1)) = h.table.rows b inside in
     let near : ℕ = s.near (b + 1) in
@@ -124,7 +127,8 @@ level_cut s b low cut h inside low_in level =
     let cost : s.at b (s.start cut) + cut_cost s.sizes s.names b cut ≡ s.at (b + 1) low = elim (cases_lt cut y) [
       | inr met ↦
           let here : y ≡ cut = omega (arith, met, onward) in
-          let at_cut : s.at b (s.start cut) + cut_cost s.sizes s.names b cut ≤ s.at (b + 1) cut = subst (λ n. s.at b (s.start n) + cut_cost s.sizes s.names b n ≤ s.at (b + 1) cut) here there in
+          let at_cut : s.at b (s.start cut) + cut_cost s.sizes s.names b cut ≤ s.at (b + 1) cut = subst
+          (λ n. s.at b (s.start n) + cut_cost s.sizes s.names b n ≤ s.at (b + 1) cut) here there in
           omega (arith, at_cut, below, same)
       | inl past ↦ elim (cases_lt cut (max present low)) [
         | inl short ↦
@@ -132,7 +136,8 @@ level_cut s b low cut h inside low_in level =
             let on : s.at (b + 1) (cut + 1) ≤ s.at (b + 1) y = row.rises (cut + 1) y (omega (arith, past)) in
             absurd (omega (arith, higher, on, row.low y (omega (arith, cut_near, onward)) y_far, there))
         | inr full ↦
-            let dearer : cut_cost s.sizes s.names b cut ≤ cut_cost s.sizes s.names b y = cost_rises s.sizes s.names s.present b cut y (h.apart b inside) (omega (arith, full)) onward (omega (arith, y_far, far_in, h.paired)) in
+            let dearer : cut_cost s.sizes s.names b cut ≤ cut_cost s.sizes s.names b y = cost_rises s.sizes s.names s.present b cut y
+            (h.apart b inside) (omega (arith, full)) onward (omega (arith, y_far, far_in, h.paired)) in
             let later : s.start cut ≤ s.start y = later_start s cut y h onward (omega (arith, y_far, far_in)) in
             let higher : s.at b (s.start cut) ≤ s.at b (s.start y) = rises_at s b (s.start cut) (s.start y) h (omega arith) later in
             omega (arith, dearer, higher, there, below, same)
@@ -141,7 +146,9 @@ level_cut s b low cut h inside low_in level =
     record { near = cut_near; far = cut_far; cost = cost }
 
 -- neighboring cuts are in order
-levels_ordered : (s : Searched) (b low cut next : ℕ) → IsSearch s → b + 1 + 1 < length s.names → low ≤ s.far (b + 1 + 1) → IsLevel (s.at (b + 1)) (slice_index s.present (b + 1)) (s.start next) cut → IsLevel (s.at (b + 1 + 1)) (slice_index s.present (b + 1 + 1)) low next → cut ≤ next
+levels_ordered : (s : Searched) (b low cut next : ℕ) → IsSearch s → b + 1 + 1 < length s.names → low ≤ s.far (b + 1 + 1)
+    → IsLevel (s.at (b + 1)) (slice_index s.present (b + 1)) (s.start next) cut
+    → IsLevel (s.at (b + 1 + 1)) (slice_index s.present (b + 1 + 1)) low next → cut ≤ next
 levels_ordered s b low cut next h inside low_in level level_next =
     let there : IsLevelCut s (b + 1) low next = level_cut s (b + 1) low next h inside low_in level_next in
     let far_in : s.far (b + 1 + 1) ≤ length s.loads = h.spans.far_inside (b + 1 + 1) inside in
@@ -150,11 +157,15 @@ levels_ordered s b low cut next h inside low_in level level_next =
       | inr ordered ↦ ordered
       | inl back ↦
           let before : cut ≤ slice_index s.present (b + 1) = omega (arith, level.to, start_inside s next h next_in, back) in
-          let later : slice_index s.present (b + 1) ≤ slice_index s.present (b + 1 + 1) = (block_within (length s.sizes) (length s.names) s.present (b + 1) h.divides (omega arith)).0 in
+          let later : slice_index s.present (b + 1) ≤ slice_index s.present
+          (b + 1 + 1) = (block_within (length s.sizes) (length s.names) s.present (b + 1) h.divides (omega arith)).0 in
           let behind : slice_index s.present (b + 1 + 1) ≤ s.far (b + 1 + 1) = h.spans.far_behind (b + 1 + 1) inside in
-          let cheaper : cut_cost s.sizes s.names (b + 1) cut ≤ cut_cost s.sizes s.names (b + 1) next = cost_falls s.sizes s.names s.present (b + 1) next cut (h.apart (b + 1) inside) (omega (arith, back)) (omega (arith, before, later)) (present_inside s (b + 1) h inside) in
-          let low_there : s.at (b + 1 + 1) cut ≤ s.at (b + 1) (s.start cut) + cut_cost s.sizes s.names (b + 1) cut = (h.table.rows (b + 1) inside).low cut (omega (arith, there.near, back)) (omega (arith, before, later, behind)) in
-          let lower : s.at (b + 1) (s.start cut) ≤ s.at (b + 1) cut = rises_at s (b + 1) (s.start cut) cut h (omega arith) (start_inside s cut h (omega (arith, before, later, behind, far_in))) in
+          let cheaper : cut_cost s.sizes s.names (b + 1) cut ≤ cut_cost s.sizes s.names (b + 1) next = cost_falls s.sizes s.names s.present
+          (b + 1) next cut (h.apart (b + 1) inside) (omega (arith, back)) (omega (arith, before, later)) (present_inside s (b + 1) h inside) in
+          let low_there : s.at (b + 1 + 1) cut ≤ s.at (b + 1) (s.start cut) + cut_cost s.sizes s.names (b + 1)
+          cut = (h.table.rows (b + 1) inside).low cut (omega (arith, there.near, back)) (omega (arith, before, later, behind)) in
+          let lower : s.at (b + 1) (s.start cut) ≤ s.at (b + 1) cut = rises_at s (b + 1) (s.start cut) cut h (omega arith)
+          (start_inside s cut h (omega (arith, before, later, behind, far_in))) in
           let higher : s.at (b + 1 + 1) next < s.at (b + 1 + 1) cut = level_next.last cut back (omega (arith, before, later)) in
           absurd (omega (arith, higher, low_there, lower, level.level, cheaper, there.cost, level_next.level))
     ]
@@ -164,7 +175,8 @@ abbrev pub IsReading : Searched → List ℕ → Type 0
 IsReading s cuts = AreRead (length s.names) s.present (length s.loads) s.start s.at cuts
 
 -- the least start of the block that ends at a cut is a place of the row below
-low_inside : (s : Searched) (cuts : List ℕ) (left b : ℕ) → IsSearch s → IsReading s cuts → b + 1 + left ≡ length s.names → (s.start (slice_index cuts (b + 1)) ≤ s.far b) × (slice_index cuts (b + 1) ≤ length s.loads)
+low_inside : (s : Searched) (cuts : List ℕ) (left b : ℕ) → IsSearch s → IsReading s cuts → b + 1 + left ≡ length s.names
+    → (s.start (slice_index cuts (b + 1)) ≤ s.far b) × (slice_index cuts (b + 1) ≤ length s.loads)
 low_inside s cuts zero b h read same =
     let last : b + 1 ≡ length s.names = omega (arith, same) in
     let end : slice_index cuts (b + 1) ≡ length s.loads = ap (slice_index cuts) last ∙ read.ends in
@@ -174,7 +186,8 @@ low_inside s cuts zero b h read same =
 low_inside s cuts (suc left) b h read same =
     let inside : b + 1 < length s.names = omega (arith, same) in
     let next = low_inside s cuts left (b + 1) h read (omega (arith, same)) in
-    let cut : IsLevelCut s b (s.start (slice_index cuts (b + 1 + 1))) (slice_index cuts (b + 1)) = level_cut s b (s.start (slice_index cuts (b + 1 + 1))) (slice_index cuts (b + 1)) h inside next.0 (read.level b inside) in
+    let cut : IsLevelCut s b (s.start (slice_index cuts (b + 1 + 1))) (slice_index cuts (b + 1)) = level_cut s b
+    (s.start (slice_index cuts (b + 1 + 1))) (slice_index cuts (b + 1)) h inside next.0 (read.level b inside) in
     let far_in : s.far (b + 1) ≤ length s.loads = h.spans.far_inside (b + 1) inside in
     (omega (arith, later_start s (slice_index cuts (b + 1)) (s.far (b + 1)) h cut.far far_in, h.spans.far_reached b inside), omega (arith, cut.far, far_in))
 
@@ -185,13 +198,15 @@ pub cut_inside : (s : Searched) (cuts : List ℕ) (b : ℕ) → IsSearch s → I
 cut_inside s cuts b h read inside = (low_inside s cuts (length s.names - (b + 1)) b h read (omega arith)).1
 
 -- each block begins no earlier than the least start of its end
-block_starts : (s : Searched) (cuts : List ℕ) (b : ℕ) → IsSearch s → IsReading s cuts → s.start (slice_index cuts 1) ≡ 0 → b < length s.names → (s.start (slice_index cuts (b + 1)) ≤ slice_index cuts b) × (slice_index cuts b ≤ slice_index cuts (b + 1))
+block_starts : (s : Searched) (cuts : List ℕ) (b : ℕ) → IsSearch s → IsReading s cuts → s.start (slice_index cuts 1) ≡ 0
+    → b < length s.names → (s.start (slice_index cuts (b + 1)) ≤ slice_index cuts b) × (slice_index cuts b ≤ slice_index cuts (b + 1))
 block_starts s cuts zero h read begins inside = (omega (arith, begins, read.starts), omega (arith, read.starts))
 block_starts s cuts (suc b) h read begins inside =
     let level = read.level b (omega arith) in
     let ordered : slice_index cuts (b + 1) ≤ slice_index cuts (b + 1 + 1) = elim (cases_lt (b + 1 + 1) (length s.names)) [
       | inl more ↦
-          levels_ordered s b (s.start (slice_index cuts (b + 1 + 1 + 1))) (slice_index cuts (b + 1)) (slice_index cuts (b + 1 + 1)) h more (low_at s cuts (b + 1 + 1) h read more) level (read.level (b + 1) more)
+          levels_ordered s b (s.start (slice_index cuts (b + 1 + 1 + 1))) (slice_index cuts (b + 1)) (slice_index cuts (b + 1 + 1)) h more
+          (low_at s cuts (b + 1 + 1) h read more) level (read.level (b + 1) more)
       | inr last ↦
           let all : length s.names ≡ b + 1 + 1 = omega (arith, last, inside) in
           let end : slice_index cuts (b + 1 + 1) ≡ length s.loads = subst (λ n. slice_index cuts n ≡ length s.loads) all read.ends in
@@ -204,14 +219,18 @@ abbrev pub cost_to : Searched → List ℕ → ℕ → ℕ
 cost_to s cuts b = total b (λ k. cut_cost s.sizes s.names k (slice_index cuts (k + 1)))
 
 -- what the first cuts cost, up to the height of the least start of the next block's end
-pub read_cost : (s : Searched) (cuts : List ℕ) (b : ℕ) → IsSearch s → IsReading s cuts → b < length s.names → cost_to s cuts b + s.at 0 (s.start (slice_index cuts 1)) ≡ s.at b (s.start (slice_index cuts (b + 1)))
+pub read_cost : (s : Searched) (cuts : List ℕ) (b : ℕ) → IsSearch s → IsReading s cuts → b < length s.names
+    → cost_to s cuts b + s.at 0 (s.start (slice_index cuts 1)) ≡ s.at b (s.start (slice_index cuts (b + 1)))
 read_cost s cuts zero h read inside = omega arith
 read_cost s cuts (suc b) h read inside =
     let before : cost_to s cuts b + s.at 0 (s.start (slice_index cuts 1)) ≡ s.at b (s.start (slice_index cuts (b + 1))) = read_cost s cuts b h read (omega arith) in
     let low : ℕ = s.start (slice_index cuts (b + 1 + 1)) in
-    let here : IsLevelCut s b low (slice_index cuts (b + 1)) = level_cut s b low (slice_index cuts (b + 1)) h (omega arith) (low_at s cuts (b + 1) h read (omega arith)) (read.level b (omega arith)) in
-    let more : (cost_to s cuts b + cut_cost s.sizes s.names b (slice_index cuts (b + 1))) + s.at 0 (s.start (slice_index cuts 1)) ≡ s.at (b + 1) (s.start (slice_index cuts (b + 1 + 1))) = omega (arith, before, here.cost) in
-    subst (λ n. (cost_to s cuts b + cut_cost s.sizes s.names b (slice_index cuts (b + 1))) + s.at 0 (s.start (slice_index cuts 1)) ≡ s.at n (s.start (slice_index cuts (n + 1)))) (add-one b) more
+    let here : IsLevelCut s b low (slice_index cuts (b + 1)) = level_cut s b low (slice_index cuts (b + 1)) h (omega arith)
+    (low_at s cuts (b + 1) h read (omega arith)) (read.level b (omega arith)) in
+    let more : (cost_to s cuts b + cut_cost s.sizes s.names b (slice_index cuts (b + 1))) + s.at 0 (s.start (slice_index cuts 1)) ≡ s.at
+    (b + 1) (s.start (slice_index cuts (b + 1 + 1))) = omega (arith, before, here.cost) in
+    subst (λ n. (cost_to s cuts b + cut_cost s.sizes s.names b (slice_index cuts (b + 1))) + s.at 0 (s.start (slice_index cuts 1)) ≡ s.at n
+    (s.start (slice_index cuts (n + 1)))) (add-one b) more
 
 -- all cuts cost the height at the end of the table
 pub read_cost_all : (s : Searched) (cuts : List ℕ) → IsSearch s → IsReading s cuts → cuts_cost s.sizes s.names cuts + s.at 0 (s.start (slice_index cuts 1)) ≡ top s
@@ -238,17 +257,25 @@ read_within s cuts h read begins =
         starts = read.starts;
         ordered = IsNonDecreasingBy-from_default (λ x. x) cuts 0 (λ i j onward inside.
             let same : i + (j - i) ≡ j = omega arith in
-            subst (λ n. slice_index cuts i ≤ slice_index cuts n) same (rises_by (slice_index cuts) (length s.names) i (j - i) (λ b within. (block_starts s cuts b h read begins within).1) (omega (arith, read.counted))));
+            subst (λ n. slice_index cuts i ≤ slice_index cuts n) same
+            (rises_by (slice_index cuts) (length s.names) i (j - i) (λ b within. (block_starts s cuts b h read begins within).1)
+            (omega (arith, read.counted))));
         ends = read.ends;
       };
       within = λ b inside.
           let block = block_starts s cuts b h read begins inside in
           let end_in : slice_index cuts (b + 1) ≤ length s.loads = cut_inside s cuts b h read inside in
-          omega (arith, (h.starts (slice_index cuts (b + 1)) end_in).light, load_wider s.loads (slice_index cuts b) (slice_index cuts (b + 1)) (s.start (slice_index cuts (b + 1))) (slice_index cuts (b + 1)) block.0 block.1 (omega arith));
+          omega (
+            arith,
+            (h.starts (slice_index cuts (b + 1)) end_in).light,
+            load_wider s.loads (slice_index cuts b) (slice_index cuts (b + 1)) (s.start (slice_index cuts (b + 1)))
+                (slice_index cuts (b + 1)) block.0 block.1 (omega arith),
+          );
     }
 
 -- where any cuts are within the limit, the first block begins at 0
-pub read_begins : (s : Searched) (cuts others : List ℕ) → IsSearch s → IsReading s cuts → AreWithin s.loads s.names s.limit others → cuts_cost s.sizes s.names others < s.none → s.start (slice_index cuts 1) ≡ 0
+pub read_begins : (s : Searched) (cuts others : List ℕ) → IsSearch s → IsReading s cuts → AreWithin s.loads s.names s.limit others
+    → cuts_cost s.sizes s.names others < s.none → s.start (slice_index cuts 1) ≡ 0
 read_begins s cuts others h read within few =
     elim (cases_lt 0 (s.start (slice_index cuts 1))) [
       | inr none ↦ omega arith
@@ -259,7 +286,8 @@ read_begins s cuts others h read within few =
     ]
 
 -- and then the table proves them to move the fewest bytes
-pub read_bound : (s : Searched) (cuts : List ℕ) → IsSearch s → IsReading s cuts → s.start (slice_index cuts 1) ≡ 0 → IsBound s.loads s.sizes s.names s.limit s.at (cuts_cost s.sizes s.names cuts)
+pub read_bound : (s : Searched) (cuts : List ℕ) → IsSearch s → IsReading s cuts → s.start (slice_index cuts 1) ≡ 0
+    → IsBound s.loads s.sizes s.names s.limit s.at (cuts_cost s.sizes s.names cuts)
 read_bound s cuts h read begins =
     let all : cuts_cost s.sizes s.names cuts + s.at 0 (s.start (slice_index cuts 1)) ≡ top s = read_cost_all s cuts h read in
     let nothing : s.at 0 (s.start (slice_index cuts 1)) ≡ 0 = ap (s.at 0) begins ∙ h.table.first in

@@ -24,14 +24,16 @@ written_first far sum row value inside is =
       rises = λ y z from onward to.
           let one : far ≡ y = omega arith in
           let other : far ≡ z = omega arith in
-          subst (λ n. slice_index (set row far value) n ≤ slice_index (set row far value) z) one (subst (λ n. slice_index (set row far value) far ≤ slice_index (set row far value) n) other (omega arith));
+          subst (λ n. slice_index (set row far value) n ≤ slice_index (set row far value) z) one
+          (subst (λ n. slice_index (set row far value) far ≤ slice_index (set row far value) n) other (omega arith));
       reached = λ z from to.
           let met : far ≡ z = omega arith in
           (far, omega arith, omega arith, subst (λ n. sum far ≤ slice_index (set row far value) n) met (omega (arith, here, is)));
     }
 
 -- one place more
-pub written_one : (far : ℕ) (sum : ℕ → ℕ) (old row : List ℕ) (x value : ℕ) → far < length old → IsWrittenFrom far sum old row x → 0 < x → x ≤ far → value ≡ min (slice_index row x) (sum (x - 1)) → IsWrittenFrom far sum old (set row (x - 1) value) (x - 1)
+pub written_one : (far : ℕ) (sum : ℕ → ℕ) (old row : List ℕ) (x value : ℕ) → far < length old → IsWrittenFrom far sum old row x → 0 < x
+    → x ≤ far → value ≡ min (slice_index row x) (sum (x - 1)) → IsWrittenFrom far sum old (set row (x - 1) value) (x - 1)
 written_one far sum old row x value room h some inside is =
     let here : ℕ = x - 1 in
     let at_here : slice_index (set row here value) here ≡ value = get_or-set_same row here value 0 (omega (arith, h.counted)) in
@@ -69,15 +71,21 @@ written_one far sum old row x value room h some inside is =
     }
 
 -- the sum of the place before, from what is still there of the old row
-pub sum_read : (far : ℕ) (sizes : List (ℕ × ℕ)) (starts old row : List ℕ) (below from to x : ℕ) (sum : ℕ → ℕ) → IsWrittenFrom far sum old row x → 0 < x → slice_index starts (x - 1) ≤ x - 1 → below ≤ x - 1 → slice_index row (max (slice_index starts (x - 1)) below) + (held_from sizes from (x - 1) + held_before sizes to (x - 1)) ≡ sum_at sizes starts old below from to (x - 1)
+pub sum_read : (far : ℕ) (sizes : List (ℕ × ℕ)) (starts old row : List ℕ) (below from to x : ℕ) (sum : ℕ → ℕ)
+    → IsWrittenFrom far sum old row x → 0 < x → slice_index starts (x - 1) ≤ x - 1 → below ≤ x - 1
+    → slice_index row (max (slice_index starts (x - 1)) below) + (held_from sizes from (x - 1) + held_before sizes to (x - 1)) ≡ sum_at
+    sizes starts old below from to (x - 1)
 sum_read far sizes starts old row below from to x sum h some before low =
     ap (λ n. n + (held_from sizes from (x - 1) + held_before sizes to (x - 1))) (h.same (max (slice_index starts (x - 1)) below) (omega arith))
 
 -- what the cut costs at the last place
-pub cost_at_far : (sizes : List (ℕ × ℕ)) (from to present far : ℕ) → ArePartsApart sizes from to present → present ≤ far → far ≤ length sizes → held (slice_range sizes present far) to ≡ held_from sizes from far + held_before sizes to far
+pub cost_at_far : (sizes : List (ℕ × ℕ)) (from to present far : ℕ) → ArePartsApart sizes from to present → present ≤ far
+    → far ≤ length sizes → held (slice_range sizes present far) to ≡ held_from sizes from far + held_before sizes to far
 cost_at_far sizes from to present far apart onward within =
-    let none : held_before sizes to 0 ≡ held_before sizes to present = none_between sizes to 0 present (omega arith) (omega arith) (λ i low high. apart.before i high (omega arith)) in
-    let rest : held_before sizes from far ≡ held_before sizes from (length sizes) = none_between sizes from far (length sizes) within (omega arith) (λ i low high. apart.behind i (omega arith) high) in
+    let none : held_before sizes to 0 ≡ held_before sizes to present = none_between sizes to 0 present (omega arith) (omega arith)
+    (λ i low high. apart.before i high (omega arith)) in
+    let rest : held_before sizes from far ≡ held_before sizes from (length sizes) = none_between sizes from far (length sizes) within
+    (omega arith) (λ i low high. apart.behind i (omega arith) high) in
     let all : held_before sizes from (length sizes) ≡ held sizes from = ap (sum_by (λ size. held_bytes size from)) (take-length sizes) in
     let nothing : held_before sizes to 0 ≡ 0 = refl in
     omega (

@@ -45,7 +45,8 @@ module _ {C : Type 0} (step : Step C) (pack : C → List ℕ) where
     quiet step pe (forwarding pe l q).pe (forwarding pe l q).trace [] []
         (λ g k.
         let a : of_hand g k pe.hand ≡ weigh g l = hand_holds g k pe.hand x (Letter l) h p in
-        let b : sum_by (of_item g k) (pe.outbox ++ letter_at q (hopped l) ∷ []) ≡ sum_by (of_item g k) pe.outbox + weigh g l = sum_by_push (of_item g k) pe.outbox (letter_at q (hopped l)) in
+        let b : sum_by (of_item g k) (pe.outbox ++ letter_at q (hopped l) ∷ []) ≡ sum_by (of_item g k) pe.outbox + weigh g l = sum_by_push
+        (of_item g k) pe.outbox (letter_at q (hopped l)) in
         omega (arith, a, b))
         refl refl refl refl refl,
   )
@@ -61,7 +62,8 @@ module _ {C : Type 0} (step : Step C) (pack : C → List ℕ) where
       by true = shelving_moved pe x l h p
       by false = forwarding_moved pe x l q h p
 
-  unfoldable pub executed_moved : (pe : PeView C) (x : Item) (l : LetterView) (el : ElementView C) → pe.hand ≡ Some x → x.parcel ≡ Letter l → found l.to pe.room ≡ Some el → Acts step pe (executed step pack pe l)
+  unfoldable pub executed_moved : (pe : PeView C) (x : Item) (l : LetterView) (el : ElementView C) → pe.hand ≡ Some x → x.parcel ≡ Letter l
+      → found l.to pe.room ≡ Some el → Acts step pe (executed step pack pe l)
   executed_moved pe x l el h p f = (
     Some (el, OfLetter l),
     handled_moved step pack pe l.to (OfLetter l) None el (Trace.Executed l.id l.to) f
@@ -91,10 +93,13 @@ module _ {C : Type 0} (step : Step C) (pack : C → List ℕ) where
         let mine : List LetterView = filter (is_for p.index) pe.shelf in
         let others : List LetterView = filter (λ l. not (is_for p.index l)) pe.shelf in
         let a : of_hand g k pe.hand ≡ k (p.index, p.journal) = hand_holds g k pe.hand x (Element p) h is in
-        let b : sum_by (weigh g) mine + sum_by (weigh g) others ≡ sum_by (weigh g) pe.shelf = sum_by-filter_both (is_for p.index) (λ l. not (is_for p.index l)) (λ l. refl) (weigh g) pe.shelf in
-        let c : sum_by (of_item g k) (pe.outbox ++ map (letter_at pe.me) mine) ≡ sum_by (of_item g k) pe.outbox + sum_by (of_item g k) (map (letter_at pe.me) mine) = sum_by-append (of_item g k) pe.outbox (map (letter_at pe.me) mine) in
+        let b : sum_by (weigh g) mine + sum_by (weigh g) others ≡ sum_by (weigh g) pe.shelf = sum_by-filter_both (is_for p.index)
+        (λ l. not (is_for p.index l)) (λ l. refl) (weigh g) pe.shelf in
+        let c : sum_by (of_item g k) (pe.outbox ++ map (letter_at pe.me) mine) ≡ sum_by (of_item g k) pe.outbox + sum_by (of_item g k)
+        (map (letter_at pe.me) mine) = sum_by-append (of_item g k) pe.outbox (map (letter_at pe.me) mine) in
         let d : sum_by (of_item g k) (map (letter_at pe.me) mine) ≡ sum_by (weigh g) mine = sum_by-map (of_item g k) (letter_at pe.me) mine in
-        let r : of_room g k (joined p.index (unpacked p chare) pe.room) ≡ of_room g k pe.room + k (p.index, p.journal) = sum_joined (of_element g k) pe.room p.index (unpacked p chare) f in
+        let r : of_room g k (joined p.index (unpacked p chare) pe.room) ≡ of_room g k pe.room + k (p.index, p.journal) = sum_joined
+        (of_element g k) pe.room p.index (unpacked p chare) f in
         omega (arith, a, b, c, d, r))
         refl refl refl refl refl,
   )

@@ -60,13 +60,15 @@ pub outbox_parts : (front back items outbox : List Item) → front ++ back ≡ i
     → length (flat_map (λ x. letters_in x.parcel) outbox) ≡ length (flat_map (λ x. letters_in x.parcel) front) + length (flat_map (λ x. letters_in x.parcel) back)
 outbox_parts front back items outbox whole is =
     let letters : Item → List LetterView = λ x. letters_in x.parcel in
-    ap (λ (v : List Item). length (flat_map letters v)) (sym (whole ∙ is)) ∙ (ap length (flat_map-append letters front back) ∙ length-append (flat_map letters front) (flat_map letters back))
+    ap (λ (v : List Item). length (flat_map letters v)) (sym (whole ∙ is))
+    ∙ (ap length (flat_map-append letters front back) ∙ length-append (flat_map letters front) (flat_map letters back))
 
 -- a queue in two parts
 pub queue_parts : (front back items queue : List Parcel) → front ++ back ≡ items → items ≡ queue
     → length (flat_map letters_in queue) ≡ length (flat_map letters_in front) + length (flat_map letters_in back)
 queue_parts front back items queue whole is =
-    ap (λ (v : List Parcel). length (flat_map letters_in v)) (sym (whole ∙ is)) ∙ (ap length (flat_map-append letters_in front back) ∙ length-append (flat_map letters_in front) (flat_map letters_in back))
+    ap (λ (v : List Parcel). length (flat_map letters_in v)) (sym (whole ∙ is))
+    ∙ (ap length (flat_map-append letters_in front back) ∙ length-append (flat_map letters_in front) (flat_map letters_in back))
 
 abbrev pub letter_of : Item → List LetterView
 letter_of x = letters_in x.parcel
@@ -82,15 +84,20 @@ hand_one x = by x.parcel
 pub parts : {C : Type 0} (pe : PeView C)
     → length (letters_at pe) ≡ length (flat_map (λ x. letters_in x.parcel) (option_to_list pe.hand)) + length (flat_map (λ x. letters_in x.parcel) pe.outbox) + length pe.shelf
 parts pe =
-    let a : length (letters_at pe) ≡ length (flat_map letter_of (option_to_list pe.hand ++ pe.outbox)) + length pe.shelf = length-append (flat_map letter_of (option_to_list pe.hand ++ pe.outbox)) pe.shelf in
-    let b : length (flat_map letter_of (option_to_list pe.hand ++ pe.outbox)) ≡ length (flat_map letter_of (option_to_list pe.hand)) + length (flat_map letter_of pe.outbox) = ap length (flat_map-append letter_of (option_to_list pe.hand) pe.outbox) ∙ length-append (flat_map letter_of (option_to_list pe.hand)) (flat_map letter_of pe.outbox) in
+    let a : length (letters_at pe) ≡ length (flat_map letter_of (option_to_list pe.hand ++ pe.outbox)) + length pe.shelf = length-append
+    (flat_map letter_of (option_to_list pe.hand ++ pe.outbox)) pe.shelf in
+    let b : length (flat_map letter_of (option_to_list pe.hand ++ pe.outbox)) ≡ length
+    (flat_map letter_of (option_to_list pe.hand)) + length (flat_map letter_of pe.outbox) = ap length
+    (flat_map-append letter_of (option_to_list pe.hand) pe.outbox)
+    ∙ length-append (flat_map letter_of (option_to_list pe.hand)) (flat_map letter_of pe.outbox) in
     omega (arith, a, b)
 
 -- what a world holds, in its parts, and what its PEs have posted
 module _ {C A : Type 0} (w : WorldView C A) (pes : List (PeView C)) (queues : List (List Parcel)) (p : pes ≡ w.pes) (q : queues ≡ w.queues) where
   pub held_parts : held_count w ≡ length (flat_map letters_at pes) + length (flat_map (flat_map letters_in) queues)
   held_parts =
-      let a : held_count w ≡ length (flat_map letters_at w.pes) + length (flat_map (flat_map letters_in) w.queues) = length-append (flat_map letters_at w.pes) (flat_map (flat_map letters_in) w.queues) in
+      let a : held_count w ≡ length (flat_map letters_at w.pes) + length (flat_map (flat_map letters_in) w.queues) = length-append
+      (flat_map letters_at w.pes) (flat_map (flat_map letters_in) w.queues) in
       rw (p, q) a
 
   pub posted_parts : sum_by (λ pe. pe.count) pes ≡ posted_count w

@@ -56,7 +56,8 @@ pub record WorldKept {C A : Type 0} (F : ℕ → ElementView C → Type 0) (K : 
 module _ {C : Type 0} (step : Step C) (pack : C → List ℕ) (F : ℕ → ElementView C → Type 0) (K : PackedView → Type 0) (kept : IsKept step pack F K) where
   letters_kept : (me k : ℕ) (sends : List (ℕ × List ℕ)) → All (ItemKept K) (letters_of {P = PackedView} me k sends)
   letters_kept me k [] = All-nil (ItemKept K)
-  letters_kept me k (send ∷ sends) = All-cons (ItemKept K) (record { parcel = Letter (letter_to me k send.0 send.1); address = None }) (letters_of {P = PackedView} me (k + 1) sends) tt (letters_kept me (k + 1) sends)
+  letters_kept me k (send ∷ sends) = All-cons (ItemKept K) (record { parcel = Letter (letter_to me k send.0 send.1); address = None })
+      (letters_of {P = PackedView} me (k + 1) sends) tt (letters_kept me (k + 1) sends)
 
   unshelved_kept : (q : ℕ) (letters : List LetterView) → All (ItemKept K) (map (letter_at q) letters)
   unshelved_kept q [] = All-nil (ItemKept K)
@@ -135,7 +136,9 @@ module _ {C : Type 0} (step : Step C) (pack : C → List ℕ) (F : ℕ → Eleme
           looks = λ word. (looked_in_kept d.pe h word (hand_wants d.pe), k);
           flushes = λ q parcel queue front there. (
             record { room = h.room; hand = h.hand; outbox = All-drop (ItemKept K) 1 d.pe.outbox h.outbox },
-            All-set (All (ParcelKept K)) d.queues q (queue ++ parcel ∷ []) (All-push (ParcelKept K) queue parcel (at_place (All (ParcelKept K)) d.queues q queue k there) (front_kept d.pe.outbox parcel h.outbox front)) k,
+            All-set (All (ParcelKept K)) d.queues q (queue ++ parcel ∷ [])
+                (All-push (ParcelKept K) queue parcel (at_place (All (ParcelKept K)) d.queues q queue k there)
+                (front_kept d.pe.outbox parcel h.outbox front)) k,
           );
           delivers = λ queue rest parcel there hand is.
               let all : All (ParcelKept K) (parcel ∷ rest) = subst (λ (v : List Parcel). All (ParcelKept K) v) is (at_place (All (ParcelKept K)) d.queues p queue k there) in (
@@ -158,7 +161,8 @@ module _ {C : Type 0} (step : Step C) (pack : C → List ℕ) (F : ℕ → Eleme
         happens_so step pack unpack w (λ (v : After C A). WorldKept F K v.0)
         (record {
           same = h;
-          turn = λ p pe there. each_map step pack p (local_view w pe) (LocalKept p (local_view w pe) (at_place (PeKept F K) w.pes p pe h.pes there) h.queues) (λ a. WorldKept F K (with_local w p a.0))
+          turn = λ p pe there. each_map step pack p (local_view w pe)
+              (LocalKept p (local_view w pe) (at_place (PeKept F K) w.pes p pe h.pes there) h.queues) (λ a. WorldKept F K (with_local w p a.0))
               (λ a k. record { pes = All-set (PeKept F K) w.pes p a.0.pe k.0 h.pes; queues = k.1 })
               (each_kept p (local_view w pe) (at_place (PeKept F K) w.pes p pe h.pes there) h.queues);
           decides = λ board d. record { pes = h.pes; queues = h.queues };
@@ -192,6 +196,7 @@ module _ {C : Type 0} (step : Step C) (pack : C → List ℕ) (F : ℕ → Eleme
   opening_kept A pes chares strategy =
       record {
         pes = all_placed_kept (length chares) (map (λ q. new_pe q (length chares)) (range_with_len 0 pes)) 0 chares
-            (All-map (PeKept F K) (λ (q : ℕ). new_pe {C = C} q (length chares)) (range_with_len 0 pes) (λ k d inside. record { room = tt; hand = tt; outbox = All-nil (ItemKept K) }));
+            (All-map (PeKept F K) (λ (q : ℕ). new_pe {C = C} q (length chares)) (range_with_len 0 pes)
+            (λ k d inside. record { room = tt; hand = tt; outbox = All-nil (ItemKept K) }));
         queues = All-replicate (All (ParcelKept K)) pes [] (All-nil (ParcelKept K));
       }

@@ -54,21 +54,25 @@ module _ {C : Type 0} (step : Step C) (pack : C → List ℕ) where
   pub start_event_makes : (pe : PeView C) (e : ℕ) (a : PeView C × List TraceEntry) → start_event step pack pe e ≡ Some a → Makes pe a
   start_event_makes pe e a h =
       option_and_then_some (λ (el : ElementView C). where_true (not el.progress.started) (Some (resumed step pack pe e 0, resume_entries step pack pe e 0))) (found e pe.room) a h
-      (λ el at s. runs_at pe e 0 el a at (some_same (resumed step pack pe e 0, resume_entries step pack pe e 0) a (where_some (not el.progress.started) (Some (resumed step pack pe e 0, resume_entries step pack pe e 0)) a s).1))
+      (λ el at s. runs_at pe e 0 el a at (some_same (resumed step pack pe e 0, resume_entries step pack pe e 0) a
+      (where_some (not el.progress.started) (Some (resumed step pack pe e 0, resume_entries step pack pe e 0)) a s).1))
 
   pub resume_event_makes : {A : Type 0} (p : ℕ) (pe : PeView C) (b : BoardState A) (e : ℕ) (a : PeView C × List TraceEntry) → resume_event step pack p pe b e ≡ Some a → Makes pe a
   resume_event_makes p pe b e a h =
       option_and_then_some (λ (at : ℕ × ℕ). where_true (at.1 == p) (Some (resumed step pack pe e at.0, resume_entries step pack pe e at.0))) (due pe b e) a h
       (λ at d s.
       option_and_then_some (λ (el : ElementView C). option_and_then (λ round. option_and_then (λ q. Some (round, q)) (place_in b round e)) (waits_for el)) (found e pe.room) at d
-      (λ el is rest. runs_at pe e at.0 el a is (some_same (resumed step pack pe e at.0, resume_entries step pack pe e at.0) a (where_some (at.1 == p) (Some (resumed step pack pe e at.0, resume_entries step pack pe e at.0)) a s).1)))
+      (λ el is rest. runs_at pe e at.0 el a is (some_same (resumed step pack pe e at.0, resume_entries step pack pe e at.0) a
+      (where_some (at.1 == p) (Some (resumed step pack pe e at.0, resume_entries step pack pe e at.0)) a s).1)))
 
   pub depart_event_makes : {A : Type 0} (p : ℕ) (pe : PeView C) (words : List ℕ) (b : BoardState A) (e : ℕ) (a : PeView C × List ℕ × List TraceEntry)
       → depart_event step pack p pe words b e ≡ Some a → Moved step pe a.0 a.2 None [] []
   depart_event_makes p pe words b e a h =
       option_and_then_some (λ (at : ℕ × ℕ). where_true (not (at.1 == p)) (Some (departed pack pe e at.1, slice_set words e at.1, Departed e ∷ []))) (due pe b e) a h
       (λ at d s.
-      let t : (departed pack pe e at.1, slice_set words e at.1, Departed e ∷ []) ≡ a = some_same (departed pack pe e at.1, slice_set words e at.1, Departed e ∷ []) a (where_some (not (at.1 == p)) (Some (departed pack pe e at.1, slice_set words e at.1, Departed e ∷ [])) a s).1 in
+      let t : (departed pack pe e at.1, slice_set words e at.1, Departed e ∷ []) ≡ a = some_same
+      (departed pack pe e at.1, slice_set words e at.1, Departed e ∷ []) a
+      (where_some (not (at.1 == p)) (Some (departed pack pe e at.1, slice_set words e at.1, Departed e ∷ [])) a s).1 in
       subst (λ (v : PeView C × List ℕ × List TraceEntry). Moved step pe v.0 v.2 None [] []) t (departed_moved step pack pe e at.1))
 
 module _ {C : Type 0} (step : Step C) where
@@ -87,7 +91,8 @@ module _ {C : Type 0} (step : Step C) where
 
   pub flush_event_makes : (pe : PeView C) (queues : List (List Parcel)) (a : PeView C × List (List Parcel)) → flush_event pe queues ≡ Some a → Flushes pe queues a
   flush_event_makes pe queues a h =
-      option_and_then_some (λ q. option_and_then (λ parcel. option_and_then (λ queue. Some (gave_up pe, slice_set queues q (queue ++ parcel ∷ []))) (slice_get queues q)) (front_parcel pe.outbox)) (front_address pe.outbox) a h
+      option_and_then_some (λ q. option_and_then (λ parcel. option_and_then
+      (λ queue. Some (gave_up pe, slice_set queues q (queue ++ parcel ∷ []))) (slice_get queues q)) (front_parcel pe.outbox)) (front_address pe.outbox) a h
       (λ q is r.
       option_and_then_some (λ parcel. option_and_then (λ queue. Some (gave_up pe, slice_set queues q (queue ++ parcel ∷ []))) (slice_get queues q)) (front_parcel pe.outbox) a r
       (λ parcel front s.
@@ -132,7 +137,8 @@ module _ {C : Type 0} (step : Step C) where
       option_and_then_some (λ note. option_and_then (λ after. Some (noted pe, after, note_entries note)) (board_after b note)) (slice_get pe.notes 0) a h
       (λ note is s.
       option_and_then_some (λ after. Some (noted pe, after, note_entries note)) (board_after b note) a s
-      (λ after at t. subst (λ (v : PeView C × BoardState A × List TraceEntry). Moved step pe v.0 v.2 None [] []) (some_same (noted pe, after, note_entries note) a t) (noted_moved step pe (note_entries note) (note_posts note) (note_executes note))))
+      (λ after at t. subst (λ (v : PeView C × BoardState A × List TraceEntry). Moved step pe v.0 v.2 None [] [])
+      (some_same (noted pe, after, note_entries note) a t) (noted_moved step pe (note_entries note) (note_posts note) (note_executes note))))
 
 -- ---- what each event does to what its PE sees
 
@@ -169,7 +175,8 @@ module _ {C A : Type 0} (step : Step C) (pack : C → List ℕ) (unpack : List �
       option_and_then_some (λ (after : PeView C × List Parcel). Some (after.0, slice_set d.queues p after.1)) (delivered d.pe queue) a s
       (λ after is t.
       let m = delivered_makes step d.pe queue after is in
-      subst (λ (v : PeView C × List (List Parcel)). Desks step d (record { pe = v.0; queues = v.1; words = d.words; board = d.board }, [])) (some_same (after.0, slice_set d.queues p after.1) a t)
+      subst (λ (v : PeView C × List (List Parcel)). Desks step d (record { pe = v.0; queues = v.1; words = d.words; board = d.board }, []))
+      (some_same (after.0, slice_set d.queues p after.1) a t)
       (record {
         work = None;
         came = m.parcel ∷ [];
@@ -187,15 +194,22 @@ module _ {C A : Type 0} (step : Step C) (pack : C → List ℕ) (unpack : List �
   flush_event_local a h = let m = flush_event_makes step d.pe d.queues a h in record { work = None; came = []; gone = m.parcel ∷ []; moved = m.moved; passes = m.passes }
 
   pub local_makes : (event : Event) (a : LocalView C A × List TraceEntry) → local_step step pack unpack event d ≡ Some a → Desks step d a
-  local_makes (Start p e) a h = then_local (start_event step pack d.pe e) (λ after. (record d { pe = after.0 }, after.1)) a h (λ after is. local after.0 d.words d.board after.1 (start_event_makes step pack d.pe e after is))
-  local_makes (Look p) a h = then_local (look_event d.pe d.words) (λ after. (record d { pe = after }, [])) a h (λ after is. local after d.words d.board [] (None, look_event_makes step d.pe d.words after is))
+  local_makes (Start p e) a h = then_local (start_event step pack d.pe e) (λ after. (record d { pe = after.0 }, after.1)) a h
+      (λ after is. local after.0 d.words d.board after.1 (start_event_makes step pack d.pe e after is))
+  local_makes (Look p) a h = then_local (look_event d.pe d.words) (λ after. (record d { pe = after }, [])) a h
+      (λ after is. local after d.words d.board [] (None, look_event_makes step d.pe d.words after is))
   local_makes (Flush p) a h = then_local (flush_event d.pe d.queues) (λ after. (record d { pe = after.0; queues = after.1 }, [])) a h (λ after is. flush_event_local after is)
   local_makes (Deliver p) a h = then_local (deliver_event d.pe d.queues p) (λ after. (record d { pe = after.0; queues = after.1 }, [])) a h (λ after is. delivered_local p after is)
-  local_makes (Act p) a h = then_local (act_event step pack unpack d.pe) (λ after. (record d { pe = after.0 }, after.1)) a h (λ after is. local after.0 d.words d.board after.1 (act_event_makes after is))
-  local_makes (Report p) a h = then_local (report_event d.pe d.board) (λ after. (record d { pe = after.0; board = after.1 }, after.2)) a h (λ after is. local after.0 d.words after.1 after.2 (None, report_event_makes step d.pe d.board after is))
+  local_makes (Act p) a h = then_local (act_event step pack unpack d.pe) (λ after. (record d { pe = after.0 }, after.1)) a h
+      (λ after is. local after.0 d.words d.board after.1 (act_event_makes after is))
+  local_makes (Report p) a h = then_local (report_event d.pe d.board) (λ after. (record d { pe = after.0; board = after.1 }, after.2)) a h
+      (λ after is. local after.0 d.words after.1 after.2 (None, report_event_makes step d.pe d.board after is))
   local_makes Decide a h = cc
-  local_makes (Depart p e) a h = then_local (depart_event step pack p d.pe d.words d.board e) (λ after. (record d { pe = after.0; words = after.1 }, after.2)) a h (λ after is. local after.0 after.1 d.board after.2 (None, depart_event_makes step pack p d.pe d.words d.board e after is))
-  local_makes (Resume p e) a h = then_local (resume_event step pack p d.pe d.board e) (λ after. (record d { pe = after.0 }, after.1)) a h (λ after is. local after.0 d.words d.board after.1 (resume_event_makes step pack p d.pe d.board e after is))
+  local_makes (Depart p e) a h = then_local (depart_event step pack p d.pe d.words d.board e)
+      (λ after. (record d { pe = after.0; words = after.1 }, after.2)) a h
+      (λ after is. local after.0 after.1 d.board after.2 (None, depart_event_makes step pack p d.pe d.words d.board e after is))
+  local_makes (Resume p e) a h = then_local (resume_event step pack p d.pe d.board e) (λ after. (record d { pe = after.0 }, after.1)) a h
+      (λ after is. local after.0 d.words d.board after.1 (resume_event_makes step pack p d.pe d.board e after is))
 
 -- ---- what each event does to the world
 

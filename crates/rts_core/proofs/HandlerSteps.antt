@@ -27,8 +27,10 @@ pub box_gains : (g : Weight) (k : Life → ℕ) (me count : ℕ) (ss : List (ℕ
 box_gains g k me count [] = refl
 box_gains g k me count (s ∷ ss) =
     let item : Item = record { parcel = Letter (letter_to me count s.0 s.1); address = None } in
-    let a : sum_by (of_item g k) (item ∷ letters_of me (count + 1) ss) ≡ of_item g k item + sum_by (of_item g k) (letters_of me (count + 1) ss) = sum_by-cons (of_item g k) item (letters_of me (count + 1) ss) in
-    let b : sum_by (weigh g) (letter_to me count s.0 s.1 ∷ numbered me (count + 1) ss) ≡ weigh g (letter_to me count s.0 s.1) + sum_by (weigh g) (numbered me (count + 1) ss) = sum_by-cons (weigh g) (letter_to me count s.0 s.1) (numbered me (count + 1) ss) in
+    let a : sum_by (of_item g k) (item ∷ letters_of me (count + 1) ss) ≡ of_item g k item + sum_by (of_item g k)
+    (letters_of me (count + 1) ss) = sum_by-cons (of_item g k) item (letters_of me (count + 1) ss) in
+    let b : sum_by (weigh g) (letter_to me count s.0 s.1 ∷ numbered me (count + 1) ss) ≡ weigh g (letter_to me count s.0 s.1) + sum_by
+    (weigh g) (numbered me (count + 1) ss) = sum_by-cons (weigh g) (letter_to me count s.0 s.1) (numbered me (count + 1) ss) in
     let ih = box_gains g k me (count + 1) ss in
     omega (arith, a, b, ih)
 
@@ -36,8 +38,10 @@ pub posts_told : (r : Said → ℕ) (me count : ℕ) (ss : List (ℕ × List ℕ
 posts_told r me count [] = refl
 posts_told r me count (s ∷ ss) =
     let l : LetterView = letter_to me count s.0 s.1 in
-    let a : sum_by r ((l.id, l.to) ∷ posts (posts_of me (count + 1) ss)) ≡ r (l.id, l.to) + sum_by r (posts (posts_of me (count + 1) ss)) = sum_by-cons r (l.id, l.to) (posts (posts_of me (count + 1) ss)) in
-    let b : sum_by (λ x. r (x.id, x.to)) (l ∷ numbered me (count + 1) ss) ≡ r (l.id, l.to) + sum_by (λ x. r (x.id, x.to)) (numbered me (count + 1) ss) = sum_by-cons (λ x. r (x.id, x.to)) l (numbered me (count + 1) ss) in
+    let a : sum_by r ((l.id, l.to) ∷ posts (posts_of me (count + 1) ss)) ≡ r (l.id, l.to) + sum_by r
+    (posts (posts_of me (count + 1) ss)) = sum_by-cons r (l.id, l.to) (posts (posts_of me (count + 1) ss)) in
+    let b : sum_by (λ x. r (x.id, x.to)) (l ∷ numbered me (count + 1) ss) ≡ r (l.id, l.to) + sum_by (λ x. r (x.id, x.to))
+    (numbered me (count + 1) ss) = sum_by-cons (λ x. r (x.id, x.to)) l (numbered me (count + 1) ss) in
     let ih = posts_told r me (count + 1) ss in
     omega (arith, a, b, ih)
 
@@ -53,9 +57,11 @@ module _ {C : Type 0} (step : Step C) (pack : C → List ℕ) where
       ≡ of_pe g k pe + (sum_by (weigh g) (numbered pe.me pe.count (outcome_of step pack el pe.n done).sends) + (k (el.index, el.journal ++ done ∷ []) + 0))
   handled_weighs g k pe e done hand el h hands =
       let ss : List (ℕ × List ℕ) = (outcome_of step pack el pe.n done).sends in
-      let a : sum_by (of_item g k) (pe.outbox ++ letters_of pe.me pe.count ss) ≡ sum_by (of_item g k) pe.outbox + sum_by (of_item g k) (letters_of pe.me pe.count ss) = sum_by-append (of_item g k) pe.outbox (letters_of pe.me pe.count ss) in
+      let a : sum_by (of_item g k) (pe.outbox ++ letters_of pe.me pe.count ss) ≡ sum_by (of_item g k) pe.outbox + sum_by (of_item g k)
+      (letters_of pe.me pe.count ss) = sum_by-append (of_item g k) pe.outbox (letters_of pe.me pe.count ss) in
       let b : sum_by (of_item g k) (letters_of pe.me pe.count ss) ≡ sum_by (weigh g) (numbered pe.me pe.count ss) = box_gains g k pe.me pe.count ss in
-      let c : of_room g k (changed e (ran step pack el pe.n pe.me done) pe.room) + k (life_of el) ≡ of_room g k pe.room + k (el.index, el.journal ++ done ∷ []) = sum_by-set_value (of_element g k) (is_at (nat_cmp e)) pe.room el (ran step pack el pe.n pe.me done) h in
+      let c : of_room g k (changed e (ran step pack el pe.n pe.me done) pe.room) + k (life_of el) ≡ of_room g k pe.room + k
+      (el.index, el.journal ++ done ∷ []) = sum_by-set_value (of_element g k) (is_at (nat_cmp e)) pe.room el (ran step pack el pe.n pe.me done) h in
       rw h (omega (arith, a, b, c, hands))
 
   pub handled_moved : (pe : PeView C) (e : ℕ) (done : Done) (hand : Option Item) (el : ElementView C) (first : TraceEntry)
@@ -74,9 +80,11 @@ module _ {C : Type 0} (step : Step C) (pack : C → List ℕ) where
             let p : posts (first ∷ posts_of pe.me pe.count ss) ≡ posts (first ∷ []) ++ posts (posts_of pe.me pe.count ss) = cases_posts first (posts_of pe.me pe.count ss) in
             rw h (rw (p, no_post) (posts_told r pe.me pe.count ss));
         tells_executions = λ r.
-            let p : executions (first ∷ posts_of pe.me pe.count ss) ≡ executions (first ∷ []) ++ executions (posts_of pe.me pe.count ss) = cases_executions first (posts_of pe.me pe.count ss) in
+            let p : executions (first ∷ posts_of pe.me pe.count ss) ≡ executions (first ∷ [])
+            ++ executions (posts_of pe.me pe.count ss) = cases_executions first (posts_of pe.me pe.count ss) in
             let n : executions (posts_of pe.me pe.count ss) ≡ [] = posts_execute_nothing pe.me pe.count ss in
-            let a : sum_by r (map (λ l. (l.id, l.to)) (letters_of_entry done) ++ []) ≡ sum_by r (map (λ l. (l.id, l.to)) (letters_of_entry done)) + sum_by r [] = sum_by-append r (map (λ l. (l.id, l.to)) (letters_of_entry done)) [] in
+            let a : sum_by r (map (λ l. (l.id, l.to)) (letters_of_entry done) ++ []) ≡ sum_by r
+            (map (λ l. (l.id, l.to)) (letters_of_entry done)) + sum_by r [] = sum_by-append r (map (λ l. (l.id, l.to)) (letters_of_entry done)) [] in
             let b = sum_by-map r (λ (l : LetterView). (l.id, l.to)) (letters_of_entry done) in
             rw h (rw (p, execution, n) (omega (arith, a, b)));
         same_me = refl;
@@ -115,11 +123,13 @@ module _ {C : Type 0} (step : Step C) (pack : C → List ℕ) where
   pub departed_weighs : (g : Weight) (k : Life → ℕ) (pe : PeView C) (e q : ℕ) (o : Option (ElementView C)) → found e pe.room ≡ o
       → of_room g k (without e pe.room) + sum_by (of_item g k) (option_to_list (option_map (element_at q) (option_map (packed pack) o))) ≡ of_room g k pe.room
   departed_weighs g k pe e q None h =
-      let a : of_room g k (without e pe.room) + unwrap_or (option_map (of_element g k) (found e pe.room)) 0 ≡ of_room g k pe.room = sum_by-remove_entry (of_element g k) (is_at (nat_cmp e)) pe.room in
+      let a : of_room g k (without e pe.room) + unwrap_or (option_map (of_element g k) (found e pe.room)) 0 ≡ of_room g k
+      pe.room = sum_by-remove_entry (of_element g k) (is_at (nat_cmp e)) pe.room in
       let b : unwrap_or (option_map (of_element g k) (found e pe.room)) 0 ≡ 0 = rw h refl in
       omega (arith, a, b)
   departed_weighs g k pe e q (Some el) h =
-      let a : of_room g k (without e pe.room) + unwrap_or (option_map (of_element g k) (found e pe.room)) 0 ≡ of_room g k pe.room = sum_by-remove_entry (of_element g k) (is_at (nat_cmp e)) pe.room in
+      let a : of_room g k (without e pe.room) + unwrap_or (option_map (of_element g k) (found e pe.room)) 0 ≡ of_room g k
+      pe.room = sum_by-remove_entry (of_element g k) (is_at (nat_cmp e)) pe.room in
       let b : unwrap_or (option_map (of_element g k) (found e pe.room)) 0 ≡ k (life_of el) = rw h refl in
       let c : sum_by (of_item g k) (element_at q (packed pack el) ∷ []) ≡ k (life_of el) + 0 = sum_by-cons (of_item g k) (element_at q (packed pack el)) [] in
       omega (arith, a, b, c)

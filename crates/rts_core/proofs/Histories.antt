@@ -111,18 +111,27 @@ module _ {C : Type 0} (step : Step C) (fits : C → Type 0) (pack : C → List �
     where
       by_queue : (q : ℕ) (parcel : Parcel) (o : Option (List Parcel)) → IsParcelHistory step fits pack opened parcel
           → IfSome o (All (IsParcelHistory step fits pack opened))
-          → IfSome (option_and_then (λ (queue : List Parcel). Some (gave_up pe, slice_set queues q (queue ++ parcel ∷ []))) o) (λ (after : PeView C × List (List Parcel)). HasHistories step fits pack opened after.0 × All (All (IsParcelHistory step fits pack opened)) after.1)
+          → IfSome (option_and_then (λ (queue : List Parcel). Some (gave_up pe, slice_set queues q (queue ++ parcel ∷ []))) o)
+          (λ (after : PeView C × List (List Parcel)). HasHistories step fits pack opened after.0 × All (All (IsParcelHistory step fits pack opened)) after.1)
       by_queue q parcel None p all = tt
-      by_queue q parcel (Some queue) p all =
-          (gave_up_holds step fits pack opened pe h, All-set (All (IsParcelHistory step fits pack opened)) queues q (queue ++ parcel ∷ []) (All-push (IsParcelHistory step fits pack opened) queue parcel all p) k)
+      by_queue q parcel (Some queue) p all = (
+        gave_up_holds step fits pack opened pe h,
+        All-set (All (IsParcelHistory step fits pack opened)) queues q (queue ++ parcel ∷ [])
+            (All-push (IsParcelHistory step fits pack opened) queue parcel all p) k,
+      )
 
       by_parcel : (q : ℕ) (o : Option Parcel) → IfSome o (IsParcelHistory step fits pack opened)
-          → IfSome (option_and_then (λ (parcel : Parcel). option_and_then (λ (queue : List Parcel). Some (gave_up pe, slice_set queues q (queue ++ parcel ∷ []))) (slice_get queues q)) o) (λ (after : PeView C × List (List Parcel)). HasHistories step fits pack opened after.0 × All (All (IsParcelHistory step fits pack opened)) after.1)
+          → IfSome (option_and_then (λ (parcel : Parcel). option_and_then
+          (λ (queue : List Parcel). Some (gave_up pe, slice_set queues q (queue ++ parcel ∷ []))) (slice_get queues q)) o)
+          (λ (after : PeView C × List (List Parcel)). HasHistories step fits pack opened after.0 × All (All (IsParcelHistory step fits pack opened)) after.1)
       by_parcel q None p = tt
       by_parcel q (Some parcel) p = by_queue q parcel (slice_get queues q) p (one_of_all (All (IsParcelHistory step fits pack opened)) queues q k)
 
       by_address : (o : Option ℕ)
-          → IfSome (option_and_then (λ (q : ℕ). option_and_then (λ (parcel : Parcel). option_and_then (λ (queue : List Parcel). Some (gave_up pe, slice_set queues q (queue ++ parcel ∷ []))) (slice_get queues q)) (front_parcel pe.outbox)) o) (λ (after : PeView C × List (List Parcel)). HasHistories step fits pack opened after.0 × All (All (IsParcelHistory step fits pack opened)) after.1)
+          → IfSome (option_and_then (λ (q : ℕ). option_and_then
+          (λ (parcel : Parcel). option_and_then (λ (queue : List Parcel). Some (gave_up pe, slice_set queues q (queue ++ parcel ∷ [])))
+          (slice_get queues q)) (front_parcel pe.outbox)) o)
+          (λ (after : PeView C × List (List Parcel)). HasHistories step fits pack opened after.0 × All (All (IsParcelHistory step fits pack opened)) after.1)
       by_address None = tt
       by_address (Some q) = by_parcel q (front_parcel pe.outbox) (front_holds step fits pack opened pe.outbox h.outbox)
 
@@ -133,10 +142,14 @@ module _ {C : Type 0} (step : Step C) (fits : C → Type 0) (pack : C → List �
   delivered_holds pe queue h k = by queue (is_none pe.hand) k
     where
       by : (queue : List Parcel) (b : Bool) → All (IsParcelHistory step fits pack opened) queue
-          → IfSome (option_and_then (λ (front : Parcel × List Parcel). Some (received pe front.0, front.1)) (where_true b (front_of queue))) (λ (after : PeView C × List Parcel). HasHistories step fits pack opened after.0 × All (IsParcelHistory step fits pack opened) after.1)
+          → IfSome (option_and_then (λ (front : Parcel × List Parcel). Some (received pe front.0, front.1)) (where_true b (front_of queue)))
+          (λ (after : PeView C × List Parcel). HasHistories step fits pack opened after.0 × All (IsParcelHistory step fits pack opened) after.1)
       by queue false all = tt
       by [] true all = tt
-      by (x ∷ xs) true all = (received_holds step fits pack opened pe x h (All-head (IsParcelHistory step fits pack opened) x xs all), All-tail (IsParcelHistory step fits pack opened) x xs all)
+      by (x ∷ xs) true all = (
+        received_holds step fits pack opened pe x h (All-head (IsParcelHistory step fits pack opened) x xs all),
+        All-tail (IsParcelHistory step fits pack opened) x xs all,
+      )
 
   pub deliver_event_holds : (pe : PeView C) (queues : List (List Parcel)) (p : ℕ) → HasHistories step fits pack opened pe
       → All (All (IsParcelHistory step fits pack opened)) queues
@@ -145,12 +158,15 @@ module _ {C : Type 0} (step : Step C) (fits : C → Type 0) (pack : C → List �
     where
       by_delivered : (o : Option (PeView C × List Parcel))
           → IfSome o (λ after. HasHistories step fits pack opened after.0 × All (IsParcelHistory step fits pack opened) after.1)
-          → IfSome (option_and_then (λ (after : PeView C × List Parcel). Some (after.0, slice_set queues p after.1)) o) (λ (after : PeView C × List (List Parcel)). HasHistories step fits pack opened after.0 × All (All (IsParcelHistory step fits pack opened)) after.1)
+          → IfSome (option_and_then (λ (after : PeView C × List Parcel). Some (after.0, slice_set queues p after.1)) o)
+          (λ (after : PeView C × List (List Parcel)). HasHistories step fits pack opened after.0 × All (All (IsParcelHistory step fits pack opened)) after.1)
       by_delivered None d = tt
       by_delivered (Some after) d = (d.0, All-set (All (IsParcelHistory step fits pack opened)) queues p after.1 d.1 k)
 
       by_queue : (o : Option (List Parcel)) → IfSome o (All (IsParcelHistory step fits pack opened))
-          → IfSome (option_and_then (λ (queue : List Parcel). option_and_then (λ (after : PeView C × List Parcel). Some (after.0, slice_set queues p after.1)) (delivered pe queue)) o) (λ (after : PeView C × List (List Parcel)). HasHistories step fits pack opened after.0 × All (All (IsParcelHistory step fits pack opened)) after.1)
+          → IfSome (option_and_then (λ (queue : List Parcel). option_and_then
+          (λ (after : PeView C × List Parcel). Some (after.0, slice_set queues p after.1)) (delivered pe queue)) o)
+          (λ (after : PeView C × List (List Parcel)). HasHistories step fits pack opened after.0 × All (All (IsParcelHistory step fits pack opened)) after.1)
       by_queue None all = tt
       by_queue (Some queue) all = by_delivered (delivered pe queue) (delivered_holds pe queue h all)
 
@@ -169,7 +185,8 @@ module _ {C : Type 0} (step : Step C) (fits : C → Type 0) (pack : C → List �
 -- the board keeps its elements and its PEs, whatever note it takes
 pub board_after_kept : {A : Type 0} (b : BoardState A) (note : Note) → IfSome (board_after b note) (λ after. (elements after.database ≡ elements b.database) × (after.pes ≡ b.pes))
 board_after_kept {A} b (Sync e round units bytes pe) =
-    where_holds (λ (after : BoardState A). (elements after.database ≡ elements b.database) × (after.pes ≡ b.pes)) _ (after_report b e units bytes pe) (length-set {A = ℕ} b.database.loads e _, refl)
+    where_holds (λ (after : BoardState A). (elements after.database ≡ elements b.database) × (after.pes ≡ b.pes)) _
+    (after_report b e units bytes pe) (length-set {A = ℕ} b.database.loads e _, refl)
 board_after_kept {A} b (Finish e) =
     where_holds (λ (after : BoardState A). (elements after.database ≡ elements b.database) × (after.pes ≡ b.pes)) _ (after_finish b e) (refl, refl)
 
@@ -197,19 +214,24 @@ module _ {C : Type 0} (step : Step C) (fits : C → Type 0) (pack : C → List �
       → (pe', queues') ≡ or_same (pe, queues) o → HasHistories step fits pack opened pe' × All (All (IsParcelHistory step fits pack opened)) queues'
   queues_kept pe pe' queues queues' o h parcels k ok =
       subst (λ (x : PeView C × List (List Parcel)). HasHistories step fits pack opened x.0 × All (All (IsParcelHistory step fits pack opened)) x.1) (sym ok)
-      (or_same_holds (λ (x : PeView C × List (List Parcel)). HasHistories step fits pack opened x.0 × All (All (IsParcelHistory step fits pack opened)) x.1) (pe, queues) o (h, parcels) k)
+      (or_same_holds (λ (x : PeView C × List (List Parcel)). HasHistories step fits pack opened x.0
+      × All (All (IsParcelHistory step fits pack opened)) x.1) (pe, queues) o (h, parcels) k)
 
   report_event_holds : {A : Type 0} (pe : PeView C) (b : BoardState A) → HasHistories step fits pack opened pe
       → IfSome (report_event pe b) (λ after. HasHistories step fits pack opened after.0 × (elements after.1.database ≡ elements b.database) × (after.1.pes ≡ b.pes))
   report_event_holds {A} pe b h = by_note (slice_get pe.notes 0)
     where
       by_board : (note : Note) (o : Option (BoardState A)) → IfSome o (λ after. (elements after.database ≡ elements b.database) × (after.pes ≡ b.pes))
-          → IfSome (option_and_then (λ (after : BoardState A). Some (noted pe, after, note_entries note)) o) (λ (after : PeView C × BoardState A × List TraceEntry). HasHistories step fits pack opened after.0 × (elements after.1.database ≡ elements b.database) × (after.1.pes ≡ b.pes))
+          → IfSome (option_and_then (λ (after : BoardState A). Some (noted pe, after, note_entries note)) o)
+          (λ (after : PeView C × BoardState A × List TraceEntry). HasHistories step fits pack opened after.0
+          × (elements after.1.database ≡ elements b.database) × (after.1.pes ≡ b.pes))
       by_board note None k = tt
       by_board note (Some after) k = (noted_holds step fits pack opened pe h, k.0, k.1)
 
       by_note : (o : Option Note)
-          → IfSome (option_and_then (λ (note : Note). option_and_then (λ (after : BoardState A). Some (noted pe, after, note_entries note)) (board_after b note)) o) (λ (after : PeView C × BoardState A × List TraceEntry). HasHistories step fits pack opened after.0 × (elements after.1.database ≡ elements b.database) × (after.1.pes ≡ b.pes))
+          → IfSome (option_and_then (λ (note : Note). option_and_then (λ (after : BoardState A). Some (noted pe, after, note_entries note))
+          (board_after b note)) o) (λ (after : PeView C × BoardState A × List TraceEntry). HasHistories step fits pack opened after.0
+          × (elements after.1.database ≡ elements b.database) × (after.1.pes ≡ b.pes))
       by_note None = tt
       by_note (Some note) = by_board note (board_after b note) (board_after_kept b note)
 
@@ -218,7 +240,8 @@ module _ {C : Type 0} (step : Step C) (fits : C → Type 0) (pack : C → List �
       → HasHistories step fits pack opened pe' × (elements b'.database ≡ elements b.database) × (b'.pes ≡ b.pes)
   board_kept {A} pe pe' b b' reports h ok =
       subst (λ (x : PeView C × BoardState A × List TraceEntry). HasHistories step fits pack opened x.0 × (elements x.1.database ≡ elements b.database) × (x.1.pes ≡ b.pes)) (sym ok)
-      (or_same_holds (λ (x : PeView C × BoardState A × List TraceEntry). HasHistories step fits pack opened x.0 × (elements x.1.database ≡ elements b.database) × (x.1.pes ≡ b.pes)) (pe, b, []) (report_event pe b) (h, refl, refl) (report_event_holds pe b h))
+      (or_same_holds (λ (x : PeView C × BoardState A × List TraceEntry). HasHistories step fits pack opened x.0
+      × (elements x.1.database ≡ elements b.database) × (x.1.pes ≡ b.pes)) (pe, b, []) (report_event pe b) (h, refl, refl) (report_event_holds pe b h))
 
   -- Depart
   pub depart_event_holds : {A : Type 0} (p : ℕ) (pe : PeView C) (words : List ℕ) (b : BoardState A) (e : ℕ) → HasHistories step fits pack opened pe

@@ -47,10 +47,14 @@ hand_list g k (Some x) = omega (arith, sum_by-cons (of_item g k) x [])
 pub pe_letters : {C : Type 0} (g : Weight) (pe : PeView C) → sum_by (weigh g) (letters_at pe) ≡ of_pe g no_life pe
 pe_letters g pe =
     let items : List Item = option_to_list pe.hand ++ pe.outbox in
-    let a : sum_by (weigh g) (letters_at pe) ≡ sum_by (weigh g) (flat_map (λ x. letters_in x.parcel) items) + sum_by (weigh g) pe.shelf = sum_by-append (weigh g) (flat_map (λ x. letters_in x.parcel) items) pe.shelf in
-    let b : sum_by (weigh g) (flat_map (λ x. letters_in x.parcel) items) ≡ sum_by (λ x. sum_by (weigh g) (letters_in x.parcel)) items = sum_by-flat_map (weigh g) (λ (x : Item). letters_in x.parcel) items in
-    let c : sum_by (λ x. sum_by (weigh g) (letters_in x.parcel)) items ≡ sum_by (of_item g no_life) items = sum_by-same (λ (x : Item). sum_by (weigh g) (letters_in x.parcel)) (of_item g no_life) (λ x. parcel_letters g x.parcel) items in
-    let d : sum_by (of_item g no_life) items ≡ sum_by (of_item g no_life) (option_to_list pe.hand) + sum_by (of_item g no_life) pe.outbox = sum_by-append (of_item g no_life) (option_to_list pe.hand) pe.outbox in
+    let a : sum_by (weigh g) (letters_at pe) ≡ sum_by (weigh g) (flat_map (λ x. letters_in x.parcel) items) + sum_by (weigh g)
+    pe.shelf = sum_by-append (weigh g) (flat_map (λ x. letters_in x.parcel) items) pe.shelf in
+    let b : sum_by (weigh g) (flat_map (λ x. letters_in x.parcel) items) ≡ sum_by (λ x. sum_by (weigh g) (letters_in x.parcel))
+    items = sum_by-flat_map (weigh g) (λ (x : Item). letters_in x.parcel) items in
+    let c : sum_by (λ x. sum_by (weigh g) (letters_in x.parcel)) items ≡ sum_by (of_item g no_life) items = sum_by-same
+    (λ (x : Item). sum_by (weigh g) (letters_in x.parcel)) (of_item g no_life) (λ x. parcel_letters g x.parcel) items in
+    let d : sum_by (of_item g no_life) items ≡ sum_by (of_item g no_life) (option_to_list pe.hand) + sum_by (of_item g no_life)
+    pe.outbox = sum_by-append (of_item g no_life) (option_to_list pe.hand) pe.outbox in
     let e = hand_list g no_life pe.hand in
     let f : of_room g no_life pe.room ≡ 0 = sum_zero (values_of pe.room) in
     omega (arith, a, b, c, d, e, f)
@@ -61,8 +65,10 @@ pe_lives {C} k pe =
     let here : List Life = map life_of (values_of pe.room) in
     let a : sum_by k (lives_at pe) ≡ sum_by k (flat_map (λ x. lives_in x.parcel) items) + sum_by k here = sum_by-append k (flat_map (λ x. lives_in x.parcel) items) here in
     let b : sum_by k (flat_map (λ x. lives_in x.parcel) items) ≡ sum_by (λ x. sum_by k (lives_in x.parcel)) items = sum_by-flat_map k (λ (x : Item). lives_in x.parcel) items in
-    let c : sum_by (λ x. sum_by k (lives_in x.parcel)) items ≡ sum_by (of_item no_letter k) items = sum_by-same (λ (x : Item). sum_by k (lives_in x.parcel)) (of_item no_letter k) (λ x. parcel_lives k x.parcel) items in
-    let d : sum_by (of_item no_letter k) items ≡ sum_by (of_item no_letter k) (option_to_list pe.hand) + sum_by (of_item no_letter k) pe.outbox = sum_by-append (of_item no_letter k) (option_to_list pe.hand) pe.outbox in
+    let c : sum_by (λ x. sum_by k (lives_in x.parcel)) items ≡ sum_by (of_item no_letter k) items = sum_by-same
+    (λ (x : Item). sum_by k (lives_in x.parcel)) (of_item no_letter k) (λ x. parcel_lives k x.parcel) items in
+    let d : sum_by (of_item no_letter k) items ≡ sum_by (of_item no_letter k) (option_to_list pe.hand) + sum_by (of_item no_letter k)
+    pe.outbox = sum_by-append (of_item no_letter k) (option_to_list pe.hand) pe.outbox in
     let e = hand_list no_letter k pe.hand in
     let f : sum_by (weigh no_letter) pe.shelf ≡ 0 = sum_zero pe.shelf in
     let m : sum_by k here ≡ of_room no_letter k pe.room = sum_by-map k (λ (el : ElementView C). life_of el) (values_of pe.room) in
@@ -76,16 +82,22 @@ queue_lives k queue = sum_by-flat_map k lives_in queue ∙ sum_by-same (λ x. su
 
 pub world_letters : {C A : Type 0} (g : Weight) (w : WorldView C A) → sum_by (weigh g) (letters w) ≡ of_world g no_life w
 world_letters {C} g w =
-    let a : sum_by (weigh g) (letters w) ≡ sum_by (weigh g) (flat_map letters_at w.pes) + sum_by (weigh g) (flat_map (flat_map letters_in) w.queues) = sum_by-append (weigh g) (flat_map letters_at w.pes) (flat_map (flat_map letters_in) w.queues) in
-    let b : sum_by (weigh g) (flat_map letters_at w.pes) ≡ sum_by (of_pe g no_life) w.pes = sum_by-flat_map (weigh g) (λ (pe : PeView C). letters_at pe) w.pes ∙ sum_by-same (λ (pe : PeView C). sum_by (weigh g) (letters_at pe)) (of_pe g no_life) (pe_letters g) w.pes in
-    let c : sum_by (weigh g) (flat_map (flat_map letters_in) w.queues) ≡ sum_by (of_queue g no_life) w.queues = sum_by-flat_map (weigh g) (flat_map letters_in) w.queues ∙ sum_by-same (λ q. sum_by (weigh g) (flat_map letters_in q)) (of_queue g no_life) (queue_letters g) w.queues in
+    let a : sum_by (weigh g) (letters w) ≡ sum_by (weigh g) (flat_map letters_at w.pes) + sum_by (weigh g)
+    (flat_map (flat_map letters_in) w.queues) = sum_by-append (weigh g) (flat_map letters_at w.pes) (flat_map (flat_map letters_in) w.queues) in
+    let b : sum_by (weigh g) (flat_map letters_at w.pes) ≡ sum_by (of_pe g no_life) w.pes = sum_by-flat_map (weigh g)
+    (λ (pe : PeView C). letters_at pe) w.pes ∙ sum_by-same (λ (pe : PeView C). sum_by (weigh g) (letters_at pe)) (of_pe g no_life) (pe_letters g) w.pes in
+    let c : sum_by (weigh g) (flat_map (flat_map letters_in) w.queues) ≡ sum_by (of_queue g no_life) w.queues = sum_by-flat_map (weigh g)
+    (flat_map letters_in) w.queues ∙ sum_by-same (λ q. sum_by (weigh g) (flat_map letters_in q)) (of_queue g no_life) (queue_letters g) w.queues in
     omega (arith, a, b, c)
 
 pub world_lives : {C A : Type 0} (k : Life → ℕ) (w : WorldView C A) → sum_by k (lives w) ≡ of_world no_letter k w
 world_lives {C} k w =
-    let a : sum_by k (lives w) ≡ sum_by k (flat_map lives_at w.pes) + sum_by k (flat_map (flat_map lives_in) w.queues) = sum_by-append k (flat_map lives_at w.pes) (flat_map (flat_map lives_in) w.queues) in
-    let b : sum_by k (flat_map lives_at w.pes) ≡ sum_by (of_pe no_letter k) w.pes = sum_by-flat_map k (λ (pe : PeView C). lives_at pe) w.pes ∙ sum_by-same (λ (pe : PeView C). sum_by k (lives_at pe)) (of_pe no_letter k) (pe_lives k) w.pes in
-    let c : sum_by k (flat_map (flat_map lives_in) w.queues) ≡ sum_by (of_queue no_letter k) w.queues = sum_by-flat_map k (flat_map lives_in) w.queues ∙ sum_by-same (λ q. sum_by k (flat_map lives_in q)) (of_queue no_letter k) (queue_lives k) w.queues in
+    let a : sum_by k (lives w) ≡ sum_by k (flat_map lives_at w.pes) + sum_by k (flat_map (flat_map lives_in) w.queues) = sum_by-append k
+    (flat_map lives_at w.pes) (flat_map (flat_map lives_in) w.queues) in
+    let b : sum_by k (flat_map lives_at w.pes) ≡ sum_by (of_pe no_letter k) w.pes = sum_by-flat_map k (λ (pe : PeView C). lives_at pe) w.pes
+    ∙ sum_by-same (λ (pe : PeView C). sum_by k (lives_at pe)) (of_pe no_letter k) (pe_lives k) w.pes in
+    let c : sum_by k (flat_map (flat_map lives_in) w.queues) ≡ sum_by (of_queue no_letter k) w.queues = sum_by-flat_map k
+    (flat_map lives_in) w.queues ∙ sum_by-same (λ q. sum_by k (flat_map lives_in q)) (of_queue no_letter k) (queue_lives k) w.queues in
     omega (arith, a, b, c)
 
 -- the letters in journals weigh what the journals do

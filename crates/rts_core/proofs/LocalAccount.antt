@@ -36,7 +36,8 @@ pub lives_joined : (k : Life → ℕ) (xs ys : List Parcel) → sum_by k (flat_m
 lives_joined k xs ys = ap (sum_by k) (flat_map-append lives_in xs ys) ∙ sum_by-append k (flat_map lives_in xs) (flat_map lives_in ys)
 
 pub sends_joined : {C : Type 0} (step : Step C) (opened : List C) (w : ℕ × List ℕ → ℕ) (xs ys : List Parcel)
-    → sum_by w (flat_map (sends_of step opened) (flat_map lives_in (xs ++ ys))) ≡ sum_by w (flat_map (sends_of step opened) (flat_map lives_in xs)) + sum_by w (flat_map (sends_of step opened) (flat_map lives_in ys))
+    → sum_by w (flat_map (sends_of step opened) (flat_map lives_in (xs ++ ys))) ≡ sum_by w
+    (flat_map (sends_of step opened) (flat_map lives_in xs)) + sum_by w (flat_map (sends_of step opened) (flat_map lives_in ys))
 sends_joined step opened w xs ys =
     ap (λ (v : List Life). sum_by w (flat_map (sends_of step opened) v)) (flat_map-append lives_in xs ys)
     ∙ (ap (sum_by w) (flat_map-append (sends_of step opened) (flat_map lives_in xs) (flat_map lives_in ys))
@@ -47,7 +48,8 @@ steady_work : {C : Type 0} (k : Life → ℕ) → IsSteady k → (pe : PeView C)
     → IfSome work (λ x. (e : ℕ) × (found e pe.room ≡ Some x.0) × All (λ l. l.to ≡ e) (letters_of_entry x.1)) → after k work ≡ before k work
 steady_work k steady pe keyed None stood = refl
 steady_work {C} k steady pe keyed (Some x) stood =
-    let here : IfSome (Some x.0) (λ (el : ElementView C). el.index ≡ stood.0) = subst (λ (o : Option (ElementView C)). IfSome o (λ el. el.index ≡ stood.0)) stood.1 (keyed stood.0) in
+    let here : IfSome (Some x.0) (λ (el : ElementView C). el.index ≡ stood.0) = subst
+    (λ (o : Option (ElementView C)). IfSome o (λ el. el.index ≡ stood.0)) stood.1 (keyed stood.0) in
     steady x.0.index x.0.journal x.1 (subst (λ (v : ℕ). All (λ (l : LetterView). l.to ≡ v) (letters_of_entry x.1)) (sym here) stood.2)
 
 module _ {C : Type 0} (step : Step C) (fits : C → Type 0) (pack : C → List ℕ) (opened : List C) (start : PeView C) where
@@ -60,7 +62,8 @@ module _ {C : Type 0} (step : Step C) (fits : C → Type 0) (pack : C → List �
       subst (λ (o : Option (ElementView C)). IfSome o (IsHistory step pack opened)) stood.1 all
 
   local_step : (pe pe' : PeView C) (came gone : List Parcel) (sends : List (ℕ × List ℕ)) (ledger : Ledger)
-      → IsStep step pe pe' came gone sends → HasHistories step fits pack opened pe → IsKeyed pe.room → IsLocalAccount step opened start pe ledger → IsLocalAccount step opened start pe' (entered_in ledger came gone (posted_as pe.me pe.count sends))
+      → IsStep step pe pe' came gone sends → HasHistories step fits pack opened pe → IsKeyed pe.room
+      → IsLocalAccount step opened start pe ledger → IsLocalAccount step opened start pe' (entered_in ledger came gone (posted_as pe.me pe.count sends))
   local_step pe pe' came gone sends ledger s h keyed l =
       subst (λ (v : List LetterView). IsLocalAccount step opened start pe' (entered_in ledger came gone v)) (step_posts step pe pe' came gone sends s)
       (record {
@@ -84,7 +87,9 @@ module _ {C : Type 0} (step : Step C) (fits : C → Type 0) (pack : C → List �
             let b = l.sent w in
             let i = sends_joined step opened w ledger.came came in
             let j = sends_joined step opened w ledger.gone gone in
-            let p : sum_by (λ l. w (message l)) (ledger.posted ++ posted step pe s.work) ≡ sum_by (λ l. w (message l)) ledger.posted + sum_by (λ l. w (message l)) (posted step pe s.work) = sum_by-append (λ (l : LetterView). w (message l)) ledger.posted (posted step pe s.work) in
+            let p : sum_by (λ l. w (message l)) (ledger.posted ++ posted step pe s.work) ≡ sum_by (λ l. w (message l))
+            ledger.posted + sum_by (λ l. w (message l)) (posted step pe s.work) = sum_by-append (λ (l : LetterView). w (message l))
+            ledger.posted (posted step pe s.work) in
             omega (arith, a, b, i, j, p);
       })
     where
@@ -92,10 +97,12 @@ module _ {C : Type 0} (step : Step C) (fits : C → Type 0) (pack : C → List �
       m = s.moved
 
   -- any call except the placing of a chare
-  pub local_call : (unpack : List ℕ → Result (C × ℕ) PupError) (pe : PeView C) (ledger : Ledger) (call : Call C) → MayCall pe call → IsRunning call → HasHistories step fits pack opened pe → IsKeyed pe.room → IsLocalAccount step opened start pe ledger
+  pub local_call : (unpack : List ℕ → Result (C × ℕ) PupError) (pe : PeView C) (ledger : Ledger) (call : Call C) → MayCall pe call
+      → IsRunning call → HasHistories step fits pack opened pe → IsKeyed pe.room → IsLocalAccount step opened start pe ledger
       → IsLocalAccount step opened start (after_call step pack unpack pe call) (with_call step pack unpack ledger pe call)
   local_call unpack pe ledger call may running h keyed l =
-      local_step pe (after_call step pack unpack pe call) (came_in call) (gone_in pe call) (sent_in step pack unpack pe call) ledger (call_step step pack pe unpack call may running) h keyed l
+      local_step pe (after_call step pack unpack pe call) (came_in call) (gone_in pe call) (sent_in step pack unpack pe call) ledger
+      (call_step step pack pe unpack call may running) h keyed l
 
 -- a PE has an empty ledger as it begins
 pub local_beginning : {C : Type 0} (step : Step C) (opened : List C) (pe : PeView C) → IsLocalAccount step opened pe pe no_ledger
@@ -147,7 +154,8 @@ module _ {C : Type 0} (step : Step C) (pes : ℕ) (chares : List C) (some : 1 �
   opening_unused = all_of (IsUnused step chares) states (λ i pe at. record {
     no_posts = (opening_open (Unit {0}) pes chares Least some i pe at).posted_none;
     no_letters = λ g.
-        let b = zero_each (λ (x : PeView C). of_pe no_letter (in_journal g) x) states (states_weigh no_letter (in_journal g) ∙ unlived (in_journal g) (λ e. refl) 0 chares) i pe at in
+        let b = zero_each (λ (x : PeView C). of_pe no_letter (in_journal g) x) states
+        (states_weigh no_letter (in_journal g) ∙ unlived (in_journal g) (λ e. refl) 0 chares) i pe at in
         let c = zero_each (λ (x : PeView C). of_pe g no_life x) states (states_weigh g no_life ∙ unlived no_life (λ e. refl) 0 chares) i pe at in
         let d = pe_all g pe in
         omega (arith, b, c, d);

@@ -24,16 +24,21 @@ work_journal g (Some x) = journal_more (weigh g) x.0.index x.0.journal x.1
 
 pub pe_all : {C : Type 0} (g : Weight) (pe : PeView C) → sum_by (weigh g) (all_letters_at pe) ≡ of_pe g no_life pe + of_pe no_letter (in_journal g) pe
 pe_all g pe =
-    let a : sum_by (weigh g) (letters_at pe ++ flat_map letters_of_life (lives_at pe)) ≡ sum_by (weigh g) (letters_at pe) + sum_by (weigh g) (flat_map letters_of_life (lives_at pe)) = sum_by-append (weigh g) (letters_at pe) (flat_map letters_of_life (lives_at pe)) in
+    let a : sum_by (weigh g) (letters_at pe ++ flat_map letters_of_life (lives_at pe)) ≡ sum_by (weigh g) (letters_at pe) + sum_by (weigh g)
+    (flat_map letters_of_life (lives_at pe)) = sum_by-append (weigh g) (letters_at pe) (flat_map letters_of_life (lives_at pe)) in
     let b = pe_letters g pe in
-    let c : sum_by (weigh g) (flat_map letters_of_life (lives_at pe)) ≡ of_pe no_letter (in_journal g) pe = sum_by-flat_map (weigh g) letters_of_life (lives_at pe) ∙ pe_lives (in_journal g) pe in
+    let c : sum_by (weigh g) (flat_map letters_of_life (lives_at pe)) ≡ of_pe no_letter (in_journal g) pe = sum_by-flat_map (weigh g)
+    letters_of_life (lives_at pe) ∙ pe_lives (in_journal g) pe in
     omega (arith, a, b, c)
 
 pub parcel_all : (g : Weight) (parcel : Parcel) → sum_by (weigh g) (all_letters_in parcel) ≡ of_parcel g no_life parcel + of_parcel no_letter (in_journal g) parcel
 parcel_all g parcel =
-    let a : sum_by (weigh g) (letters_in parcel ++ flat_map letters_of_life (lives_in parcel)) ≡ sum_by (weigh g) (letters_in parcel) + sum_by (weigh g) (flat_map letters_of_life (lives_in parcel)) = sum_by-append (weigh g) (letters_in parcel) (flat_map letters_of_life (lives_in parcel)) in
+    let a : sum_by (weigh g) (letters_in parcel ++ flat_map letters_of_life (lives_in parcel)) ≡ sum_by (weigh g)
+    (letters_in parcel) + sum_by (weigh g) (flat_map letters_of_life (lives_in parcel)) = sum_by-append (weigh g) (letters_in parcel)
+    (flat_map letters_of_life (lives_in parcel)) in
     let b = parcel_letters g parcel in
-    let c : sum_by (weigh g) (flat_map letters_of_life (lives_in parcel)) ≡ of_parcel no_letter (in_journal g) parcel = sum_by-flat_map (weigh g) letters_of_life (lives_in parcel) ∙ parcel_lives (in_journal g) parcel in
+    let c : sum_by (weigh g) (flat_map letters_of_life (lives_in parcel)) ≡ of_parcel no_letter (in_journal g) parcel = sum_by-flat_map
+    (weigh g) letters_of_life (lives_in parcel) ∙ parcel_lives (in_journal g) parcel in
     omega (arith, a, b, c)
 
 pub parcels_all : (g : Weight) (parcels : List Parcel) → sum_by (weigh g) (flat_map all_letters_in parcels) ≡ of_queue g no_life parcels + of_queue no_letter (in_journal g) parcels
@@ -70,12 +75,16 @@ numbered_length me count [] = refl
 numbered_length me count (s ∷ ss) = ap suc (numbered_length me (count + 1) ss)
 
 -- numbers go on from the count
-pub ids_join : (me first count : ℕ) (old : List LetterView) (ss : List (ℕ × List ℕ)) → count ≡ first + length old → map (λ l. l.id) old ≡ map (λ k. (me, k)) (range_with_len first (length old))
+pub ids_join : (me first count : ℕ) (old : List LetterView) (ss : List (ℕ × List ℕ)) → count ≡ first + length old
+    → map (λ l. l.id) old ≡ map (λ k. (me, k)) (range_with_len first (length old))
     → map (λ l. l.id) (old ++ numbered me count ss) ≡ map (λ k. (me, k)) (range_with_len first (length (old ++ numbered me count ss)))
 ids_join me first count old ss from h =
-    let n : length (old ++ numbered me count ss) ≡ length old + length ss = length-append old (numbered me count ss) ∙ ap (λ (v : ℕ). length old + v) (numbered_length me count ss) in
-    let d : range_with_len first (length old + length ss) ≡ range_with_len first (length old) ++ range_with_len (first + length old) (length ss) = range_split first (length old) (length ss) in
-    rw (n, d, sym from) (rw (map-append, h, numbered_ids me count ss) (sym (map-append (λ (k : ℕ). (me, k)) (range_with_len first (length old)) (range_with_len count (length ss)))))
+    let n : length (old ++ numbered me count ss) ≡ length old + length ss = length-append old (numbered me count ss)
+    ∙ ap (λ (v : ℕ). length old + v) (numbered_length me count ss) in
+    let d : range_with_len first (length old + length ss) ≡ range_with_len first (length old)
+    ++ range_with_len (first + length old) (length ss) = range_split first (length old) (length ss) in
+    rw (n, d, sym from) (rw (map-append, h, numbered_ids me count ss)
+    (sym (map-append (λ (k : ℕ). (me, k)) (range_with_len first (length old)) (range_with_len count (length ss)))))
 
 module _ {C : Type 0} (step : Step C) where
   -- a step of the PE keeps the account
@@ -87,7 +96,8 @@ module _ {C : Type 0} (step : Step C) where
             let a = m.weighs g no_life in
             let b = m.weighs no_letter (in_journal g) in
             let c : after (in_journal g) work ≡ before (in_journal g) work + sum_by (weigh g) (work_letters work) = work_journal g work in
-            let d : sum_by (weigh g) (all_letters_at pe) + sum_by (weigh g) (flat_map all_letters_in ledger.gone) ≡ sum_by (weigh g) (all_letters_at start) + sum_by (weigh g) (flat_map all_letters_in ledger.came) + sum_by (weigh g) ledger.posted = h.conserved g in
+            let d : sum_by (weigh g) (all_letters_at pe) + sum_by (weigh g) (flat_map all_letters_in ledger.gone) ≡ sum_by (weigh g)
+            (all_letters_at start) + sum_by (weigh g) (flat_map all_letters_in ledger.came) + sum_by (weigh g) ledger.posted = h.conserved g in
             let e = pe_all g pe in
             let f = pe_all g pe' in
             let i = parcels_all g came in
@@ -103,6 +113,7 @@ module _ {C : Type 0} (step : Step C) where
             let b : length (posted step pe work) ≡ length (work_sends step pe.n work) = numbered_length pe.me pe.count (work_sends step pe.n work) in
             omega (arith, m.counted, h.counted, a, b);
         numbered =
-            subst (λ (v : ℕ). map (λ l. l.id) (ledger.posted ++ posted step pe work) ≡ map (λ k. (v, k)) (range_with_len start.count (length (ledger.posted ++ posted step pe work)))) (sym m.same_me)
+            subst (λ (v : ℕ). map (λ l. l.id) (ledger.posted ++ posted step pe work) ≡ map (λ k. (v, k))
+            (range_with_len start.count (length (ledger.posted ++ posted step pe work)))) (sym m.same_me)
             (ids_join pe.me start.count pe.count ledger.posted (work_sends step pe.n work) h.counted h.numbered);
       }

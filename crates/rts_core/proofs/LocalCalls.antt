@@ -50,7 +50,8 @@ module _ {C : Type 0} (step : Step C) (start : PeView C) (ledger : Ledger) where
             let a = pe_all g pe in
             let f = pe_all g (placed pe e chare) in
             let r : of_room g no_life (joined e el pe.room) ≡ of_room g no_life pe.room + 0 = sum_joined (of_element g no_life) pe.room e el lacks in
-            let s : of_room no_letter (in_journal g) (joined e el pe.room) ≡ of_room no_letter (in_journal g) pe.room + 0 = sum_joined (of_element no_letter (in_journal g)) pe.room e el lacks in
+            let s : of_room no_letter (in_journal g) (joined e el pe.room) ≡ of_room no_letter (in_journal g) pe.room + 0 = sum_joined
+            (of_element no_letter (in_journal g)) pe.room e el lacks in
             let z = same.conserved g in
             omega (arith, a, f, r, s, z);
         counted = same.counted;
@@ -60,10 +61,12 @@ module _ {C : Type 0} (step : Step C) (start : PeView C) (ledger : Ledger) where
   module _ (pack : C → List ℕ) (unpack : List ℕ → Result (C × ℕ) PupError) where
     running_call : (pe : PeView C) (call : Call C) → MayCall pe call → IsRunning call → AddsUp start pe ledger
         → AddsUp start (after_call step pack unpack pe call) (with_call step pack unpack ledger pe call)
-    running_call pe call may running b = balance_step pe (after_call step pack unpack pe call) (came_in call) (gone_in pe call) (sent_in step pack unpack pe call) (call_step step pack pe unpack call may running) b
+    running_call pe call may running b = balance_step pe (after_call step pack unpack pe call) (came_in call) (gone_in pe call)
+        (sent_in step pack unpack pe call) (call_step step pack pe unpack call may running) b
 
     -- any call
-    pub kept_call : (pe : PeView C) (call : Call C) → MayCall pe call → AddsUp start pe ledger → AddsUp start (after_call step pack unpack pe call) (with_call step pack unpack ledger pe call)
+    pub kept_call : (pe : PeView C) (call : Call C) → MayCall pe call → AddsUp start pe ledger
+        → AddsUp start (after_call step pack unpack pe call) (with_call step pack unpack ledger pe call)
     kept_call pe (Place e chare) may b = balance_placed pe e chare may b
     kept_call pe (Receive parcel) may b = running_call pe (Receive parcel) may tt b
     kept_call pe (HandBack parcel) may b = running_call pe (HandBack parcel) may tt b

@@ -30,7 +30,8 @@ module _ {C : Type 0} (step : Step C) (pack : C → List ℕ) (opened : List C) 
       (sends_more step pack opened h x.0 x.1 is)
 
   -- what is sent is posted
-  pub sent_moved : (pe pe' : PeView C) (rs : List TraceEntry) (work : Option (Work C)) (came gone : List Parcel) → Moved step pe pe' rs work came gone → pe.n ≡ length opened → IfSome work (λ x. IsHistory step pack opened x.0)
+  pub sent_moved : (pe pe' : PeView C) (rs : List TraceEntry) (work : Option (Work C)) (came gone : List Parcel)
+      → Moved step pe pe' rs work came gone → pe.n ≡ length opened → IfSome work (λ x. IsHistory step pack opened x.0)
       → sent_at pe' + sent_in gone ≡ sent_at pe + (sum_by (λ l. h (message l)) (posted step pe work) + sent_in came)
   sent_moved pe pe' rs work came gone m same is =
       let k : Life → ℕ = sends_weight step opened h in

@@ -92,7 +92,8 @@ module _ {C : Type 0} (step : Step C) (pack : C → List ℕ) (pe : PeView C) wh
       by : (t : Bool) → (if t then Some (executed step pack pe l) else None) ≡ Some a → ActStep (sends_in step pack pe.room l.to pe.n (OfLetter l)) a
       by true s =
           let t : executed step pack pe l ≡ a = cc in
-          subst (ActStep (sends_in step pack pe.room l.to pe.n (OfLetter l))) t (act_step (executed step pack pe l) (sends_in step pack pe.room l.to pe.n (OfLetter l)) (executed_moved step pack pe x l el h p f) (rw f refl))
+          subst (ActStep (sends_in step pack pe.room l.to pe.n (OfLetter l))) t
+          (act_step (executed step pack pe l) (sends_in step pack pe.room l.to pe.n (OfLetter l)) (executed_moved step pack pe x l el h p f) (rw f refl))
       by false s = cc
 
   module _ (unpack : List ℕ → Result (C × ℕ) PupError) where
@@ -102,7 +103,8 @@ module _ {C : Type 0} (step : Step C) (pack : C → List ℕ) (pe : PeView C) wh
     installing_step x p (Err z) a h is f e = cc
     installing_step x p (Ok y) a h is f e =
         let t : record { acted = IsInstalled; pe = installed pe p y.0; trace = Trace.Installed p.index ∷ [] } ≡ a = cc in
-        subst (ActStep []) t (act_step (record { acted = IsInstalled; pe = installed pe p y.0; trace = Trace.Installed p.index ∷ [] }) [] (installed_moved step pack pe x p y.0 h is f) refl)
+        subst (ActStep []) t (act_step (record { acted = IsInstalled; pe = installed pe p y.0; trace = Trace.Installed p.index ∷ [] }) []
+        (installed_moved step pack pe x p y.0 h is f) refl)
 
     element_step : (x : Item) (p : PackedView) (o : Option (ElementView C)) (a : Acting C)
         → pe.hand ≡ Some x → x.parcel ≡ Element p → found p.index pe.room ≡ o → on_element step pack unpack pe p o ≡ Some a → ActStep [] a

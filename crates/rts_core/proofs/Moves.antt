@@ -47,7 +47,8 @@ posted step pe work = numbered pe.me pe.count (work_sends step pe.n work)
 -- these away
 pub record Moved {C : Type 0} (step : Step C) (pe pe' : PeView C) (rs : List TraceEntry) (work : Option (Work C)) (came gone : List Parcel) : Type 0 where
   pub weighs : (g : Weight) (k : Life → ℕ)
-      → of_pe g k pe' + (sum_by (weigh g) (work_letters work) + (before k work + of_queue g k gone)) ≡ of_pe g k pe + (sum_by (weigh g) (posted step pe work) + (after k work + of_queue g k came))
+      → of_pe g k pe' + (sum_by (weigh g) (work_letters work) + (before k work + of_queue g k gone)) ≡ of_pe g k
+      pe + (sum_by (weigh g) (posted step pe work) + (after k work + of_queue g k came))
   pub stood : IfSome work (λ x. (e : ℕ) × (found e pe.room ≡ Some x.0) × All (λ l. l.to ≡ e) (letters_of_entry x.1))
   pub tells_posts : (r : Said → ℕ) → sum_by r (posts rs) ≡ sum_by (λ l. r (l.id, l.to)) (posted step pe work)
   pub tells_executions : (r : Said → ℕ) → sum_by r (executions rs) ≡ sum_by (λ l. r (l.id, l.to)) (work_letters work)
@@ -115,6 +116,7 @@ pub handed_back_moved : {C : Type 0} (step : Step C) (pe : PeView C) (parcel : P
 handed_back_moved step pe parcel =
     quiet step pe (handed_back pe parcel) [] (parcel ∷ []) []
     (λ g k.
-    let b : sum_by (of_item g k) (record { parcel = parcel; address = pe.kept } ∷ pe.outbox) ≡ of_parcel g k parcel + sum_by (of_item g k) pe.outbox = sum_by-cons (of_item g k) (record { parcel = parcel; address = pe.kept }) pe.outbox in
+    let b : sum_by (of_item g k) (record { parcel = parcel; address = pe.kept } ∷ pe.outbox) ≡ of_parcel g k parcel + sum_by (of_item g k)
+    pe.outbox = sum_by-cons (of_item g k) (record { parcel = parcel; address = pe.kept }) pe.outbox in
     omega (arith, b, sum_by-cons (of_parcel g k) parcel []))
     refl refl refl refl refl

@@ -58,7 +58,8 @@ open_placed n e q pe chare h =
 pub placed_open : {C : Type 0} (n e : ℕ) (pes : List (PeView C)) (q : ℕ) (chare : C) (o : Option (PeView C)) → slice_get pes q ≡ o → AllOpen n e pes
     → AllOpen n (e + 1) (placed_on pes q e chare o)
 placed_open n e pes q chare None at h = λ i x is. open_next n e i x (h i x is)
-placed_open n e pes q chare (Some pe) at h = λ i x. each_set pes q pe (placed pe e chare) at (λ j v. Opens n (e + 1) j v) (λ j v is. open_next n e j v (h j v is)) (open_placed n e q pe chare (h q pe at)) i x (nat_eq i q) refl
+placed_open n e pes q chare (Some pe) at h = λ i x. each_set pes q pe (placed pe e chare) at (λ j v. Opens n (e + 1) j v)
+    (λ j v is. open_next n e j v (h j v is)) (open_placed n e q pe chare (h q pe at)) i x (nat_eq i q) refl
 
 pub settled_open : {C : Type 0} (n : ℕ) (pes : List (PeView C)) (e : ℕ) (chares : List C) → AllOpen n e pes → AllOpen n (e + length chares) (all_placed n pes e chares)
 settled_open {C} n pes e [] h = subst (λ (v : ℕ). AllOpen n v pes) (let k : e ≡ e + length {A = C} [] = omega arith in k) h
@@ -87,7 +88,8 @@ module _ {C : Type 0} (g : Weight) (k : Life → ℕ) where
   placed_weighs n e pes q chare None at lt h = absurd (get_there pes q lt at)
   placed_weighs n e pes q chare (Some pe) at lt h =
       let a = sum_at (of_pe g k) pes q pe (placed pe e chare) at in
-      let b : of_room g k (joined e (opening_element e chare) pe.room) ≡ of_room g k pe.room + k (e, []) = sum_joined (of_element g k) pe.room e (opening_element e chare) (absent_above e pe.room (h q pe at).lower) in
+      let b : of_room g k (joined e (opening_element e chare) pe.room) ≡ of_room g k pe.room + k (e, []) = sum_joined (of_element g k)
+      pe.room e (opening_element e chare) (absent_above e pe.room (h q pe at).lower) in
       omega (arith, a, b)
 
   pub placed_length : (pes : List (PeView C)) (q e : ℕ) (chare : C) (o : Option (PeView C)) → length (placed_on pes q e chare o) ≡ length pes
@@ -111,7 +113,8 @@ module _ {C : Type 0} (g : Weight) (k : Life → ℕ) where
 pub new_weigh : (C : Type 0) (g : Weight) (k : Life → ℕ) (n : ℕ) (xs : List ℕ) → sum_by (λ (x : PeView C). of_pe g k x) (map (λ q. new_pe q n) xs) ≡ 0
 new_weigh C g k n [] = refl
 new_weigh C g k n (x ∷ xs) =
-    let a : sum_by (λ (y : PeView C). of_pe g k y) (new_pe x n ∷ map (λ q. new_pe q n) xs) ≡ 0 + sum_by (λ (y : PeView C). of_pe g k y) (map (λ q. new_pe q n) xs) = sum_by-cons (λ (y : PeView C). of_pe g k y) (new_pe x n) (map (λ q. new_pe q n) xs) in
+    let a : sum_by (λ (y : PeView C). of_pe g k y) (new_pe x n ∷ map (λ q. new_pe q n) xs) ≡ 0 + sum_by (λ (y : PeView C). of_pe g k y)
+    (map (λ q. new_pe q n) xs) = sum_by-cons (λ (y : PeView C). of_pe g k y) (new_pe x n) (map (λ q. new_pe q n) xs) in
     omega (arith, a, new_weigh C g k n xs)
 
 pub empty_weigh : (g : Weight) (k : Life → ℕ) (pes : ℕ) → sum_by (of_queue g k) (replicate pes []) ≡ 0
@@ -194,7 +197,8 @@ one_elsewhere e i ne = grind (arith, nat_tests)
 pub opened_later : {C : Type 0} (e i : ℕ) (chares : List C) → e < i → sum_by (λ x. one_at e x.0) (opened_lives i chares) ≡ 0
 opened_later e i [] lt = refl
 opened_later e i (chare ∷ chares) lt =
-    let a : sum_by (λ (x : Life). one_at e x.0) ((i, []) ∷ opened_lives (i + 1) chares) ≡ one_at e i + sum_by (λ (x : Life). one_at e x.0) (opened_lives (i + 1) chares) = sum_by-cons (λ (x : Life). one_at e x.0) (i, []) (opened_lives (i + 1) chares) in
+    let a : sum_by (λ (x : Life). one_at e x.0) ((i, []) ∷ opened_lives (i + 1) chares) ≡ one_at e i + sum_by (λ (x : Life). one_at e x.0)
+    (opened_lives (i + 1) chares) = sum_by-cons (λ (x : Life). one_at e x.0) (i, []) (opened_lives (i + 1) chares) in
     let z : one_at e i ≡ 0 = one_elsewhere e i (λ q. let k : e < e = subst (λ (v : ℕ). e < v) (sym q) lt in omega (arith, k)) in
     omega (arith, a, z, opened_later e (i + 1) chares (omega (arith, lt)))
 

@@ -68,7 +68,8 @@ pes_more {C} n q me made made' pe pushed all made_pe same =
 
 -- one more chare is placed
 pub place_all_step : {C : Type 0} (n e i : ℕ) (pes pes' : List (PeView C)) (chare : C) (left left' : List C) (last : List (PeView C))
-    → i ≡ e → left ≡ chare ∷ left' → pes' ≡ placed_on pes (home i n (length pes)) i chare (slice_get pes (home i n (length pes))) → all_placed n pes e left ≡ last → all_placed n pes' (e + 1) left' ≡ last
+    → i ≡ e → left ≡ chare ∷ left' → pes' ≡ placed_on pes (home i n (length pes)) i chare (slice_get pes (home i n (length pes)))
+    → all_placed n pes e left ≡ last → all_placed n pes' (e + 1) left' ≡ last
 place_all_step n e i pes pes' chare left left' last same items placed inv = rw (placed, same) (rw items at inv)
 
 module _ {C : Type 0} (step : Step C) (fits : C → Type 0) (pack : C → List ℕ) (opened : List C) where

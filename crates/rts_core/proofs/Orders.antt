@@ -33,5 +33,6 @@ module _ {C : Type 0} (step : Step C) (fits : C → Type 0) (pack : C → List �
   histories_in_order w h =
       record {
         pes = All-weaker (HasHistories step fits pack opened) (HasOrder {C = C}) pe_order w.pes h.pes;
-        queues = All-weaker (All (IsParcelHistory step fits pack opened)) (All IsParcelInOrder) (λ queue. All-weaker (IsParcelHistory step fits pack opened) IsParcelInOrder parcel_order queue) w.queues h.queues;
+        queues = All-weaker (All (IsParcelHistory step fits pack opened)) (All IsParcelInOrder)
+            (λ queue. All-weaker (IsParcelHistory step fits pack opened) IsParcelInOrder parcel_order queue) w.queues h.queues;
       }

@@ -73,7 +73,8 @@ module _ {C : Type 0} (A : Type 0) (step : Step C) (pes : ℕ) (chares : List C)
   -- nothing is sent yet
   pub opening_sent : AreSent step chares first
   opening_sent weight =
-      let a : sum_by weight (sends step chares first) ≡ of_world no_letter (sends_weight step chares weight) first = sum_by-flat_map weight (sends_of step chares) (lives first) ∙ world_lives (sends_weight step chares weight) first in
+      let a : sum_by weight (sends step chares first) ≡ of_world no_letter (sends_weight step chares weight) first = sum_by-flat_map weight
+      (sends_of step chares) (lives first) ∙ world_lives (sends_weight step chares weight) first in
       let b = opening_weighs A pes chares strategy some no_letter (sends_weight step chares weight) in
       let c = unlived (sends_weight step chares weight) (sends_none weight) 0 chares in
       let d : sum_by (λ l. weight (message l)) (letters first) ≡ 0 = first_letters (by_message weight) in
@@ -89,7 +90,8 @@ module _ {C : Type 0} (A : Type 0) (step : Step C) (pes : ℕ) (chares : List C)
       omega (arith, a, b, c)
 
 -- an event keeps what holds of the sends, and of the numbers of letters
-module _ {C A : Type 0} (step : Step C) (fits : C → Type 0) (pack : C → List ℕ) (unpack : List ℕ → Result (C × ℕ) PupError) (opened : List C) (w : WorldView C A) (event : Event) (next : After C A) where
+module _ {C A : Type 0} (step : Step C) (fits : C → Type 0) (pack : C → List ℕ) (unpack : List ℕ → Result (C × ℕ) PupError)
+    (opened : List C) (w : WorldView C A) (event : Event) (next : After C A) where
   pub sent_next : AreHistories step fits pack opened w → AreSent step opened w → Happens step pack unpack w event next → AreSent step opened next.0
   sent_next are sent happens =
       sent_step step fits pack opened w next.0 next.1 are
@@ -139,14 +141,17 @@ module _ {C A : Type 0} (step : Step C) (pack : C → List ℕ) (unpack : List �
       → Reaches step pack unpack (opening_world pes chares strategy) events (w, trace) → Happens step pack unpack w event next
       → Accounted (length chares) next.0 (trace ++ next.1)
   accounted_next events w trace event next run happens =
-      let a : Kept (length chares) (opening_world pes chares strategy) w trace = run_keeps step pack unpack (length chares) (opening_world pes chares strategy) events (w, trace) (opening_of A pes chares strategy some) run in
-      let b : Kept (length chares) w next.0 next.1 = step_keeps step (length chares) w next.0 next.1 (happens_good step pack unpack (length chares) w a.same_array event next happens) in
+      let a : Kept (length chares) (opening_world pes chares strategy) w trace = run_keeps step pack unpack (length chares)
+      (opening_world pes chares strategy) events (w, trace) (opening_of A pes chares strategy some) run in
+      let b : Kept (length chares) w next.0 next.1 = step_keeps step (length chares) w next.0 next.1
+      (happens_good step pack unpack (length chares) w a.same_array event next happens) in
       kept_accounted next.0 (trace ++ next.1) (kept_join (length chares) (opening_world pes chares strategy) w next.0 trace next.1 a b)
 
   -- and every letter is counted
   pub counted : (events : List Event) (last : After C A) → Reaches step pack unpack (opening_world pes chares strategy) events last → IsCounted last.0
   counted events last run =
-      (run_keeps step pack unpack (length chares) (opening_world pes chares strategy) events last (opening_of A pes chares strategy some) run).counted (opening_counted A step pes chares strategy some)
+      (run_keeps step pack unpack (length chares) (opening_world pes chares strategy) events last (opening_of A pes chares strategy some)
+      run).counted (opening_counted A step pes chares strategy some)
 
   -- the trace shows how many letters were posted, and which were executed
   pub kept_told : (w : WorldView C A) (trace : List TraceEntry) → Kept (length chares) (opening_world pes chares strategy) w trace → IsTraced w trace

@@ -108,7 +108,16 @@ kept_join n u v w xs ys a b =
     }
 
 pub kept_same : {C A : Type 0} (n : ℕ) (w : WorldView C A) → AreOf n w → Kept n w w []
-kept_same n w are = record { once = λ r. refl; stands = λ i. refl; numbers = λ numbered q j. zero-add _; same_numbers = λ numbered. numbered; same_array = are; counted = λ h. h; journals = λ r. sym (add-zero _); posted = sym (add-zero _) }
+kept_same n w are = record {
+  once = λ r. refl;
+  stands = λ i. refl;
+  numbers = λ numbered q j. zero-add _;
+  same_numbers = λ numbered. numbered;
+  same_array = are;
+  counted = λ h. h;
+  journals = λ r. sym (add-zero _);
+  posted = sym (add-zero _);
+}
 
 module _ {C A : Type 0} (step : Step C) (pack : C → List ℕ) (unpack : List ℕ → Result (C × ℕ) PupError) (n : ℕ) where
   pub run_keeps : (w : WorldView C A) (events : List Event) (last : After C A) → AreOf n w → Reaches step pack unpack w events last → Kept n w last.0 last.1

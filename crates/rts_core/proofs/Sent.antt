@@ -49,7 +49,8 @@ sent_more step e n h c (x ∷ xs) done =
 pub journal_more : (f : LetterView → ℕ) (i : ℕ) (xs : List Done) (done : Done)
     → sum_by f (letters_of_life (i, xs ++ done ∷ [])) ≡ sum_by f (letters_of_life (i, xs)) + sum_by f (letters_of_entry done)
 journal_more f i xs done =
-    let a : sum_by f (flat_map letters_of_entry (xs ++ done ∷ [])) ≡ sum_by f (flat_map letters_of_entry xs ++ flat_map letters_of_entry (done ∷ [])) = ap (sum_by f) (flat_map-append letters_of_entry xs (done ∷ [])) in
+    let a : sum_by f (flat_map letters_of_entry (xs ++ done ∷ [])) ≡ sum_by f
+    (flat_map letters_of_entry xs ++ flat_map letters_of_entry (done ∷ [])) = ap (sum_by f) (flat_map-append letters_of_entry xs (done ∷ [])) in
     let b = sum_by-append f (flat_map letters_of_entry xs) (flat_map letters_of_entry (done ∷ [])) in
     let c : sum_by f (letters_of_entry done ++ []) ≡ sum_by f (letters_of_entry done) + sum_by f [] = sum_by-append f (letters_of_entry done) [] in
     omega (arith, a, b, c)
@@ -63,16 +64,27 @@ lived_folded step pack el n (x ∷ xs) = lived_folded step pack (ran step pack e
 pub history_folded : {C : Type 0} (step : Step C) (pack : C → List ℕ) (opened : List C) (el : ElementView C) (h : IsHistory step pack opened el)
     → folded step el.index (length opened) h.opening el.journal ≡ el.chare
 history_folded {C} step pack opened el h =
-    let a : (lived step pack (opening_element el.index h.opening) (length opened) h.entries).chare ≡ folded step el.index (length opened) h.opening (map (λ x. x.0) h.entries) = lived_folded step pack (opening_element el.index h.opening) (length opened) h.entries in
+    let a : (lived step pack (opening_element el.index h.opening) (length opened) h.entries).chare ≡ folded step el.index (length opened)
+    h.opening (map (λ x. x.0) h.entries) = lived_folded step pack (opening_element el.index h.opening) (length opened) h.entries in
     let b : (lived step pack (opening_element el.index h.opening) (length opened) h.entries).chare ≡ el.chare = ap (λ (v : ElementView C). v.chare) h.is_lived in
-    let c : folded step el.index (length opened) h.opening (map (λ x. x.0) h.entries) ≡ folded step el.index (length opened) h.opening el.journal = ap (folded step el.index (length opened) h.opening) h.is_journal in
+    let c : folded step el.index (length opened) h.opening (map (λ x. x.0) h.entries) ≡ folded step el.index (length opened) h.opening
+    el.journal = ap (folded step el.index (length opened) h.opening) h.is_journal in
     sym c ∙ (sym a ∙ b)
 
 pub sends_more : {C : Type 0} (step : Step C) (pack : C → List ℕ) (opened : List C) (h : ℕ × List ℕ → ℕ) (el : ElementView C) (done : Done) → IsHistory step pack opened el
-    → sum_by h (sends_of step opened (el.index, el.journal ++ done ∷ [])) ≡ sum_by h (sends_of step opened (life_of el)) + sum_by h (step el.chare el.index (length opened) (input_of done)).sends
+    → sum_by h (sends_of step opened (el.index, el.journal ++ done ∷ [])) ≡ sum_by h (sends_of step opened (life_of el)) + sum_by h
+    (step el.chare el.index (length opened) (input_of done)).sends
 sends_more {C} step pack opened h el done is =
-    let a : sum_by h (sent_over step el.index (length opened) is.opening (el.journal ++ done ∷ [])) ≡ sum_by h (sent_over step el.index (length opened) is.opening el.journal) + sum_by h (step (folded step el.index (length opened) is.opening el.journal) el.index (length opened) (input_of done)).sends = sent_more step el.index (length opened) h is.opening el.journal done in
-    let b : sum_by h (sent_over step el.index (length opened) is.opening (el.journal ++ done ∷ [])) ≡ sum_by h (sent_over step el.index (length opened) is.opening el.journal) + sum_by h (step el.chare el.index (length opened) (input_of done)).sends = subst (λ (v : C). sum_by h (sent_over step el.index (length opened) is.opening (el.journal ++ done ∷ [])) ≡ sum_by h (sent_over step el.index (length opened) is.opening el.journal) + sum_by h (step v el.index (length opened) (input_of done)).sends) (history_folded step pack opened el is) a in
+    let a : sum_by h (sent_over step el.index (length opened) is.opening (el.journal ++ done ∷ [])) ≡ sum_by h
+    (sent_over step el.index (length opened) is.opening el.journal) + sum_by h
+    (step (folded step el.index (length opened) is.opening el.journal) el.index (length opened) (input_of done)).sends = sent_more step
+    el.index (length opened) h is.opening el.journal done in
+    let b : sum_by h (sent_over step el.index (length opened) is.opening (el.journal ++ done ∷ [])) ≡ sum_by h
+    (sent_over step el.index (length opened) is.opening el.journal) + sum_by h
+    (step el.chare el.index (length opened) (input_of done)).sends = subst
+    (λ (v : C). sum_by h (sent_over step el.index (length opened) is.opening (el.journal ++ done ∷ [])) ≡ sum_by h
+    (sent_over step el.index (length opened) is.opening el.journal) + sum_by h (step v el.index (length opened) (input_of done)).sends)
+    (history_folded step pack opened el is) a in
     rw is.opens b
 
 -- what holds of all holds of one
@@ -116,10 +128,14 @@ module _ {C A : Type 0} (step : Step C) (fits : C → Type 0) (pack : C → List
       let more = journal_after (by_message weight) s.work in
       let l : sum_by (λ x. weight (message x)) (letters w) ≡ of_world (by_message weight) no_life w = world_letters (by_message weight) w in
       let l' : sum_by (λ x. weight (message x)) (letters w') ≡ of_world (by_message weight) no_life w' = world_letters (by_message weight) w' in
-      let k : sum_by (λ x. weight (message x)) (journaled w) ≡ of_world no_letter (λ x. sum_by (weigh (by_message weight)) (letters_of_life x)) w = world_journals (by_message weight) w in
-      let k' : sum_by (λ x. weight (message x)) (journaled w') ≡ of_world no_letter (λ x. sum_by (weigh (by_message weight)) (letters_of_life x)) w' = world_journals (by_message weight) w' in
-      let m : sum_by weight (sends step opened w) ≡ of_world no_letter (sends_weight step opened weight) w = sum_by-flat_map weight (sends_of step opened) (lives w) ∙ world_lives (sends_weight step opened weight) w in
-      let m' : sum_by weight (sends step opened w') ≡ of_world no_letter (sends_weight step opened weight) w' = sum_by-flat_map weight (sends_of step opened) (lives w') ∙ world_lives (sends_weight step opened weight) w' in
+      let k : sum_by (λ x. weight (message x)) (journaled w) ≡ of_world no_letter
+      (λ x. sum_by (weigh (by_message weight)) (letters_of_life x)) w = world_journals (by_message weight) w in
+      let k' : sum_by (λ x. weight (message x)) (journaled w') ≡ of_world no_letter
+      (λ x. sum_by (weigh (by_message weight)) (letters_of_life x)) w' = world_journals (by_message weight) w' in
+      let m : sum_by weight (sends step opened w) ≡ of_world no_letter (sends_weight step opened weight) w = sum_by-flat_map weight
+      (sends_of step opened) (lives w) ∙ world_lives (sends_weight step opened weight) w in
+      let m' : sum_by weight (sends step opened w') ≡ of_world no_letter (sends_weight step opened weight) w' = sum_by-flat_map weight
+      (sends_of step opened) (lives w') ∙ world_lives (sends_weight step opened weight) w' in
       let z : sum_by (weigh no_letter) s.new ≡ 0 = sum_zero s.new in
       let y : sum_by (weigh no_letter) (work_letters s.work) ≡ 0 = sum_zero (work_letters s.work) in
       omega (arith, a, b, j, old, sent, said, more, l, l', k, k', m, m', z, y, before_none s.work, after_none s.work)

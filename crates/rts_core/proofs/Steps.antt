@@ -10,7 +10,8 @@ use Rattle.rts_core.specs.Events.{delivered, deliver_event, due, resume_event}
 use Rattle.rts_core.specs.Parts.{or_same}
 
 pub delivered_at : {C : Type 0} (pe pe' : PeView C) (queues : List (List Parcel)) (p : ℕ) (queue queue' : List Parcel)
-    → slice_get queues p ≡ Some queue → slice_set queues p queue ≡ queues → (pe', queue') ≡ or_same (pe, queue) (delivered pe queue) → (pe', slice_set queues p queue') ≡ or_same (pe, queues) (deliver_event pe queues p)
+    → slice_get queues p ≡ Some queue → slice_set queues p queue ≡ queues → (pe', queue') ≡ or_same (pe, queue) (delivered pe queue)
+    → (pe', slice_set queues p queue') ≡ or_same (pe, queues) (deliver_event pe queues p)
 delivered_at {C} pe pe' queues p queue queue' at same e = rw at (by (delivered pe queue) e)
   where
     by : (o : Option (PeView C × List Parcel)) → (pe', queue') ≡ or_same (pe, queue) o

@@ -68,7 +68,8 @@ each_map step pack p d P R gives each =
       departs = λ e q el at. gives _ (each.departs e q el at);
     }
 
-module _ {C A : Type 0} (step : Step C) (pack : C → List ℕ) (unpack : List ℕ → Result (C × ℕ) PupError) (p : ℕ) (d : LocalView C A) (P : LocalView C A × List TraceEntry → Type 0) (each : EachTurn step pack p d P) where
+module _ {C A : Type 0} (step : Step C) (pack : C → List ℕ) (unpack : List ℕ → Result (C × ℕ) PupError) (p : ℕ) (d : LocalView C A)
+    (P : LocalView C A × List TraceEntry → Type 0) (each : EachTurn step pack p d P) where
   -- ---- Act
 
   abbrev pub ActsSo : Acting C → Type 0
@@ -124,7 +125,8 @@ module _ {C A : Type 0} (step : Step C) (pack : C → List ℕ) (unpack : List �
 
   pub start_event_so : (e : ℕ) (a : PeView C × List TraceEntry) → start_event step pack d.pe e ≡ Some a → P (record d { pe = a.0 }, a.1)
   start_event_so e a h =
-      option_and_then_some (λ (el : ElementView C). where_true (not el.progress.started) (Some (resumed step pack d.pe e 0, resume_entries step pack d.pe e 0))) (found e d.pe.room) a h
+      option_and_then_some (λ (el : ElementView C). where_true (not el.progress.started)
+      (Some (resumed step pack d.pe e 0, resume_entries step pack d.pe e 0))) (found e d.pe.room) a h
       (λ el at s.
       let both = where_some (not el.progress.started) (Some (resumed step pack d.pe e 0, resume_entries step pack d.pe e 0)) a s in
       subst (λ (v : PeView C × List TraceEntry). P (record d { pe = v.0 }, v.1)) (some_same (resumed step pack d.pe e 0, resume_entries step pack d.pe e 0) a both.1)
@@ -139,7 +141,8 @@ module _ {C A : Type 0} (step : Step C) (pack : C → List ℕ) (unpack : List �
 
   pub is_due_at : (e : ℕ) (at : ℕ × ℕ) → due d.pe d.board e ≡ Some at → IsDue e at.0 at.1
   is_due_at e at h =
-      option_and_then_some (λ (el : ElementView C). option_and_then (λ round. option_and_then (λ q. Some (round, q)) (place_in d.board round e)) (waits_for el)) (found e d.pe.room) at h
+      option_and_then_some (λ (el : ElementView C). option_and_then
+      (λ round. option_and_then (λ q. Some (round, q)) (place_in d.board round e)) (waits_for el)) (found e d.pe.room) at h
       (λ el is r.
       option_and_then_some (λ round. option_and_then (λ q. Some (round, q)) (place_in d.board round e)) (waits_for el) at r
       (λ round waits s.
@@ -162,7 +165,8 @@ module _ {C A : Type 0} (step : Step C) (pack : C → List ℕ) (unpack : List �
       (λ at is s.
       let both = where_some (not (at.1 == p)) (Some (departed pack d.pe e at.1, slice_set d.words e at.1, Departed e ∷ [])) a s in
       let k : IsDue e at.0 at.1 = is_due_at e at is in
-      subst (λ (v : PeView C × List ℕ × List TraceEntry). P (record d { pe = v.0; words = v.1 }, v.2)) (some_same (departed pack d.pe e at.1, slice_set d.words e at.1, Departed e ∷ []) a both.1)
+      subst (λ (v : PeView C × List ℕ × List TraceEntry). P (record d { pe = v.0; words = v.1 }, v.2))
+      (some_same (departed pack d.pe e at.1, slice_set d.words e at.1, Departed e ∷ []) a both.1)
       (each.departs e at.1 k.el k.stands))
 
   pub looked_so : (a : PeView C) → look_event d.pe d.words ≡ Some a → P (record d { pe = a }, [])
@@ -174,9 +178,12 @@ module _ {C A : Type 0} (step : Step C) (pack : C → List ℕ) (unpack : List �
 
   pub flush_event_so : (a : PeView C × List (List Parcel)) → flush_event d.pe d.queues ≡ Some a → P (record d { pe = a.0; queues = a.1 }, [])
   flush_event_so a h =
-      option_and_then_some (λ q. option_and_then (λ parcel. option_and_then (λ queue. Some (gave_up d.pe, slice_set d.queues q (queue ++ parcel ∷ []))) (slice_get d.queues q)) (front_parcel d.pe.outbox)) (front_address d.pe.outbox) a h
+      option_and_then_some (λ q. option_and_then (λ parcel. option_and_then
+      (λ queue. Some (gave_up d.pe, slice_set d.queues q (queue ++ parcel ∷ []))) (slice_get d.queues q)) (front_parcel d.pe.outbox))
+      (front_address d.pe.outbox) a h
       (λ q is r.
-      option_and_then_some (λ parcel. option_and_then (λ queue. Some (gave_up d.pe, slice_set d.queues q (queue ++ parcel ∷ []))) (slice_get d.queues q)) (front_parcel d.pe.outbox) a r
+      option_and_then_some (λ parcel. option_and_then (λ queue. Some (gave_up d.pe, slice_set d.queues q (queue ++ parcel ∷ [])))
+      (slice_get d.queues q)) (front_parcel d.pe.outbox) a r
       (λ parcel front s.
       option_and_then_some (λ queue. Some (gave_up d.pe, slice_set d.queues q (queue ++ parcel ∷ []))) (slice_get d.queues q) a s
       (λ queue at t.
@@ -218,16 +225,19 @@ module _ {C A : Type 0} (step : Step C) (pack : C → List ℕ) (unpack : List �
   local_so (Flush q) a h of = then_so (flush_event d.pe d.queues) (λ after. (record d { pe = after.0; queues = after.1 }, [])) a h flush_event_so
   local_so (Deliver q) a h of =
       let same : q ≡ p = some_same q p of in
-      then_so (deliver_event d.pe d.queues p) (λ after. (record d { pe = after.0; queues = after.1 }, [])) a (subst (λ (v : ℕ). local_step step pack unpack (Deliver v) d ≡ Some a) same h) delivered_so
+      then_so (deliver_event d.pe d.queues p) (λ after. (record d { pe = after.0; queues = after.1 }, [])) a
+      (subst (λ (v : ℕ). local_step step pack unpack (Deliver v) d ≡ Some a) same h) delivered_so
   local_so (Act q) a h of = then_so (act_event step pack unpack d.pe) (λ after. (record d { pe = after.0 }, after.1)) a h act_event_so
   local_so (Report q) a h of = then_so (report_event d.pe d.board) (λ after. (record d { pe = after.0; board = after.1 }, after.2)) a h report_event_so
   local_so Decide a h of = cc
   local_so (Depart q e) a h of =
       let same : q ≡ p = some_same q p of in
-      then_so (depart_event step pack p d.pe d.words d.board e) (λ after. (record d { pe = after.0; words = after.1 }, after.2)) a (subst (λ (v : ℕ). local_step step pack unpack (Depart v e) d ≡ Some a) same h) (depart_event_so e)
+      then_so (depart_event step pack p d.pe d.words d.board e) (λ after. (record d { pe = after.0; words = after.1 }, after.2)) a
+      (subst (λ (v : ℕ). local_step step pack unpack (Depart v e) d ≡ Some a) same h) (depart_event_so e)
   local_so (Resume q e) a h of =
       let same : q ≡ p = some_same q p of in
-      then_so (resume_event step pack p d.pe d.board e) (λ after. (record d { pe = after.0 }, after.1)) a (subst (λ (v : ℕ). local_step step pack unpack (Resume v e) d ≡ Some a) same h) (resume_event_so e)
+      then_so (resume_event step pack p d.pe d.board e) (λ after. (record d { pe = after.0 }, after.1)) a
+      (subst (λ (v : ℕ). local_step step pack unpack (Resume v e) d ≡ Some a) same h) (resume_event_so e)
 
 -- Something holds of the world after an event and its trace entries where it holds of the same world without trace
 -- entries, of the step of each PE, and of a decision.

@@ -55,7 +55,9 @@ numbers_own me count j (s ∷ ss) =
     let ih = numbers_own me (count + 1) j ss in
     let one = number_next me count j s.0 s.1 in
     let e : (count + 1) + length ss ≡ count + length (s ∷ ss) = omega arith in
-    let c : sum_by (number_at me j) (letter_to me count s.0 s.1 ∷ numbered me (count + 1) ss) ≡ number_at me j (letter_to me count s.0 s.1) + sum_by (number_at me j) (numbered me (count + 1) ss) = sum_by-cons (number_at me j) (letter_to me count s.0 s.1) (numbered me (count + 1) ss) in
+    let c : sum_by (number_at me j) (letter_to me count s.0 s.1 ∷ numbered me (count + 1) ss) ≡ number_at me j
+    (letter_to me count s.0 s.1) + sum_by (number_at me j) (numbered me (count + 1) ss) = sum_by-cons (number_at me j)
+    (letter_to me count s.0 s.1) (numbered me (count + 1) ss) in
     let r : below j ((count + 1) + length ss) ≡ below j (count + length (s ∷ ss)) = ap (below j) e in
     omega (arith, ih, one, c, r)
 
@@ -67,21 +69,26 @@ numbers_other me count q j [] h = refl
 numbers_other me count q j (s ∷ ss) h =
     let ih = numbers_other me (count + 1) q j ss h in
     let z = number_elsewhere me count q j s.0 s.1 h in
-    let c : sum_by (number_at q j) (letter_to me count s.0 s.1 ∷ numbered me (count + 1) ss) ≡ number_at q j (letter_to me count s.0 s.1) + sum_by (number_at q j) (numbered me (count + 1) ss) = sum_by-cons (number_at q j) (letter_to me count s.0 s.1) (numbered me (count + 1) ss) in
+    let c : sum_by (number_at q j) (letter_to me count s.0 s.1 ∷ numbered me (count + 1) ss) ≡ number_at q j
+    (letter_to me count s.0 s.1) + sum_by (number_at q j) (numbered me (count + 1) ss) = sum_by-cons (number_at q j)
+    (letter_to me count s.0 s.1) (numbered me (count + 1) ss) in
     omega (arith, ih, z, c)
 
 pub numbered_many : (me count : ℕ) (ss : List (ℕ × List ℕ)) → sum_by (λ l. 1) (numbered me count ss) ≡ length ss
 numbered_many me count [] = refl
 numbered_many me count (s ∷ ss) =
     let ih = numbered_many me (count + 1) ss in
-    let c : sum_by (λ (l : LetterView). 1) (letter_to me count s.0 s.1 ∷ numbered me (count + 1) ss) ≡ 1 + sum_by (λ (l : LetterView). 1) (numbered me (count + 1) ss) = sum_by-cons (λ (l : LetterView). 1) (letter_to me count s.0 s.1) (numbered me (count + 1) ss) in
+    let c : sum_by (λ (l : LetterView). 1) (letter_to me count s.0 s.1 ∷ numbered me (count + 1) ss) ≡ 1 + sum_by (λ (l : LetterView). 1)
+    (numbered me (count + 1) ss) = sum_by-cons (λ (l : LetterView). 1) (letter_to me count s.0 s.1) (numbered me (count + 1) ss) in
     omega (arith, ih, c)
 
 pub numbered_says : (h : ℕ × List ℕ → ℕ) (me count : ℕ) (ss : List (ℕ × List ℕ)) → sum_by (λ l. h (l.to, l.body)) (numbered me count ss) ≡ sum_by h ss
 numbered_says h me count [] = refl
 numbered_says h me count (s ∷ ss) =
     let ih = numbered_says h me (count + 1) ss in
-    let c : sum_by (λ (l : LetterView). h (l.to, l.body)) (letter_to me count s.0 s.1 ∷ numbered me (count + 1) ss) ≡ h s + sum_by (λ (l : LetterView). h (l.to, l.body)) (numbered me (count + 1) ss) = sum_by-cons (λ (l : LetterView). h (l.to, l.body)) (letter_to me count s.0 s.1) (numbered me (count + 1) ss) in
+    let c : sum_by (λ (l : LetterView). h (l.to, l.body)) (letter_to me count s.0 s.1 ∷ numbered me (count + 1) ss) ≡ h s + sum_by
+    (λ (l : LetterView). h (l.to, l.body)) (numbered me (count + 1) ss) = sum_by-cons (λ (l : LetterView). h (l.to, l.body))
+    (letter_to me count s.0 s.1) (numbered me (count + 1) ss) in
     let d : sum_by h (s ∷ ss) ≡ h s + sum_by h ss = sum_by-cons h s ss in
     omega (arith, ih, c, d)
 
@@ -166,7 +173,8 @@ module _ {C : Type 0} (pes : List (PeView C)) (p : ℕ) (pe pe' : PeView C) (at 
       rw (get_set_other pes p q pe' e, z, zero-add) refl
 
 -- a step of one PE, where its parcels come from queues and go to them
-pub stepped : {C A : Type 0} (step : Step C) (n : ℕ) (w : WorldView C A) (p : ℕ) (pe pe' : PeView C) (queues : List (List Parcel)) (words : List ℕ) (board : BoardState A) (rs : List TraceEntry) (work : Option (Work C)) (came gone : List Parcel)
+pub stepped : {C A : Type 0} (step : Step C) (n : ℕ) (w : WorldView C A) (p : ℕ) (pe pe' : PeView C) (queues : List (List Parcel))
+    (words : List ℕ) (board : BoardState A) (rs : List TraceEntry) (work : Option (Work C)) (came gone : List Parcel)
     → AreOf n w → slice_get w.pes p ≡ Some pe → Moved step pe pe' rs work came gone
     → ((g : Weight) (k : Life → ℕ) → sum_by (of_queue g k) queues + of_queue g k came ≡ sum_by (of_queue g k) w.queues + of_queue g k gone)
     → Stepped step n w (record { pes = slice_set w.pes p pe'; queues = queues; words = words; board = board }) rs
@@ -180,13 +188,15 @@ stepped {C} step n w p pe pe' queues words board rs work came gone are at m pass
           let c = passes g k in
           omega (arith, a, b, c);
       stood = stands work m.stood;
-      says = λ h. subst (λ (v : ℕ). sum_by (λ (l : LetterView). h (l.to, l.body)) (posted step pe work) ≡ sum_by h (work_sends step v work)) (are p pe at) (numbered_says h pe.me pe.count (work_sends step pe.n work));
+      says = λ h. subst (λ (v : ℕ). sum_by (λ (l : LetterView). h (l.to, l.body)) (posted step pe work) ≡ sum_by h (work_sends step v work))
+          (are p pe at) (numbered_says h pe.me pe.count (work_sends step pe.n work));
       tells_posts = m.tells_posts;
       tells_executions = m.tells_executions;
       same_array = λ q x. each_set w.pes p pe pe' at (λ i v. v.n ≡ n) are (m.same_n ∙ are p pe at) q x (nat_eq q p) refl;
       same_numbers = λ numbered q x. each_set w.pes p pe pe' at (λ i v. v.me ≡ i) numbered (m.same_me ∙ numbered p pe at) q x (nat_eq q p) refl;
       numbers = λ numbered q j. numbers_set w.pes p pe pe' at (posted step pe work) (numbered p pe at)
-          (λ i. subst (λ (v : ℕ). sum_by (number_at pe.me i) (posted step pe work) + below i pe.count ≡ below i v) (sym m.counted) (numbers_own pe.me pe.count i (work_sends step pe.n work)))
+          (λ i. subst (λ (v : ℕ). sum_by (number_at pe.me i) (posted step pe work) + below i pe.count ≡ below i v) (sym m.counted)
+          (numbers_own pe.me pe.count i (work_sends step pe.n work)))
           (λ r i ne. numbers_other pe.me pe.count r i (work_sends step pe.n work) ne)
           q j (nat_eq q p) refl;
       counts =

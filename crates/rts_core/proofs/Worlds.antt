@@ -21,8 +21,11 @@ use Rattle.rts_core.specs.Parts.{or_same}
 use Rattle.rts_core.specs.Worlds.{WorldView, IsWorld}
 
 -- the step of a PE is the step of the world
-pub enabled_at : {C A : Type 0} (step : Step C) (pack : C → List ℕ) (unpack : List ℕ → Result (C × ℕ) PupError) (w : WorldView C A) (event : Event) (p : ℕ) (pe : PeView C) (d : LocalView C A) (reports : List TraceEntry)
-    → slice_get w.pes p ≡ Some pe → slice_set w.pes p pe ≡ w.pes → (d, reports) ≡ or_same (local_view w pe, []) (local_step step pack unpack event (local_view w pe)) → (with_local w p d, reports) ≡ or_nothing w (enabled step pack unpack w event p)
+pub enabled_at : {C A : Type 0} (step : Step C) (pack : C → List ℕ) (unpack : List ℕ → Result (C × ℕ) PupError) (w : WorldView C A)
+    (event : Event) (p : ℕ) (pe : PeView C) (d : LocalView C A) (reports : List TraceEntry)
+    → slice_get w.pes p ≡ Some pe → slice_set w.pes p pe ≡ w.pes
+    → (d, reports) ≡ or_same (local_view w pe, []) (local_step step pack unpack event (local_view w pe))
+    → (with_local w p d, reports) ≡ or_nothing w (enabled step pack unpack w event p)
 enabled_at {C} {A} step pack unpack w event p pe d reports at same e =
     rw at (by (local_step step pack unpack event (local_view w pe)) e)
   where
@@ -33,8 +36,11 @@ enabled_at {C} {A} step pack unpack w event p pe d reports at same e =
         ∙ ap (λ (pes : List (PeView C)). (record { pes = pes; queues = w.queues; words = w.words; board = w.board }, [])) same
     by (Some after) k = ap (λ (x : LocalView C A × List TraceEntry). (with_local w p x.0, x.1)) k
 
-pub enabled_ok : {C A E : Type 0} (step : Step C) (pack : C → List ℕ) (unpack : List ℕ → Result (C × ℕ) PupError) (w : WorldView C A) (event : Event) (p : ℕ) (pe : PeView C) (d : LocalView C A) (r : Result (List TraceEntry) E)
-    → slice_get w.pes p ≡ Some pe → slice_set w.pes p pe ≡ w.pes → IfOk r (λ reports. (d, reports) ≡ or_same (local_view w pe, []) (local_step step pack unpack event (local_view w pe))) → IfOk r (λ reports. (with_local w p d, reports) ≡ or_nothing w (enabled step pack unpack w event p))
+pub enabled_ok : {C A E : Type 0} (step : Step C) (pack : C → List ℕ) (unpack : List ℕ → Result (C × ℕ) PupError) (w : WorldView C A)
+    (event : Event) (p : ℕ) (pe : PeView C) (d : LocalView C A) (r : Result (List TraceEntry) E)
+    → slice_get w.pes p ≡ Some pe → slice_set w.pes p pe ≡ w.pes
+    → IfOk r (λ reports. (d, reports) ≡ or_same (local_view w pe, []) (local_step step pack unpack event (local_view w pe)))
+    → IfOk r (λ reports. (with_local w p d, reports) ≡ or_nothing w (enabled step pack unpack w event p))
 enabled_ok step pack unpack w event p pe d (Ok reports) at same ok = enabled_at step pack unpack w event p pe d reports at same ok
 enabled_ok step pack unpack w event p pe d (Err e) at same ok = tt
 
@@ -46,7 +52,8 @@ same_at pes p pe pe' (Err e) same err = ap (slice_set pes p) err ∙ same
 
 -- it is still a world of the same run
 pub world_local : {C A : Type 0} (step : Step C) (fits : C → Type 0) (pack : C → List ℕ) (opened : List C) (pes : ℕ) (w : WorldView C A) (p : ℕ) (d : LocalView C A)
-    → IsWorld (length opened) pes w → IsLocalView step fits pack opened pes d → length d.queues ≡ length w.queues → length d.words ≡ length w.words → IsWorld (length opened) pes (with_local w p d)
+    → IsWorld (length opened) pes w → IsLocalView step fits pack opened pes d → length d.queues ≡ length w.queues
+    → length d.words ≡ length w.words → IsWorld (length opened) pes (with_local w p d)
 world_local {C} step fits pack opened pes w p d h k queues words =
     record {
       some_pe = h.some_pe;
@@ -104,7 +111,8 @@ nothing_changed {C} {A} (Err e) w w' pes queues words board =
 -- a decision changes the board alone
 pub decided_alone : {C A E : Type 0} (r : Result (List TraceEntry) E) (w : WorldView C A) (b : BoardState A)
     → IfOk r (λ reports. MayDecide w.board b reports)
-    → IfOk r (λ reports. MayDecide w.board b reports × (◌≡◌ {A = WorldView C A} (record { pes = w.pes; queues = w.queues; words = w.words; board = b }) (record { pes = w.pes; queues = w.queues; words = w.words; board = b })))
+    → IfOk r (λ reports. MayDecide w.board b reports × (◌≡◌ {A = WorldView C A}
+    (record { pes = w.pes; queues = w.queues; words = w.words; board = b }) (record { pes = w.pes; queues = w.queues; words = w.words; board = b })))
 decided_alone (Ok reports) w b ok = (ok, refl)
 decided_alone (Err e) w b ok = tt
 

@@ -36,7 +36,9 @@ letters_weigh weight letters = sum_by (λ l. weight l.id l.to l.body) letters
 -- The letters that a PE began with, and those that it has posted and received since, are those that it has given away, holds and
 -- has in journals: by any weight, the sums agree. And the numbers posted go on from the count that it began with, in order.
 pub record AddsUp {C : Type 0} (start pe : PeView C) (ledger : Ledger) : Type 0 where
-  pub conserved : (weight : ℕ × ℕ → ℕ → List ℕ → ℕ) → letters_weigh weight (all_letters_at pe) + letters_weigh weight (flat_map all_letters_in ledger.gone) ≡ letters_weigh weight (all_letters_at start) + letters_weigh weight (flat_map all_letters_in ledger.came) + letters_weigh weight ledger.posted
+  pub conserved : (weight : ℕ × ℕ → ℕ → List ℕ → ℕ) → letters_weigh weight (all_letters_at pe) + letters_weigh weight
+      (flat_map all_letters_in ledger.gone) ≡ letters_weigh weight (all_letters_at start) + letters_weigh weight
+      (flat_map all_letters_in ledger.came) + letters_weigh weight ledger.posted
   pub counted : pe.count ≡ start.count + length ledger.posted
   pub numbered : map (λ l. l.id) ledger.posted ≡ map (λ k. (pe.me, k)) (range_with_len start.count (length ledger.posted))
 
@@ -53,8 +55,12 @@ IsSteady weight = (e : ℕ) (journal : List Done) (done : Done) → All (λ l. l
 pub record IsLocalAccount {C : Type 0} (step : Step C) (opened : List C) (start pe : PeView C) (ledger : Ledger) : Type 0 where
   pub same_me : pe.me ≡ start.me
   pub letters : AddsUp start pe ledger
-  pub lives : (weight : Life → ℕ) → IsSteady weight → sum_by weight (lives_at pe) + sum_by weight (flat_map lives_in ledger.gone) ≡ sum_by weight (lives_at start) + sum_by weight (flat_map lives_in ledger.came)
-  pub sent : (weight : ℕ × List ℕ → ℕ) → sum_by weight (flat_map (sends_of step opened) (lives_at pe)) + sum_by weight (flat_map (sends_of step opened) (flat_map lives_in ledger.gone)) ≡ sum_by weight (flat_map (sends_of step opened) (lives_at start)) + sum_by (λ l. weight (message l)) ledger.posted + sum_by weight (flat_map (sends_of step opened) (flat_map lives_in ledger.came))
+  pub lives : (weight : Life → ℕ) → IsSteady weight → sum_by weight (lives_at pe) + sum_by weight (flat_map lives_in ledger.gone) ≡ sum_by
+      weight (lives_at start) + sum_by weight (flat_map lives_in ledger.came)
+  pub sent : (weight : ℕ × List ℕ → ℕ) → sum_by weight (flat_map (sends_of step opened) (lives_at pe)) + sum_by weight
+      (flat_map (sends_of step opened) (flat_map lives_in ledger.gone)) ≡ sum_by weight
+      (flat_map (sends_of step opened) (lives_at start)) + sum_by (λ l. weight (message l)) ledger.posted + sum_by weight
+      (flat_map (sends_of step opened) (flat_map lives_in ledger.came))
 
 -- a PE on which nothing has happened: it has posted no letter and holds none, and its elements have executed and sent nothing
 pub record IsUnused {C : Type 0} (step : Step C) (opened : List C) (pe : PeView C) : Type 0 where

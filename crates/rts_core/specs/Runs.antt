@@ -23,7 +23,8 @@ module _ {C A : Type 0} (step : Step C) (pack : C → List ℕ) (unpack : List �
   -- what holds of every run: of the chares that it opens with, on some PEs and by some strategy, and of each world that a list of
   -- events reaches, with its trace
   abbrev pub ForEachRun : (List C → After C A → Type 0) → Type 0
-  ForEachRun P = (pes : ℕ) (chares : List C) (strategy : Strategy) (events : List Event) (last : After C A) → 1 ≤ pes → Reaches (opening_world pes chares strategy) events last → P chares last
+  ForEachRun P = (pes : ℕ) (chares : List C) (strategy : Strategy) (events : List Event) (last : After C A) → 1 ≤ pes
+      → Reaches (opening_world pes chares strategy) events last → P chares last
 
   -- what holds of every event of every run: of the chares that it opens with, of the world before the event, and of the
   -- world after it, with the trace entries of the event

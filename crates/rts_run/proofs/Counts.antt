@@ -14,7 +14,8 @@ module _ {A : Type 0} (queues : List (Vec Parcel A)) (i : ℕ) where
 
   pub queued_rest : (queue : Vec Parcel A) → i < length queues → queue ≡ get_or queues i queue
       → queued (drop i queues) ≡ length (flat_map letters_in queue.items) + queued (drop (i + 1) queues)
-  queued_rest queue inside is = ap queued (rest_at queues i queue inside is) ∙ length-append (flat_map letters_in queue.items) (flat_map (flat_map letters_in) (map (λ (q : Vec Parcel A). q.items) (drop (i + 1) queues)))
+  queued_rest queue inside is = ap queued (rest_at queues i queue inside is)
+      ∙ length-append (flat_map letters_in queue.items) (flat_map (flat_map letters_in) (map (λ (q : Vec Parcel A). q.items) (drop (i + 1) queues)))
 
   pub queued_end : length queues ≤ i → queued (drop i queues) ≡ 0
   queued_end past = at_drop_all queued queues i past

@@ -16,4 +16,5 @@ in_places f a (x ∷ xs) h =
 
 -- the PEs of an opening are in order
 pub opens_in_order : {C : Type 0} (pes : ℕ) (chares : List C) → 1 ≤ pes → map (λ pe. pe.me) (opening_pes pes chares) ≡ range_with_len 0 (length (opening_pes pes chares))
-opens_in_order {C} pes chares some = in_places (λ pe. pe.me) 0 (opening_pes pes chares) (λ i pe at. let k = opening_numbered (Unit {0}) pes chares Least some i pe at in omega (arith, k))
+opens_in_order {C} pes chares some = in_places (λ pe. pe.me) 0 (opening_pes pes chares)
+    (λ i pe at. let k = opening_numbered (Unit {0}) pes chares Least some i pe at in omega (arith, k))

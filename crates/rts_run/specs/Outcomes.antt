@@ -37,7 +37,8 @@ first_fault (fault ∷ faults) = option_or fault (first_fault faults)
 -- round was decided for a snapshot of all of them, by the strategy. The marks of the elements agree with the rounds unless the
 -- fault is a mismatch, and do not agree where it is one. Any other fault has a cause, and no element failed to unpack. Without a
 -- fault every element has finished, and the board says so of each; and where the fault is that nothing was left to do, nothing was.
-pub record IsOutcome {C A : Type 0} (step : Step C) (fits : C → Type 0) (pack : C → List ℕ) (refuses : Refuses C) (chares : List C) (pes : ℕ) (strategy : Strategy) (o : OutcomeView C A) : Type 0 where
+pub record IsOutcome {C A : Type 0} (step : Step C) (fits : C → Type 0) (pack : C → List ℕ) (refuses : Refuses C) (chares : List C)
+    (pes : ℕ) (strategy : Strategy) (o : OutcomeView C A) : Type 0 where
   pub ends : map (λ pe. pe.me) o.ends ≡ range_with_len 0 pes
   pub queues : length o.left ≡ pes
   pub account : IsRunAccount step chares (left_world o.ends o.left)

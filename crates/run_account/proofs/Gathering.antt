@@ -86,7 +86,8 @@ module _ {C : Type 0} (step : Step C) (fits : C → Type 0) (pack : C → List �
             let z : sum_by (letters_of {C = C} g) [] ≡ 0 = refl in
             let y : sum_by (λ (x : PeView C). at_start (letters_of g) run.starts x.me) [] ≡ 0 = refl in
             omega (arith, a, b, c, d, z, y);
-        grown = All-cons (λ (x : PeView C). count_before run.starts x.me ≤ x.count) pe [] (has_grown pe seat w) (All-nil (λ (x : PeView C). count_before run.starts x.me ≤ x.count));
+        grown = All-cons (λ (x : PeView C). count_before run.starts x.me ≤ x.count) pe [] (has_grown pe seat w)
+            (All-nil (λ (x : PeView C). count_before run.starts x.me ≤ x.count));
         numbered = since pe seat w ∙ sym (append_none (numbers_since run.starts pe));
         lives = λ g steady.
             let a = w.local.lives g steady in
@@ -161,7 +162,8 @@ module _ {C : Type 0} (step : Step C) (fits : C → Type 0) (pack : C → List �
             let e : at_start f run.starts pe.me ≡ f w.start = began f pe.me w.start w.started in
             let i = sends_joined step opened g t.ledger.came w.ledger.came in
             let j = sends_joined step opened g t.ledger.gone w.ledger.gone in
-            let p : sum_by (λ l. g (message l)) (t.ledger.posted ++ w.ledger.posted) ≡ sum_by (λ l. g (message l)) t.ledger.posted + sum_by (λ l. g (message l)) w.ledger.posted = sum_by-append (λ (l : LetterView). g (message l)) t.ledger.posted w.ledger.posted in
+            let p : sum_by (λ l. g (message l)) (t.ledger.posted ++ w.ledger.posted) ≡ sum_by (λ l. g (message l)) t.ledger.posted + sum_by
+            (λ l. g (message l)) w.ledger.posted = sum_by-append (λ (l : LetterView). g (message l)) t.ledger.posted w.ledger.posted in
             omega (arith, a, b, c, d, e, i, j, p);
         matches = both_match t.ledger w.ledger seat other (t.own ∙ sym w.own) t.matches w.matches;
       }

@@ -25,7 +25,9 @@ own_range q j a zero =
     let z : sum_by (number_in (q, j)) [] ≡ 0 = refl in
     omega (arith, r, z)
 own_range q j a (suc n) =
-    let c : sum_by (number_in (q, j)) ((q, a) ∷ map (λ k. (q, k)) (range_with_len (a + 1) n)) ≡ number_in (q, j) (q, a) + sum_by (number_in (q, j)) (map (λ k. (q, k)) (range_with_len (a + 1) n)) = sum_by-cons (number_in (q, j)) (q, a) (map (λ k. (q, k)) (range_with_len (a + 1) n)) in
+    let c : sum_by (number_in (q, j)) ((q, a) ∷ map (λ k. (q, k)) (range_with_len (a + 1) n)) ≡ number_in (q, j) (q, a) + sum_by
+    (number_in (q, j)) (map (λ k. (q, k)) (range_with_len (a + 1) n)) = sum_by-cons (number_in (q, j)) (q, a)
+    (map (λ k. (q, k)) (range_with_len (a + 1) n)) in
     let e : (a + 1) + n ≡ a + suc n = omega arith in
     let r : below j ((a + 1) + n) ≡ below j (a + suc n) = ap (below j) e in
     omega (arith, c, r, number_here q j a, own_range q j (a + 1) n)
@@ -33,7 +35,9 @@ own_range q j a (suc n) =
 other_range : (q j p a n : ℕ) → q ≢ p → sum_by (number_in (q, j)) (map (λ k. (p, k)) (range_with_len a n)) ≡ 0
 other_range q j p a zero ne = refl
 other_range q j p a (suc n) ne =
-    let c : sum_by (number_in (q, j)) ((p, a) ∷ map (λ k. (p, k)) (range_with_len (a + 1) n)) ≡ number_in (q, j) (p, a) + sum_by (number_in (q, j)) (map (λ k. (p, k)) (range_with_len (a + 1) n)) = sum_by-cons (number_in (q, j)) (p, a) (map (λ k. (p, k)) (range_with_len (a + 1) n)) in
+    let c : sum_by (number_in (q, j)) ((p, a) ∷ map (λ k. (p, k)) (range_with_len (a + 1) n)) ≡ number_in (q, j) (p, a) + sum_by
+    (number_in (q, j)) (map (λ k. (p, k)) (range_with_len (a + 1) n)) = sum_by-cons (number_in (q, j)) (p, a)
+    (map (λ k. (p, k)) (range_with_len (a + 1) n)) in
     omega (arith, c, number_there q j p a ne, other_range q j p (a + 1) n ne)
 
 below_none : (j : ℕ) → below j 0 ≡ 0
@@ -67,7 +71,8 @@ module _ {C : Type 0} where
       let f = first_of a pe ends is in
       let same : q ≡ pe.me = omega (arith, at, f) in
       let o : sum_by (number_in (q, j)) (map (λ k. (q, k)) (range_with_len 0 pe.count)) + below j 0 ≡ below j (0 + pe.count) = own_range q j 0 pe.count in
-      let p : sum_by (number_in (q, j)) (numbers_of pe) + below j 0 ≡ below j (0 + pe.count) = subst (λ (v : ℕ). sum_by (number_in (q, j)) (map (λ k. (v, k)) (range_with_len 0 pe.count)) + below j 0 ≡ below j (0 + pe.count)) same o in
+      let p : sum_by (number_in (q, j)) (numbers_of pe) + below j 0 ≡ below j (0 + pe.count) = subst
+      (λ (v : ℕ). sum_by (number_in (q, j)) (map (λ k. (v, k)) (range_with_len 0 pe.count)) + below j 0 ≡ below j (0 + pe.count)) same o in
       let n : 0 + pe.count ≡ pe.count = omega arith in
       let m : below j (0 + pe.count) ≡ below j pe.count = ap (below j) n in
       omega (arith, one_more q j pe ends, p, m, below_none j, numbers_before q j (a + 1) ends (rest_of a pe ends is) (omega (arith, at)))

@@ -66,7 +66,8 @@ module _ {C : Type 0} (whole : List (PeView C)) where
       let c : count_before whole end.me ≡ start.count = ap (count_before whole) e ∙ ap (λ o. option_map_or (λ (pe : PeView C). pe.count) o 0) at in
       let m : start.me ≡ end.me = s ∙ sym e in
       let f : map (λ l. l.id) old ≡ map (number_by end.me) (range_with_len 0 start.count) = olds ∙ ap (λ (v : ℕ). map (number_by v) (range_with_len 0 start.count)) m in
-      let g : map (λ l. l.id) new ≡ map (number_by end.me) (range_with_len start.count (end.count - start.count)) = news ∙ ap (λ (v : ℕ). map (number_by end.me) (range_with_len v (end.count - v))) c in
+      let g : map (λ l. l.id) new ≡ map (number_by end.me) (range_with_len start.count (end.count - start.count)) = news
+      ∙ ap (λ (v : ℕ). map (number_by end.me) (range_with_len v (end.count - v))) c in
       let le : start.count ≤ end.count = omega (arith, c, grown) in
       map-append (λ (l : LetterView). l.id) old new
       ∙ (ap (λ v. v ++ map (λ (l : LetterView). l.id) new) f
@@ -94,10 +95,13 @@ module _ {C : Type 0} (whole : List (PeView C)) where
   merged a (s1 ∷ ss) (e1 ∷ es) old new at s e same grown olds news =
       let next = drop_next whole a s1 ss at in
       let o : Split (λ (l : LetterView). l.id) old (numbers_of s1) (flat_map numbers_of ss) = split (λ l. l.id) old (numbers_of s1) (flat_map numbers_of ss) olds in
-      let n : Split (λ (l : LetterView). l.id) new (numbers_since whole e1) (flat_map (numbers_since whole) es) = split (λ l. l.id) new (numbers_since whole e1) (flat_map (numbers_since whole) es) news in
+      let n : Split (λ (l : LetterView). l.id) new (numbers_since whole e1) (flat_map (numbers_since whole) es) = split (λ l. l.id) new
+      (numbers_since whole e1) (flat_map (numbers_since whole) es) news in
       let P : PeView C → Type 0 = λ pe. count_before whole pe.me ≤ pe.count in
-      let m : Merged es o.rest n.rest = merged (a + 1) ss es o.rest n.rest next.0 (rest_of a s1 ss s) (rest_of a e1 es e) (omega (arith, same)) (All-tail P e1 es grown) o.rest_is n.rest_is in
-      let here : map (λ (l : LetterView). l.id) (o.first ++ n.first) ≡ numbers_of e1 = one_pe a s1 e1 (first_of a s1 ss s) (first_of a e1 es e) next.1 (All-head P e1 es grown) o.first n.first o.first_is n.first_is in
+      let m : Merged es o.rest n.rest = merged (a + 1) ss es o.rest n.rest next.0 (rest_of a s1 ss s) (rest_of a e1 es e)
+      (omega (arith, same)) (All-tail P e1 es grown) o.rest_is n.rest_is in
+      let here : map (λ (l : LetterView). l.id) (o.first ++ n.first) ≡ numbers_of e1 = one_pe a s1 e1 (first_of a s1 ss s)
+      (first_of a e1 es e) next.1 (All-head P e1 es grown) o.first n.first o.first_is n.first_is in
       record {
         posts = (o.first ++ n.first) ++ m.posts;
         numbered =

@@ -59,7 +59,8 @@ module _ {C : Type 0} (pes : ℕ) where
   all_numbers (pe ∷ ends) [] same = absurd (omega (arith, same))
   all_numbers (pe ∷ ends) (queue ∷ left) same = ap (λ v. numbers_of pe ++ v) (all_numbers ends left (omega (arith, same)))
 
-  all_counts : (ends : List (PeView C)) (left : List (List Parcel)) → length ends ≡ length left → sum_by (λ pe. pe.count) (all_reopened pes ends left) ≡ sum_by (λ pe. pe.count) ends
+  all_counts : (ends : List (PeView C)) (left : List (List Parcel)) → length ends ≡ length left
+      → sum_by (λ pe. pe.count) (all_reopened pes ends left) ≡ sum_by (λ pe. pe.count) ends
   all_counts [] [] same = refl
   all_counts [] (queue ∷ left) same = absurd (omega (arith, same))
   all_counts (pe ∷ ends) [] same = absurd (omega (arith, same))
@@ -98,7 +99,8 @@ module _ {C : Type 0} (step : Step C) (opened : List C) (pes : ℕ) (ends : List
 
   letters_same : (g : Weight) → sum_by (weigh g) (letters again) ≡ sum_by (weigh g) (letters before)
   letters_same g =
-      let a : sum_by (weigh g) (letters again) ≡ sum_by (λ (pe : PeView C). of_pe g no_life pe) (all_reopened pes ends left) + sum_by (of_queue g no_life) [] = world_letters g again in
+      let a : sum_by (weigh g) (letters again) ≡ sum_by (λ (pe : PeView C). of_pe g no_life pe) (all_reopened pes ends left) + sum_by
+      (of_queue g no_life) [] = world_letters g again in
       let b : sum_by (weigh g) (letters before) ≡ sum_by (λ (pe : PeView C). of_pe g no_life pe) ends + sum_by (of_queue g no_life) left = world_letters g before in
       let z : sum_by (of_queue g no_life) [] ≡ 0 = refl in
       omega (arith, a, b, z, all_weigh pes g no_life ends left same)

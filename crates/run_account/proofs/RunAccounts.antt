@@ -46,7 +46,8 @@ left_each h (xs ∷ puts) [] (v ∷ left) p t b = absurd (omega (arith, t))
 left_each {X} {A} h (xs ∷ puts) (ys ∷ takes) (v ∷ left) p t b =
     let a : sum_each h (xs ∷ puts) ≡ sum_by h xs + sum_each h puts = sum_by-cons (sum_by h) xs puts in
     let c : sum_each h (ys ∷ takes) ≡ sum_by h ys + sum_each h takes = sum_by-cons (sum_by h) ys takes in
-    let d : sum_each h (v.items ∷ map (λ (u : Vec X A). u.items) left) ≡ sum_by h v.items + sum_each h (map (λ (u : Vec X A). u.items) left) = sum_by-cons (sum_by h) v.items (map (λ (u : Vec X A). u.items) left) in
+    let d : sum_each h (v.items ∷ map (λ (u : Vec X A). u.items) left) ≡ sum_by h v.items + sum_each h
+    (map (λ (u : Vec X A). u.items) left) = sum_by-cons (sum_by h) v.items (map (λ (u : Vec X A). u.items) left) in
     let e : sum_by h xs ≡ sum_by h ys + sum_by h v.items = b 0 v (omega arith) h in
     let f = left_each h puts takes left (omega (arith, p)) (omega (arith, t)) (λ k u lt. b (suc k) u (omega (arith, lt))) in
     omega (arith, a, c, d, e, f)
@@ -133,7 +134,8 @@ known_is j None = refl
 known_is j (Some pe) = refl
 
 -- all seats are joined
-pub all_seats : {C : Type 0} (step : Step C) (fits : C → Type 0) (pack : C → List ℕ) (opened : List C) (run : Beginning C) (ends : List (PeView C)) (seat : SeatView Parcel) → AreGathered step fits pack opened run ends seat
+pub all_seats : {C : Type 0} (step : Step C) (fits : C → Type 0) (pack : C → List ℕ) (opened : List C) (run : Beginning C)
+    (ends : List (PeView C)) (seat : SeatView Parcel) → AreGathered step fits pack opened run ends seat
     → length ends ≡ length run.shares → sum_by (λ n. n) run.shares ≡ SEATS → seat.seats ≡ SEATS
 all_seats {C} step fits pack opened run ends seat t same all =
     let g : ℕ → ℕ = λ q. share_at run.shares q in
@@ -144,7 +146,8 @@ all_seats {C} step fits pack opened run ends seat t same all =
 
 -- ---- the account
 
-module _ {C A B : Type 0} (step : Step C) (fits : C → Type 0) (pack : C → List ℕ) (opened : List C) (run : Beginning C) (ends : List (PeView C)) (seat : SeatView Parcel) (left : List (Vec Parcel A)) (words : List ℕ) (b : BoardState B)
+module _ {C A B : Type 0} (step : Step C) (fits : C → Type 0) (pack : C → List ℕ) (opened : List C) (run : Beginning C)
+    (ends : List (PeView C)) (seat : SeatView Parcel) (left : List (Vec Parcel A)) (words : List ℕ) (b : BoardState B)
     (t : AreGathered step fits pack opened run ends seat) (l : AreLeft seat left)
     (before : IsRunAccount step opened (left_world run.starts [])) (ordered : InOrder 0 run.starts) (same_length : length ends ≡ length run.starts) where
   abbrev pub queues : List (List Parcel)
@@ -161,7 +164,8 @@ module _ {C A B : Type 0} (step : Step C) (fits : C → Type 0) (pack : C → Li
   starts_sum : (f : PeView C → ℕ) → sum_by (λ pe. at_start f run.starts pe.me) ends ≡ sum_by f run.starts
   starts_sum f =
       let g : ℕ → ℕ = λ q. at_start f run.starts q in
-      let s : sum_by (λ (pe : PeView C). g pe.me) ends ≡ sum_by g (range_with_len 0 (length ends)) = sym (sum_by-map g (λ (pe : PeView C). pe.me) ends) ∙ ap (sum_by g) t.in_order in
+      let s : sum_by (λ (pe : PeView C). g pe.me) ends ≡ sum_by g (range_with_len 0 (length ends)) = sym
+      (sum_by-map g (λ (pe : PeView C). pe.me) ends) ∙ ap (sum_by g) t.in_order in
       let r : sum_by g (range_with_len 0 (length ends)) ≡ sum_by g (range_with_len 0 (length run.starts)) = ap (λ (v : ℕ). sum_by g (range_with_len 0 v)) same_length in
       let p : sum_by g (range_with_len 0 (length run.starts)) ≡ sum_by f run.starts = sum_places f run.starts in
       omega (arith, s, r, p)
@@ -169,17 +173,22 @@ module _ {C A B : Type 0} (step : Step C) (fits : C → Type 0) (pack : C → Li
   -- the letters of PEs, whose queues are empty, are in places or in journals
   letters_begun : (g : Weight) → sum_by (letters_of g) run.starts ≡ sum_by (weigh g) (letters begun) + sum_by (weigh g) (journaled begun)
   letters_begun g =
-      let e : sum_by (letters_of g) run.starts ≡ sum_by (λ (pe : PeView C). of_pe g no_life pe + of_pe no_letter (in_journal g) pe) run.starts = sum_by-same (letters_of g) (λ pe. of_pe g no_life pe + of_pe no_letter (in_journal g) pe) (pe_all g) run.starts in
-      let e2 : sum_by (λ (pe : PeView C). of_pe g no_life pe + of_pe no_letter (in_journal g) pe) run.starts ≡ sum_by (λ (pe : PeView C). of_pe g no_life pe) run.starts + sum_by (λ (pe : PeView C). of_pe no_letter (in_journal g) pe) run.starts = sum_by-both (λ (pe : PeView C). of_pe g no_life pe) (λ pe. of_pe no_letter (in_journal g) pe) run.starts in
+      let e : sum_by (letters_of g) run.starts ≡ sum_by (λ (pe : PeView C). of_pe g no_life pe + of_pe no_letter (in_journal g) pe)
+      run.starts = sum_by-same (letters_of g) (λ pe. of_pe g no_life pe + of_pe no_letter (in_journal g) pe) (pe_all g) run.starts in
+      let e2 : sum_by (λ (pe : PeView C). of_pe g no_life pe + of_pe no_letter (in_journal g) pe) run.starts ≡ sum_by
+      (λ (pe : PeView C). of_pe g no_life pe) run.starts + sum_by (λ (pe : PeView C). of_pe no_letter (in_journal g) pe)
+      run.starts = sum_by-both (λ (pe : PeView C). of_pe g no_life pe) (λ pe. of_pe no_letter (in_journal g) pe) run.starts in
       let x : sum_by (weigh g) (letters begun) ≡ sum_by (λ (pe : PeView C). of_pe g no_life pe) run.starts + sum_by (of_queue g no_life) [] = world_letters g begun in
-      let y : sum_by (weigh g) (journaled begun) ≡ sum_by (λ (pe : PeView C). of_pe no_letter (in_journal g) pe) run.starts + sum_by (of_queue no_letter (in_journal g)) [] = world_journals g begun in
+      let y : sum_by (weigh g) (journaled begun) ≡ sum_by (λ (pe : PeView C). of_pe no_letter (in_journal g) pe) run.starts + sum_by
+      (of_queue no_letter (in_journal g)) [] = world_journals g begun in
       let u : sum_by (of_queue g no_life) [] ≡ 0 = refl in
       let v : sum_by (of_queue no_letter (in_journal g)) [] ≡ 0 = refl in
       omega (arith, e, e2, x, y, u, v)
 
   lives_begun : (k : Life → ℕ) → sum_by (lives_of k) run.starts ≡ sum_by k (lives begun)
   lives_begun k =
-      let e : sum_by (lives_of k) run.starts ≡ sum_by (λ (pe : PeView C). of_pe no_letter k pe) run.starts = sum_by-same (lives_of k) (λ pe. of_pe no_letter k pe) (pe_lives k) run.starts in
+      let e : sum_by (lives_of k) run.starts ≡ sum_by (λ (pe : PeView C). of_pe no_letter k pe) run.starts = sum_by-same (lives_of k)
+      (λ pe. of_pe no_letter k pe) (pe_lives k) run.starts in
       let x : sum_by k (lives begun) ≡ sum_by (λ (pe : PeView C). of_pe no_letter k pe) run.starts + sum_by (of_queue no_letter k) [] = world_lives k begun in
       let u : sum_by (of_queue no_letter k) [] ≡ 0 = refl in
       omega (arith, e, x, u)
@@ -204,12 +213,18 @@ module _ {C A B : Type 0} (step : Step C) (fits : C → Type 0) (pack : C → Li
       let fg : sum_by (weigh g) (flat_map all_letters_in t.ledger.gone) ≡ sum_by h t.ledger.gone = sum_by-flat_map (weigh g) all_letters_in t.ledger.gone in
       let fc : sum_by (weigh g) (flat_map all_letters_in t.ledger.came) ≡ sum_by h t.ledger.came = sum_by-flat_map (weigh g) all_letters_in t.ledger.came in
       let lg = left_gone h in
-      let e : sum_by (letters_of g) ends ≡ sum_by (λ (pe : PeView C). of_pe g no_life pe + of_pe no_letter (in_journal g) pe) ends = sum_by-same (letters_of g) (λ pe. of_pe g no_life pe + of_pe no_letter (in_journal g) pe) (pe_all g) ends in
-      let e2 : sum_by (λ (pe : PeView C). of_pe g no_life pe + of_pe no_letter (in_journal g) pe) ends ≡ sum_by (λ (pe : PeView C). of_pe g no_life pe) ends + sum_by (λ (pe : PeView C). of_pe no_letter (in_journal g) pe) ends = sum_by-both (λ (pe : PeView C). of_pe g no_life pe) (λ pe. of_pe no_letter (in_journal g) pe) ends in
-      let q : sum_each h queues ≡ sum_by (λ xs. of_queue g no_life xs + of_queue no_letter (in_journal g) xs) queues = sum_by-same (λ xs. sum_by h xs) (λ xs. of_queue g no_life xs + of_queue no_letter (in_journal g) xs) (λ xs. sym (sum_by-flat_map (weigh g) all_letters_in xs) ∙ parcels_all g xs) queues in
+      let e : sum_by (letters_of g) ends ≡ sum_by (λ (pe : PeView C). of_pe g no_life pe + of_pe no_letter (in_journal g) pe)
+      ends = sum_by-same (letters_of g) (λ pe. of_pe g no_life pe + of_pe no_letter (in_journal g) pe) (pe_all g) ends in
+      let e2 : sum_by (λ (pe : PeView C). of_pe g no_life pe + of_pe no_letter (in_journal g) pe) ends ≡ sum_by
+      (λ (pe : PeView C). of_pe g no_life pe) ends + sum_by (λ (pe : PeView C). of_pe no_letter (in_journal g) pe) ends = sum_by-both
+      (λ (pe : PeView C). of_pe g no_life pe) (λ pe. of_pe no_letter (in_journal g) pe) ends in
+      let q : sum_each h queues ≡ sum_by (λ xs. of_queue g no_life xs + of_queue no_letter (in_journal g) xs) queues = sum_by-same
+      (λ xs. sum_by h xs) (λ xs. of_queue g no_life xs + of_queue no_letter (in_journal g) xs)
+      (λ xs. sym (sum_by-flat_map (weigh g) all_letters_in xs) ∙ parcels_all g xs) queues in
       let q2 = sum_by-both (of_queue g no_life) (of_queue no_letter (in_journal g)) queues in
       let x : sum_by (weigh g) (letters w) ≡ sum_by (λ (pe : PeView C). of_pe g no_life pe) ends + sum_by (of_queue g no_life) queues = world_letters g w in
-      let y : sum_by (weigh g) (journaled w) ≡ sum_by (λ (pe : PeView C). of_pe no_letter (in_journal g) pe) ends + sum_by (of_queue no_letter (in_journal g)) queues = world_journals g w in
+      let y : sum_by (weigh g) (journaled w) ≡ sum_by (λ (pe : PeView C). of_pe no_letter (in_journal g) pe) ends + sum_by
+      (of_queue no_letter (in_journal g)) queues = world_journals g w in
       omega (arith, a, fg, fc, lg, e, e2, q, q2, x, y, starts_sum (letters_of g), letters_begun g, before.whole g, all_posts.whole (weigh g))
 
   lives_all : (k : Life → ℕ) → IsSteady k → sum_by k (lives w) ≡ sum_by k (lives begun)
@@ -219,8 +234,10 @@ module _ {C A B : Type 0} (step : Step C) (fits : C → Type 0) (pack : C → Li
       let fg : sum_by k (flat_map lives_in t.ledger.gone) ≡ sum_by h t.ledger.gone = sum_by-flat_map k lives_in t.ledger.gone in
       let fc : sum_by k (flat_map lives_in t.ledger.came) ≡ sum_by h t.ledger.came = sum_by-flat_map k lives_in t.ledger.came in
       let lg = left_gone h in
-      let e : sum_by (lives_of k) ends ≡ sum_by (λ (pe : PeView C). of_pe no_letter k pe) ends = sum_by-same (λ (pe : PeView C). lives_of k pe) (λ pe. of_pe no_letter k pe) (pe_lives k) ends in
-      let q : sum_each h queues ≡ sum_by (of_queue no_letter k) queues = sum_by-same (λ xs. sum_by h xs) (of_queue no_letter k) (λ xs. sym (sum_by-flat_map k lives_in xs) ∙ queue_lives k xs) queues in
+      let e : sum_by (lives_of k) ends ≡ sum_by (λ (pe : PeView C). of_pe no_letter k pe) ends = sum_by-same
+      (λ (pe : PeView C). lives_of k pe) (λ pe. of_pe no_letter k pe) (pe_lives k) ends in
+      let q : sum_each h queues ≡ sum_by (of_queue no_letter k) queues = sum_by-same (λ xs. sum_by h xs) (of_queue no_letter k)
+      (λ xs. sym (sum_by-flat_map k lives_in xs) ∙ queue_lives k xs) queues in
       let x : sum_by k (lives w) ≡ sum_by (λ (pe : PeView C). of_pe no_letter k pe) ends + sum_by (of_queue no_letter k) queues = world_lives k w in
       omega (arith, a, fg, fc, lg, e, q, x, starts_sum (lives_of k), lives_begun k)
 
@@ -229,30 +246,41 @@ module _ {C A B : Type 0} (step : Step C) (fits : C → Type 0) (pack : C → Li
       let h : Parcel → ℕ = λ p. sum_by weight (flat_map (sends_of step opened) (lives_in p)) in
       let k : Life → ℕ = sends_weight step opened weight in
       let a = t.sent weight in
-      let flat : (xs : List Parcel) → sum_by weight (flat_map (sends_of step opened) (flat_map lives_in xs)) ≡ sum_by (of_parcel no_letter k) xs = λ xs. sum_by-flat_map weight (sends_of step opened) (flat_map lives_in xs) ∙ queue_lives k xs in
+      let flat : (xs : List Parcel) → sum_by weight (flat_map (sends_of step opened) (flat_map lives_in xs)) ≡ sum_by
+      (of_parcel no_letter k) xs = λ xs. sum_by-flat_map weight (sends_of step opened) (flat_map lives_in xs) ∙ queue_lives k xs in
       let lg = left_gone (of_parcel no_letter k) in
-      let by_pe : (xs : List (PeView C)) → sum_by (sends_by step opened weight) xs ≡ sum_by (λ (pe : PeView C). of_pe no_letter k pe) xs = λ xs. sum_by-same (sends_by step opened weight) (λ pe. of_pe no_letter k pe) (λ pe. sum_by-flat_map weight (sends_of step opened) (lives_at pe) ∙ pe_lives k pe) xs in
+      let by_pe : (xs : List (PeView C)) → sum_by (sends_by step opened weight) xs ≡ sum_by (λ (pe : PeView C). of_pe no_letter k pe)
+      xs = λ xs. sum_by-same (sends_by step opened weight) (λ pe. of_pe no_letter k pe)
+      (λ pe. sum_by-flat_map weight (sends_of step opened) (lives_at pe) ∙ pe_lives k pe) xs in
       let e = by_pe ends in
-      let x : sum_by weight (sends step opened w) ≡ sum_by (λ (pe : PeView C). of_pe no_letter k pe) ends + sum_by (of_queue no_letter k) queues = sum_by-flat_map weight (sends_of step opened) (lives w) ∙ world_lives k w in
-      let p : sum_by (λ l. weight (message l)) (letters w) + sum_by (λ l. weight (message l)) (journaled w) ≡ sum_by (λ l. weight (message l)) all_posts.posts = letters_all (by_message weight) in
+      let x : sum_by weight (sends step opened w) ≡ sum_by (λ (pe : PeView C). of_pe no_letter k pe) ends + sum_by (of_queue no_letter k)
+      queues = sum_by-flat_map weight (sends_of step opened) (lives w) ∙ world_lives k w in
+      let p : sum_by (λ l. weight (message l)) (letters w) + sum_by (λ l. weight (message l)) (journaled w) ≡ sum_by
+      (λ l. weight (message l)) all_posts.posts = letters_all (by_message weight) in
       let b : sum_by (sends_by step opened weight) run.starts ≡ sum_by weight (sends step opened begun) = by_pe run.starts ∙ sends_begun k weight in
       let c = before.sent weight in
-      let d : sum_by (λ l. weight (message l)) (letters begun) + sum_by (λ l. weight (message l)) (journaled begun) ≡ sum_by (λ l. weight (message l)) before.posts = before.whole (by_message weight) in
-      let f : sum_by (λ l. weight (message l)) all_posts.posts ≡ sum_by (λ l. weight (message l)) before.posts + sum_by (λ l. weight (message l)) t.ledger.posted = all_posts.whole (λ l. weight (message l)) in
+      let d : sum_by (λ l. weight (message l)) (letters begun) + sum_by (λ l. weight (message l)) (journaled begun) ≡ sum_by
+      (λ l. weight (message l)) before.posts = before.whole (by_message weight) in
+      let f : sum_by (λ l. weight (message l)) all_posts.posts ≡ sum_by (λ l. weight (message l)) before.posts + sum_by
+      (λ l. weight (message l)) t.ledger.posted = all_posts.whole (λ l. weight (message l)) in
       omega (arith, a, flat t.ledger.gone, flat t.ledger.came, lg, e, x, p, b, c, d, f, starts_sum (sends_by step opened weight))
     where
-      sends_begun : (k : Life → ℕ) (weight : ℕ × List ℕ → ℕ) → sum_by (λ (pe : PeView C). of_pe no_letter (sends_weight step opened weight) pe) run.starts ≡ sum_by weight (sends step opened begun)
+      sends_begun : (k : Life → ℕ) (weight : ℕ × List ℕ → ℕ)
+          → sum_by (λ (pe : PeView C). of_pe no_letter (sends_weight step opened weight) pe) run.starts ≡ sum_by weight (sends step opened begun)
       sends_begun k weight =
           let j : Life → ℕ = sends_weight step opened weight in
-          let x : sum_by weight (sends step opened begun) ≡ sum_by (λ (pe : PeView C). of_pe no_letter j pe) run.starts + sum_by (of_queue no_letter j) [] = sum_by-flat_map weight (sends_of step opened) (lives begun) ∙ world_lives j begun in
+          let x : sum_by weight (sends step opened begun) ≡ sum_by (λ (pe : PeView C). of_pe no_letter j pe) run.starts + sum_by
+          (of_queue no_letter j) [] = sum_by-flat_map weight (sends_of step opened) (lives begun) ∙ world_lives j begun in
           let u : sum_by (of_queue no_letter j) [] ≡ 0 = refl in
           omega (arith, x, u)
 
   once_all : (id : ℕ × ℕ) → times (λ l. is_number id l.id) (letters w) + times (λ l. is_number id l.id) (journaled w) ≡ posted_times id ends
   once_all id =
       let p = letters_all (λ n to body. number_in id n) in
-      let m : sum_by (λ (x : LetterView). number_in id x.id) all_posts.posts ≡ sum_by (number_in id) (map (λ (x : LetterView). x.id) all_posts.posts) = sym (sum_by-map (number_in id) (λ (x : LetterView). x.id) all_posts.posts) in
-      let n : sum_by (number_in id) (map (λ (x : LetterView). x.id) all_posts.posts) ≡ sum_by (number_in id) (flat_map numbers_of ends) = ap (sum_by (number_in id)) all_posts.numbered in
+      let m : sum_by (λ (x : LetterView). number_in id x.id) all_posts.posts ≡ sum_by (number_in id)
+      (map (λ (x : LetterView). x.id) all_posts.posts) = sym (sum_by-map (number_in id) (λ (x : LetterView). x.id) all_posts.posts) in
+      let n : sum_by (number_in id) (map (λ (x : LetterView). x.id) all_posts.posts) ≡ sum_by (number_in id) (flat_map numbers_of ends) = ap
+      (sum_by (number_in id)) all_posts.numbered in
       let z : id.0 ≡ 0 + id.0 = omega arith in
       let k : sum_by (number_in id) (flat_map numbers_of ends) ≡ known id.1 (slice_get ends id.0) = numbers_at id.0 id.1 0 id.0 ends t.in_order z in
       omega (arith, p, m, n, k, known_is id.1 (slice_get ends id.0))
@@ -272,7 +300,8 @@ module _ {C A B : Type 0} (step : Step C) (fits : C → Type 0) (pack : C → Li
       many : (xs : List (PeView C)) → length (flat_map numbers_of xs) ≡ sum_by (λ pe. pe.count) xs
       many [] = refl
       many (x ∷ xs) =
-          let a : length (numbers_of x ++ flat_map numbers_of xs) ≡ length (numbers_of x) + length (flat_map numbers_of xs) = length-append (numbers_of x) (flat_map numbers_of xs) in
+          let a : length (numbers_of x ++ flat_map numbers_of xs) ≡ length (numbers_of x) + length (flat_map numbers_of xs) = length-append
+          (numbers_of x) (flat_map numbers_of xs) in
           let d : length (numbers_of x) ≡ x.count = length-map-range_with_len (λ k. (x.me, k)) 0 x.count in
           let c = sum_by-cons (λ (pe : PeView C). pe.count) x xs in
           omega (arith, a, d, c, many xs)
@@ -284,4 +313,13 @@ module _ {C A B : Type 0} (step : Step C) (fits : C → Type 0) (pack : C → Li
   own_all = zero_all_own (lives w) (lives_all others_in others_steady ∙ all_own_zero (lives begun) before.own)
 
   pub accounted : IsRunAccount step opened w
-  accounted = record { once = once_all; posts = all_posts.posts; numbered = all_posts.numbered; whole = letters_all; own = own_all; stands = stands_all; counted = counted_all; sent = sent_all }
+  accounted = record {
+    once = once_all;
+    posts = all_posts.posts;
+    numbered = all_posts.numbered;
+    whole = letters_all;
+    own = own_all;
+    stands = stands_all;
+    counted = counted_all;
+    sent = sent_all;
+  }

@@ -48,17 +48,24 @@ abbrev pub share_at : List ℕ → ℕ → ℕ
 share_at shares q = option_map_or (λ n. n) (slice_get shares q) 0
 
 -- the first PEs of a run, in order, and the seat that their seats were joined to
-pub record AreGathered {C : Type 0} (step : Step C) (fits : C → Type 0) (pack : C → List ℕ) (opened : List C) (run : Beginning C) (ends : List (PeView C)) (seat : SeatView Parcel) : Type 0 where
+pub record AreGathered {C : Type 0} (step : Step C) (fits : C → Type 0) (pack : C → List ℕ) (opened : List C) (run : Beginning C)
+    (ends : List (PeView C)) (seat : SeatView Parcel) : Type 0 where
   pub own : seat.post ≡ run.post
   pub share : seat.seats ≡ sum_by (λ pe. share_at run.shares pe.me) ends
   pub histories : All (HasHistories step fits pack opened) ends
   pub in_order : map (λ pe. pe.me) ends ≡ range_with_len 0 (length ends)
   pub ledger : Ledger
-  pub letters : (weight : ℕ × ℕ → ℕ → List ℕ → ℕ) → sum_by (letters_of weight) ends + sum_by (weigh weight) (flat_map all_letters_in ledger.gone) ≡ sum_by (λ pe. at_start (letters_of weight) run.starts pe.me) ends + sum_by (weigh weight) (flat_map all_letters_in ledger.came) + sum_by (weigh weight) ledger.posted
+  pub letters : (weight : ℕ × ℕ → ℕ → List ℕ → ℕ) → sum_by (letters_of weight) ends + sum_by (weigh weight)
+      (flat_map all_letters_in ledger.gone) ≡ sum_by (λ pe. at_start (letters_of weight) run.starts pe.me) ends + sum_by (weigh weight)
+      (flat_map all_letters_in ledger.came) + sum_by (weigh weight) ledger.posted
   pub grown : All (λ pe. count_before run.starts pe.me ≤ pe.count) ends
   pub numbered : map (λ l. l.id) ledger.posted ≡ flat_map (numbers_since run.starts) ends
-  pub lives : (weight : Life → ℕ) → IsSteady weight → sum_by (lives_of weight) ends + sum_by weight (flat_map lives_in ledger.gone) ≡ sum_by (λ pe. at_start (lives_of weight) run.starts pe.me) ends + sum_by weight (flat_map lives_in ledger.came)
-  pub sent : (weight : ℕ × List ℕ → ℕ) → sum_by (sends_by step opened weight) ends + sum_by weight (flat_map (sends_of step opened) (flat_map lives_in ledger.gone)) ≡ sum_by (λ pe. at_start (sends_by step opened weight) run.starts pe.me) ends + sum_by (λ l. weight (message l)) ledger.posted + sum_by weight (flat_map (sends_of step opened) (flat_map lives_in ledger.came))
+  pub lives : (weight : Life → ℕ) → IsSteady weight → sum_by (lives_of weight) ends + sum_by weight (flat_map lives_in ledger.gone) ≡ sum_by
+      (λ pe. at_start (lives_of weight) run.starts pe.me) ends + sum_by weight (flat_map lives_in ledger.came)
+  pub sent : (weight : ℕ × List ℕ → ℕ) → sum_by (sends_by step opened weight) ends + sum_by weight
+      (flat_map (sends_of step opened) (flat_map lives_in ledger.gone)) ≡ sum_by
+      (λ pe. at_start (sends_by step opened weight) run.starts pe.me) ends + sum_by (λ l. weight (message l)) ledger.posted + sum_by weight
+      (flat_map (sends_of step opened) (flat_map lives_in ledger.came))
   pub matches : Matches ledger seat
 
 -- such PEs, as contracts see them, with the capacity that was reserved for all

@@ -48,7 +48,8 @@ with_schedules app =
 
 -- the program with its arguments, to which clap adds those that ask for help and for the version
 abbrev pub program : App
-program = with_rule (with_schedules (with_rule (with_rule (with_rule (with_rule (with_rule (versioned (codes "charm_run")) file_rule) dump_rule) lbd1_rule) progress_rule) tolerance_rule)) no_journal_rule
+program = with_rule (with_schedules (with_rule (with_rule
+    (with_rule (with_rule (with_rule (versioned (codes "charm_run")) file_rule) dump_rule) lbd1_rule) progress_rule) tolerance_rule)) no_journal_rule
 
 -- the argument that names the file
 abbrev pub file_in : List Text → Option Text

@@ -28,7 +28,8 @@ use Rattle.workload_run.specs.declared.ended.Ended.{Ended}
 use Rattle.schedule_run.specs.OneThread.{IsRunOnOne, RefusesRun, StopsRun, Unpack}
 
 -- what a run of these chares on this number of PEs left
-pub on_one : {A : Type 0} (fits : TallyView → Type 0) (unpack : Unpack) (chares chares' : List TallyView) (pes pes' : ℕ) (strategy strategy' : Strategy) (x : ExploredView TallyView A)
+pub on_one : {A : Type 0} (fits : TallyView → Type 0) (unpack : Unpack) (chares chares' : List TallyView) (pes pes' : ℕ)
+    (strategy strategy' : Strategy) (x : ExploredView TallyView A)
     → chares ≡ chares' → pes ≡ pes' → strategy ≡ strategy'
     → IsExplored tally_step fits tally_pack unpack chares pes strategy x
     → IsExplored tally_step fits tally_pack unpack chares' pes' strategy' x
@@ -38,7 +39,8 @@ on_one fits unpack chares chares' pes pes' strategy strategy' x same_chares same
     (subst (λ (s : Strategy). IsExplored tally_step fits tally_pack unpack chares pes s x) same_strategy left))
 
 -- its steps are those that a seed draws
-pub drawn_on_one : {A : Type 0} (unpack : Unpack) (bias bias' : Bias) (seed : ℕ) (chares chares' : List TallyView) (pes pes' : ℕ) (strategy strategy' : Strategy) (x : ExploredView TallyView A)
+pub drawn_on_one : {A : Type 0} (unpack : Unpack) (bias bias' : Bias) (seed : ℕ) (chares chares' : List TallyView) (pes pes' : ℕ)
+    (strategy strategy' : Strategy) (x : ExploredView TallyView A)
     → bias ≡ bias' → chares ≡ chares' → pes ≡ pes' → strategy ≡ strategy'
     → IsDrawn tally_step tally_pack unpack bias seed (opening_world pes chares strategy) x
     → IsDrawn tally_step tally_pack unpack bias' seed (opening_world pes' chares' strategy') x
@@ -49,7 +51,8 @@ drawn_on_one unpack bias bias' seed chares chares' pes pes' strategy strategy' x
     (subst (λ (s : Strategy). IsDrawn tally_step tally_pack unpack bias seed (opening_world pes chares s) x) same_strategy drawn)))
 
 -- what was told of the runs of these chares on this number of PEs
-pub seeds_on_one : (A : Type 0) (fits : TallyView → Type 0) (unpack : Unpack) (bias bias' : Bias) (chares chares' : List TallyView) (pes pes' : ℕ) (strategy strategy' : Strategy) (seeds : ℕ) (old new : Option (List ℕ)) (ended : Ended)
+pub seeds_on_one : (A : Type 0) (fits : TallyView → Type 0) (unpack : Unpack) (bias bias' : Bias) (chares chares' : List TallyView)
+    (pes pes' : ℕ) (strategy strategy' : Strategy) (seeds : ℕ) (old new : Option (List ℕ)) (ended : Ended)
     → bias ≡ bias' → chares ≡ chares' → pes ≡ pes' → strategy ≡ strategy'
     → TellsSeeds A tally_step fits tally_pack unpack chares pes strategy bias seeds old new ended
     → TellsSeeds A tally_step fits tally_pack unpack chares' pes' strategy' bias' seeds old new ended
@@ -104,7 +107,8 @@ module _ (A : Type 0) (unpack : Unpack) (w : WorkloadView) (chares : List TallyV
   )
 
   pub refused_run : {T : Type 0} (r : Result T ReplayError) → IsWithin w → chares ≡ tallies_of w → schedule.pes ≡ w.pes → schedule.strategy ≡ strategy
-      → MatchResult r (λ _. MayExplore schedule (length chares)) (RefusesReplay A tally_step tally_pack unpack chares schedule events) → IfErr r (RefusesRun A unpack w strategy events)
+      → MatchResult r (λ _. MayExplore schedule (length chares)) (RefusesReplay A tally_step tally_pack unpack chares schedule events)
+      → IfErr r (RefusesRun A unpack w strategy events)
   refused_run (Ok x) within same_chares same_pes same_strategy answer = tt
   refused_run (Err e) within same_chares same_pes same_strategy answer =
       refuses_run e (may_explore w schedule chares within same_chares same_pes) same_chares same_pes same_strategy answer

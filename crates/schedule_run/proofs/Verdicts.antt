@@ -8,7 +8,8 @@ use Rattle.schedules.specs.declared.bias.Bias.{Bias}
 use Rattle.schedule_run.specs.Seeds.{AreVerdicts, IsVerdict}
 use Rattle.schedule_run.specs.declared.verdict.Verdict.{Verdict}
 
-module _ {C : Type 0} (A : Type 0) (step : Step C) (fits : C → Type 0) (pack : C → List ℕ) (unpack : List ℕ → Result (C × ℕ) PupError) (chares : List C) (pes : ℕ) (strategy : Strategy) (bias : Bias) where
+module _ {C : Type 0} (A : Type 0) (step : Step C) (fits : C → Type 0) (pack : C → List ℕ) (unpack : List ℕ → Result (C × ℕ) PupError)
+    (chares : List C) (pes : ℕ) (strategy : Strategy) (bias : Bias) where
   pub verdicts_more : (seed : ℕ) (vs : List Verdict) (v : Verdict) (next : ℕ) → next ≡ seed + length vs → AreVerdicts A step fits pack unpack chares pes strategy bias seed vs
       → IsVerdict A step fits pack unpack chares pes strategy bias next v → AreVerdicts A step fits pack unpack chares pes strategy bias seed (vs ++ v ∷ [])
   verdicts_more seed [] v next is all one =

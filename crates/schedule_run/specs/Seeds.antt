@@ -23,7 +23,8 @@ use Rattle.workload_run.specs.Telling.{TellsOutcome, WritesText}
 use Rattle.workload_run.specs.declared.ended.Ended.{Ended}
 use Rattle.workload_run.specs.declared.ended.Ended.TheVariants.{OutOfMemory}
 
-module _ {C : Type 0} (A : Type 0) (step : Step C) (fits : C → Type 0) (pack : C → List ℕ) (unpack : List ℕ → Result (C × ℕ) PupError) (chares : List C) (pes : ℕ) (strategy : Strategy) (bias : Bias) where
+module _ {C : Type 0} (A : Type 0) (step : Step C) (fits : C → Type 0) (pack : C → List ℕ) (unpack : List ℕ → Result (C × ℕ) PupError)
+    (chares : List C) (pes : ℕ) (strategy : Strategy) (bias : Bias) where
   -- how the run of these chares by this seed ended, whose steps are those that the seed draws: its fault, and how many letters it
   -- left
   abbrev pub IsVerdict : ℕ → Verdict → Type 0
@@ -71,7 +72,8 @@ fault_of_first verdicts = first_fault (map (λ v. v.fault) verdicts)
 
 -- These chares were run by each of the seeds from 1 to this number, and the text of that was written, or a prefix of it; or memory
 -- was refused, and the line for that was written, or a prefix of it.
-abbrev pub TellsSeeds : {C : Type 0} (A : Type 0) → Step C → (C → Type 0) → (C → List ℕ) → (List ℕ → Result (C × ℕ) PupError) → List C → ℕ → Strategy → Bias → ℕ → Option (List ℕ) → Option (List ℕ) → Ended → Type 0
+abbrev pub TellsSeeds : {C : Type 0} (A : Type 0) → Step C → (C → Type 0) → (C → List ℕ) → (List ℕ → Result (C × ℕ) PupError) → List C → ℕ
+    → Strategy → Bias → ℕ → Option (List ℕ) → Option (List ℕ) → Ended → Type 0
 TellsSeeds A step fits pack unpack chares pes strategy bias seeds old new ended =
     ((verdicts : List Verdict) × AreVerdicts A step fits pack unpack chares pes strategy bias 1 verdicts × (length verdicts ≡ seeds)
     × TellsOutcome (seeds_text verdicts) old new (fault_of_first verdicts) ended)

@@ -213,7 +213,8 @@ module _ {C A : Type 0} (w : WorldView C A) where
       get_or-set_same c.elements e may false (omega (arith, slice_get_within c.places e place at, flags.elements))
       ∙ is ∙ sym (ap (λ o. is_some (option_and_then (element_event w e) o)) at)
 
-  pub put_element : (c : ChoicesView) (e number place : ℕ) (may : Bool) (flags' : List Bool) → AreFlags c → flags' ≡ slice_set c.elements number may → number ≡ e → slice_get c.places e ≡ Some place
+  pub put_element : (c : ChoicesView) (e number place : ℕ) (may : Bool) (flags' : List Bool) → AreFlags c
+      → flags' ≡ slice_set c.elements number may → number ≡ e → slice_get c.places e ≡ Some place
       → may ≡ is_some (element_event w e place) → KnowsElement w (record c { elements = flags' }) e
   put_element c e number place may flags' flags put same at is =
       ap (λ (xs : List Bool). has xs e) (put ∙ ap (λ (k : ℕ). slice_set c.elements k may) same) ∙ put_known c e place may flags at is

@@ -67,8 +67,10 @@ module _ (test : ℕ → Bool) where
   pub nth_at : (at n k : ℕ) → test at ≡ true → at < n → k ≡ count at → slice_get (those test n) k ≡ Some at
   nth_at at n k passes within e =
       let split : those test n ≡ those test at ++ filter test (range_with_len at (suc (n - suc at))) =
-      ap (filter test) (range_split 0 at (suc (n - suc at)) n at (omega (arith, within)) (omega arith)) ∙ filter-append test (range_with_len 0 at) (range_with_len at (suc (n - suc at))) in
-      ap (λ (xs : List ℕ). slice_get xs k) split ∙ ap (λ (i : ℕ). slice_get (those test at ++ filter test (range_with_len at (suc (n - suc at)))) i) e ∙ nth_by at (n - suc at) (test at) passes
+      ap (filter test) (range_split 0 at (suc (n - suc at)) n at (omega (arith, within)) (omega arith))
+      ∙ filter-append test (range_with_len 0 at) (range_with_len at (suc (n - suc at))) in
+      ap (λ (xs : List ℕ). slice_get xs k) split ∙ ap (λ (i : ℕ). slice_get
+      (those test at ++ filter test (range_with_len at (suc (n - suc at)))) i) e ∙ nth_by at (n - suc at) (test at) passes
 
   pub nth_past : (n k : ℕ) → count n ≤ k → slice_get (those test n) k ≡ None
   nth_past n k past = slice_get_past (those test n) k past
@@ -136,7 +138,8 @@ module _ (flags : List Bool) (i : ℕ) (b : Bool) (within : i < length flags) wh
     each_by : (k : ℕ) → k < length blocks → ((eqb k (i / 256) ≡ true) × (k ≡ i / 256)) ⊎ ((eqb k (i / 256) ≡ false) × (k ≢ i / 256)) → (k * 256 + 256 ≤ i) ⊎ (i < k * 256 + 256)
         → get_or (slice_set blocks (i / 256) count') k 0 + below now (k * 256) ≡ below now (k * 256 + 256)
     each_by k inside (inl (t, e)) side =
-        let at : get_or (slice_set blocks (i / 256) count') k 0 ≡ count' = ap (λ (z : ℕ). get_or (slice_set blocks (i / 256) count') z 0) e ∙ get_or-set_same blocks (i / 256) count' 0 in_range in
+        let at : get_or (slice_set blocks (i / 256) count') k 0 ≡ count' = ap (λ (z : ℕ). get_or (slice_set blocks (i / 256) count') z 0) e
+        ∙ get_or-set_same blocks (i / 256) count' 0 in_range in
         let was : get_or blocks k 0 ≡ get_or blocks (i / 256) 0 = ap (λ (z : ℕ). get_or blocks z 0) e in
         let old = counted.each k inside in
         let first = below_same (k * 256) (omega (arith, e, low)) in
@@ -145,7 +148,13 @@ module _ (flags : List Bool) (i : ℕ) (b : Bool) (within : i < length flags) wh
     each_by k inside (inr (t, apart)) (inl past) =
         omega (arith, get_or-set_other blocks (i / 256) k count' 0 apart, counted.each k inside, below_same (k * 256) (omega (arith, past)), below_same (k * 256 + 256) past)
     each_by k inside (inr (t, apart)) (inr before) =
-        omega (arith, get_or-set_other blocks (i / 256) k count' 0 apart, counted.each k inside, below_changed (k * 256) (omega (arith, before, apart)), below_changed (k * 256 + 256) before)
+        omega (
+          arith,
+          get_or-set_other blocks (i / 256) k count' 0 apart,
+          counted.each k inside,
+          below_changed (k * 256) (omega (arith, before, apart)),
+          below_changed (k * 256 + 256) before,
+        )
 
     pub still_counted : AreCounted now (slice_set blocks (i / 256) count') len'
     still_counted =
@@ -243,7 +252,8 @@ module _ (flags : List Bool) (blocks : List ℕ) (len number : ℕ) (member was 
   pub put_off : member ≡ false → AreCounted (slice_set flags number member) (slice_set blocks (number / 256) (x - 1)) (len - 1)
   put_off so =
       let m : bit member ≡ 0 = ap bit so in
-      still_counted flags number member within blocks len (x - 1) (len - 1) counted (omega (arith, one_was so, m, first, some_in_block so)) (omega (arith, one_was so, m, some_in_all so))
+      still_counted flags number member within blocks len (x - 1) (len - 1) counted (omega (arith, one_was so, m, first, some_in_block so))
+      (omega (arith, one_was so, m, some_in_all so))
 
 -- a number that is a member already, or that there is none for
 pub same_put : (flags : List Bool) (number : ℕ) (member was : Bool) → beq was member ≡ true → was ≡ get_or flags number was → flags ≡ slice_set flags number member

@@ -94,7 +94,8 @@ module _ {C A : Type 0} (step : Step C) (pack : C → List ℕ) (unpack : List �
   pub off_chosen : (bias : Bias) (at : Turn C A) (event other : Event) (state : ℕ) → (Some other, state) ≡ drawn bias at → ¬ (IsEnabled step pack unpack at.world other)
       → IsChosen step pack unpack bias at event
   off_chosen bias at event other state e off =
-      subst (λ (o : Option Event). IfSome o (λ chosen. IsEnabled step pack unpack at.world chosen → event ≡ chosen)) (ap (λ (d : Option Event × ℕ). d.0) e) (λ may. absurd (off may))
+      subst (λ (o : Option Event). IfSome o (λ chosen. IsEnabled step pack unpack at.world chosen → event ≡ chosen))
+      (ap (λ (d : Option Event × ℕ). d.0) e) (λ may. absurd (off may))
 
   -- what is known after a step was taken, of which the last step tells
   pub taken_rest : (before after : CourseView C A) (event : Event) (made : Made) (taken : Bool) (P : Type 0) (c : ChoicesView) → Knows before.world c → taken ≡ true

@@ -31,7 +31,8 @@ same_place (z ∷ zs) (suc i) x y e = same_place zs i x y e
 place_same : {A : Type 0} (b b' : BoardState A) (round e : ℕ) → b'.rounds ≡ b.rounds → elements b'.database ≡ elements b.database → place_of b' round e ≡ place_of b round e
 place_same {A} b b' round e rounds known =
     ap (λ (n : ℕ). where_true (nat_lt e n) (option_map (λ d. planned_pe (refined_cuts d) (refined_names d) e) (option_map (λ kept. kept.1) (kept_of b'.rounds round)))) known
-    ∙ ap (λ (rs : List (Kept A)). where_true (nat_lt e (elements b.database)) (option_map (λ d. planned_pe (refined_cuts d) (refined_names d) e) (option_map (λ kept. kept.1) (kept_of rs round)))) rounds
+    ∙ ap (λ (rs : List (Kept A)). where_true (nat_lt e (elements b.database))
+    (option_map (λ d. planned_pe (refined_cuts d) (refined_names d) e) (option_map (λ kept. kept.1) (kept_of rs round)))) rounds
 
 goes_same : {C A : Type 0} (b b' : BoardState A) (p e : ℕ) (el : ElementView C) → b'.rounds ≡ b.rounds → elements b'.database ≡ elements b.database
     → element_goes b' p e el ≡ element_goes b p e el
@@ -90,7 +91,8 @@ module _ {C A : Type 0} where
     enabled_stays =
         bind_if (Stays w event p) _ (slice_get w.pes p) (λ pe is.
         bind_if (Stays w event p) _ (local_step step pack unpack event (local_view w pe)) (λ after so.
-        stays_at pe is after (of_some (Keeps event (local_view w pe)) (local_step step pack unpack event (local_view w pe)) after (local_keeps step pack unpack event (local_view w pe)) so)))
+        stays_at pe is after (of_some (Keeps event (local_view w pe)) (local_step step pack unpack event (local_view w pe)) after
+        (local_keeps step pack unpack event (local_view w pe)) so)))
 
   by_standing : (w : WorldView C A) (e p : ℕ) → element_event w e p ≡ option_and_then (element_goes w.board p e) (standing w e p)
   by_standing w e p = assoc (element_goes w.board p e) e (slice_get w.pes p)

@@ -37,7 +37,8 @@ module _ {C A : Type 0} (step : Step C) (pack : C → List ℕ) (refuses : Refus
   ends_by w AtRest AtLast (Refused refusal) h = (refusal.error, refl, h)
 
   -- with what was left of it
-  module _ (x : ExploredView C A) (course : CourseView C A) (ending : Ending) (world : left_by x ≡ course.world) (steps : x.steps ≡ course.steps) (refused : x.refused ≡ refused_in ending) (fault : x.outcome.fault ≡ fault_in ending) where
+  module _ (x : ExploredView C A) (course : CourseView C A) (ending : Ending) (world : left_by x ≡ course.world)
+      (steps : x.steps ≡ course.steps) (refused : x.refused ≡ refused_in ending) (fault : x.outcome.fault ≡ fault_in ending) where
     by_both : (AtRest AtLast : Type 0) → EndsBy step pack refuses unpack (left_by x) AtRest AtLast (refused_in ending) (fault_in ending)
         → EndsBy step pack refuses unpack (left_by x) AtRest AtLast x.refused x.outcome.fault
     by_both AtRest AtLast h =
@@ -49,7 +50,8 @@ module _ {C A : Type 0} (step : Step C) (pack : C → List ℕ) (refuses : Refus
     run_ended limit h =
         by_both (IsIdle step pack unpack (left_by x)) (length x.steps ≡ limit)
         (subst (λ (w : WorldView C A). EndsBy step pack refuses unpack w (IsIdle step pack unpack w) (length x.steps ≡ limit) (refused_in ending) (fault_in ending)) (sym world)
-        (subst (λ (s : List Made). EndsBy step pack refuses unpack course.world (IsIdle step pack unpack course.world) (length s ≡ limit) (refused_in ending) (fault_in ending)) (sym steps)
+        (subst (λ (s : List Made). EndsBy step pack refuses unpack course.world (IsIdle step pack unpack course.world) (length s ≡ limit)
+        (refused_in ending) (fault_in ending)) (sym steps)
         (ends_by course.world (IsIdle step pack unpack course.world) (length course.steps ≡ limit) ending h)))
 
     pub list_ended : EndsCourse step pack refuses unpack course.world ⊥ (Unit {0}) ending → EndsList step pack refuses unpack x
@@ -68,19 +70,23 @@ module _ {C A : Type 0} (step : Step C) (pack : C → List ℕ) (refuses : Refus
   -- the same where memory may have been refused
   module _ {E : Type 0} (course : CourseView C A) (ending : Ending) where
     pub run_left : (r : Result (ExploredView C A) E) (limit : ℕ)
-        → IfOk r (λ x. left_by x ≡ course.world) → IfOk r (λ x. x.steps ≡ course.steps) → IfOk r (λ x. x.refused ≡ refused_in ending) → IfOk r (λ x. x.outcome.fault ≡ fault_in ending)
-        → EndsCourse step pack refuses unpack course.world (IsIdle step pack unpack course.world) (length course.steps ≡ limit) ending → IfOk r (EndsRun step pack refuses unpack limit)
+        → IfOk r (λ x. left_by x ≡ course.world) → IfOk r (λ x. x.steps ≡ course.steps) → IfOk r (λ x. x.refused ≡ refused_in ending)
+        → IfOk r (λ x. x.outcome.fault ≡ fault_in ending)
+        → EndsCourse step pack refuses unpack course.world (IsIdle step pack unpack course.world) (length course.steps ≡ limit) ending
+        → IfOk r (EndsRun step pack refuses unpack limit)
     run_left (Ok x) limit world steps refused fault h = run_ended x course ending world steps refused fault limit h
     run_left (Err e) limit world steps refused fault h = tt
 
     pub list_left : (r : Result (ExploredView C A) E)
-        → IfOk r (λ x. left_by x ≡ course.world) → IfOk r (λ x. x.steps ≡ course.steps) → IfOk r (λ x. x.refused ≡ refused_in ending) → IfOk r (λ x. x.outcome.fault ≡ fault_in ending)
+        → IfOk r (λ x. left_by x ≡ course.world) → IfOk r (λ x. x.steps ≡ course.steps) → IfOk r (λ x. x.refused ≡ refused_in ending)
+        → IfOk r (λ x. x.outcome.fault ≡ fault_in ending)
         → EndsCourse step pack refuses unpack course.world ⊥ (Unit {0}) ending → IfOk r (EndsList step pack refuses unpack)
     list_left (Ok x) world steps refused fault h = list_ended x course ending world steps refused fault h
     list_left (Err e) world steps refused fault h = tt
 
     pub picks_left : (r : Result (ExploredView C A) E) (w : WorldView C A) (events : List Event)
-        → IfOk r (λ x. left_by x ≡ course.world) → IfOk r (λ x. x.steps ≡ course.steps) → IfOk r (λ x. x.refused ≡ refused_in ending) → IfOk r (λ x. x.outcome.fault ≡ fault_in ending)
+        → IfOk r (λ x. left_by x ≡ course.world) → IfOk r (λ x. x.steps ≡ course.steps) → IfOk r (λ x. x.refused ≡ refused_in ending)
+        → IfOk r (λ x. x.outcome.fault ≡ fault_in ending)
         → PicksUpTo step pack unpack w events (refused_in ending) course.steps course.world → IfOk r (λ x. PicksUpTo step pack unpack w events x.refused x.steps (left_by x))
     picks_left (Ok x) w events world steps refused fault h = list_picked x course ending world steps refused fault w events h
     picks_left (Err e) w events world steps refused fault h = tt

@@ -119,7 +119,8 @@ module _ {C : Type 0} (step : Step C) (pack : C → List ℕ) where
 
 -- the board after a note
 report_known : {A : Type 0} (b : BoardState A) (note : Note) → IfSome (board_after b note) (λ after. (after.rounds ≡ b.rounds) × (elements after.database ≡ elements b.database))
-report_known b (Sync e round units bytes pe) = true_if (λ after. (after.rounds ≡ b.rounds) × (elements after.database ≡ elements b.database)) _ (refl, length-set b.database.loads e _) _
+report_known b (Sync e round units bytes pe) = true_if
+    (λ after. (after.rounds ≡ b.rounds) × (elements after.database ≡ elements b.database)) _ (refl, length-set b.database.loads e _) _
 report_known b (Finish e) = true_if (λ after. (after.rounds ≡ b.rounds) × (elements after.database ≡ elements b.database)) _ (refl, refl) _
 
 -- another place of a list
@@ -152,7 +153,12 @@ module _ {C A : Type 0} where
     deliver_keeps p d =
         bind_if _ _ (slice_get d.queues p) (λ queue there.
         bind_if _ _ (delivered d.pe queue) (λ after is.
-        record { room = λ e silent. ap (found e) (room_is queue after is); rounds = refl; known = refl; queues = λ r k e ne other. other_place d.queues p k _ (λ same. ne (same ∙ same_number p r e)) }))
+        record {
+          room = λ e silent. ap (found e) (room_is queue after is);
+          rounds = refl;
+          known = refl;
+          queues = λ r k e ne other. other_place d.queues p k _ (λ same. ne (same ∙ same_number p r e));
+        }))
       where
         room_is : (queue : List Parcel) (after : PeView C × List Parcel) → delivered d.pe queue ≡ Some after → after.0.room ≡ d.pe.room
         room_is queue after is =
@@ -164,7 +170,8 @@ module _ {C A : Type 0} where
     report_keeps p d =
         bind_if _ _ (slice_get d.pe.notes 0) (λ note is.
         bind_if _ _ (board_after d.board note) (λ after so.
-        let known = of_some (λ (b : BoardState A). (b.rounds ≡ d.board.rounds) × (elements b.database ≡ elements d.board.database)) (board_after d.board note) after (report_known d.board note) so in
+        let known = of_some (λ (b : BoardState A). (b.rounds ≡ d.board.rounds) × (elements b.database ≡ elements d.board.database))
+        (board_after d.board note) after (report_known d.board note) so in
         record { room = λ e silent. refl; rounds = known.0; known = known.1; queues = λ r k e ne other. refl }))
 
     look_keeps : (p : ℕ) (d : LocalView C A) → IfSome (look_event d.pe d.words) (λ after. Keeps (Happening.Look p) d (record d { pe = after }, []))
@@ -176,23 +183,40 @@ module _ {C A : Type 0} where
     pub local_keeps : (event : Event) (d : LocalView C A) → IfSome (local_step step pack unpack event d) (Keeps event d)
     local_keeps (Happening.Start p e) d =
         bind_if _ _ (start_event step pack d.pe e) (λ after is.
-        record { room = of_some (KeepsRoom d.pe) (start_event step pack d.pe e) after (start_keeps step pack d.pe e) is; rounds = refl; known = refl; queues = λ r k s ne other. refl })
+        record {
+          room = of_some (KeepsRoom d.pe) (start_event step pack d.pe e) after (start_keeps step pack d.pe e) is;
+          rounds = refl;
+          known = refl;
+          queues = λ r k s ne other. refl;
+        })
     local_keeps (Happening.Look p) d = bind_if _ _ (look_event d.pe d.words) (λ after is. of_some _ (look_event d.pe d.words) after (look_keeps p d) is)
     local_keeps (Happening.Flush p) d = bind_if _ _ (flush_event d.pe d.queues) (λ after is. of_some _ (flush_event d.pe d.queues) after (flush_keeps p d) is)
     local_keeps (Happening.Deliver p) d = bind_if _ _ (deliver_event d.pe d.queues p) (λ after is. of_some _ (deliver_event d.pe d.queues p) after (deliver_keeps p d) is)
     local_keeps (Happening.Act p) d =
         bind_if _ _ (act_event step pack unpack d.pe) (λ after is.
-        record { room = of_some (KeepsRoom d.pe) (act_event step pack unpack d.pe) after (act_keeps step pack unpack d.pe) is; rounds = refl; known = refl; queues = λ r k s ne other. refl })
+        record {
+          room = of_some (KeepsRoom d.pe) (act_event step pack unpack d.pe) after (act_keeps step pack unpack d.pe) is;
+          rounds = refl;
+          known = refl;
+          queues = λ r k s ne other. refl;
+        })
     local_keeps (Happening.Report p) d = bind_if _ _ (report_event d.pe d.board) (λ after is. of_some _ (report_event d.pe d.board) after (report_keeps p d) is)
     local_keeps (Happening.Depart p e) d =
         bind_if _ _ (depart_event step pack p d.pe d.words d.board e) (λ after is.
         record {
-          room = of_some (λ (a : PeView C × List ℕ × List TraceEntry). KeepsRoom d.pe (a.0, a.2)) (depart_event step pack p d.pe d.words d.board e) after (depart_keeps step pack p d.pe d.words d.board e) is;
+          room = of_some (λ (a : PeView C × List ℕ × List TraceEntry). KeepsRoom d.pe (a.0, a.2))
+              (depart_event step pack p d.pe d.words d.board e) after (depart_keeps step pack p d.pe d.words d.board e) is;
           rounds = refl;
           known = refl;
           queues = λ r k s ne other. refl;
         })
     local_keeps (Happening.Resume p e) d =
         bind_if _ _ (resume_event step pack p d.pe d.board e) (λ after is.
-        record { room = of_some (KeepsRoom d.pe) (resume_event step pack p d.pe d.board e) after (resume_keeps step pack p d.pe d.board e) is; rounds = refl; known = refl; queues = λ r k s ne other. refl })
+        record {
+          room = of_some (KeepsRoom d.pe) (resume_event step pack p d.pe d.board e) after (resume_keeps step pack p d.pe d.board e)
+              is;
+          rounds = refl;
+          known = refl;
+          queues = λ r k s ne other. refl;
+        })
     local_keeps Happening.Decide d = tt

@@ -42,7 +42,8 @@ not_taken P Q true e m = cc
 not_taken P Q false e m = m
 
 -- and that one is the next
-pub refused_next : (events : List Event) (happened : List Event) (at : ℕ) (event refused : Event) → at < length events → event ≡ get_or events at event → refused ≡ event → happened ≡ take at events
+pub refused_next : (events : List Event) (happened : List Event) (at : ℕ) (event refused : Event) → at < length events
+    → event ≡ get_or events at event → refused ≡ event → happened ≡ take at events
     → events ≡ happened ++ refused ∷ drop (suc at) events
 refused_next events happened at event refused within is same before =
     split_at events at event (member_at events at event within is) ∙ ap (λ (e : Event). take at events ++ e ∷ drop (suc at) events) (sym same)

@@ -21,7 +21,8 @@ module _ {C : Type 0} where
 
   all_open : (pes : ℕ) (chares : List C) → length (opening_pes pes chares) ≡ pes
   all_open pes chares =
-      still_all (length chares) (map (λ q. new_pe q (length chares)) (range_with_len 0 pes)) 0 chares ∙ length-map-range_with_len (λ (q : ℕ). new_pe {C = C} q (length chares)) 0 pes
+      still_all (length chares) (map (λ q. new_pe q (length chares)) (range_with_len 0 pes)) 0 chares
+      ∙ length-map-range_with_len (λ (q : ℕ). new_pe {C = C} q (length chares)) 0 pes
 
 module _ {C A : Type 0} (pes : ℕ) (chares : List C) (strategy : Strategy) (w : WorldView C A) (opens : w ≡ opening_world pes chares strategy) where
   pub open_pes : (most : ℕ) → pes ≤ most → length w.pes ≤ most

@@ -119,12 +119,14 @@ module _ {C A : Type 0} (w : WorldView C A) (c : ChoicesView) (knows : Knows w c
         given_at (event_of w c.places) (range_with_len 0 (length c.places)) k ∙ ap (λ (xs : List ℕ). option_and_then (event_of w c.places) (slice_get xs k)) (sym elements_are)
 
     -- so where the kind is one of PEs
-    pub none_is : (kind kind' : Kind) (event : ℕ → Event) (set : List Bool) (k : ℕ) → ((j : ℕ) → slice_get (events_of w c.places kind') j ≡ option_map event (slice_get (members set) j))
+    pub none_is : (kind kind' : Kind) (event : ℕ → Event) (set : List Bool) (k : ℕ)
+        → ((j : ℕ) → slice_get (events_of w c.places kind') j ≡ option_map event (slice_get (members set) j))
         → kind ≡ kind' → None ≡ slice_get (members set) k → (r : Option Event) → r ≡ None → r ≡ slice_get (events_of w c.places kind) k
     none_is kind kind' event set k is same none r e =
         e ∙ (ap (option_map event) none ∙ (sym (is k) ∙ ap (λ x. slice_get (events_of w c.places x) k) (sym same)))
 
-    pub some_is : (kind kind' : Kind) (event : ℕ → Event) (set : List Bool) (k p : ℕ) → ((j : ℕ) → slice_get (events_of w c.places kind') j ≡ option_map event (slice_get (members set) j))
+    pub some_is : (kind kind' : Kind) (event : ℕ → Event) (set : List Bool) (k p : ℕ)
+        → ((j : ℕ) → slice_get (events_of w c.places kind') j ≡ option_map event (slice_get (members set) j))
         → kind ≡ kind' → Some p ≡ slice_get (members set) k → Some (event p) ≡ slice_get (events_of w c.places kind) k
     some_is kind kind' event set k p is same some =
         ap (option_map event) some ∙ (sym (is k) ∙ ap (λ x. slice_get (events_of w c.places x) k) (sym same))

@@ -37,7 +37,8 @@ IsDone w = HaveFinished w.board × (held_count w ≡ 0)
 -- Its steps lead from the opening to the world that it left, each of them enabled. Each letter that was posted is in one place or
 -- was executed once, by its own element, and each element is in one place, and is what its journal says. Without a fault every
 -- element has finished, and no letter is held.
-pub record IsExplored {C A : Type 0} (step : Step C) (fits : C → Type 0) (pack : C → List ℕ) (unpack : List ℕ → Result (C × ℕ) PupError) (chares : List C) (pes : ℕ) (strategy : Strategy) (x : ExploredView C A) : Type 0 where
+pub record IsExplored {C A : Type 0} (step : Step C) (fits : C → Type 0) (pack : C → List ℕ) (unpack : List ℕ → Result (C × ℕ) PupError)
+    (chares : List C) (pes : ℕ) (strategy : Strategy) (x : ExploredView C A) : Type 0 where
   pub led : Leads step pack unpack (opening_world pes chares strategy) x.steps (left_by x)
   pub account : Accounted (length chares) (left_by x) (trace_of x.steps)
   pub histories : AreHistories step fits pack chares (left_by x)

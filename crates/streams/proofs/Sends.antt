@@ -25,5 +25,6 @@ sent_more old before new bytes rest n sent inside more =
       count = sent.count + n;
       inside = omega (arith, sent.inside);
       rest_is = ap (λ r. drop n r) sent.rest_is ∙ drop-drop n sent.count bytes;
-      gone = rw (take-add sent.count n bytes) (appends_both old before new (take sent.count bytes) (take n (drop sent.count bytes)) sent.gone (subst (λ r. Appends before new (take n r)) sent.rest_is more));
+      gone = rw (take-add sent.count n bytes) (appends_both old before new (take sent.count bytes) (take n (drop sent.count bytes))
+          sent.gone (subst (λ r. Appends before new (take n r)) sent.rest_is more));
     }

@@ -38,7 +38,11 @@ on_letter r me n (first ∷ rest) = record { state = r; effect = record { units 
 -- it starts a letter to its neighbor and is ready, or has finished where no round is left
 abbrev pub on_resume : RelayView → ℕ → ℕ → ℕ → Outcome RelayView
 on_resume r me n zero = record { state = r; effect = record { units = 0; at_sync = false; finished = true }; sends = [] }
-on_resume r me n (suc left) = record { state = record { left = left; body = r.body }; effect = record { units = 0; at_sync = true; finished = false }; sends = ((me + 1) % n, r.body) ∷ [] }
+on_resume r me n (suc left) = record {
+  state = record { left = left; body = r.body };
+  effect = record { units = 0; at_sync = true; finished = false };
+  sends = ((me + 1) % n, r.body) ∷ [];
+}
 
 abbrev pub relay_step : RelayView → ℕ → ℕ → Entry (List ℕ) → Outcome RelayView
 relay_step r me n (Letter body) = on_letter r me n body

@@ -8,7 +8,8 @@ use Rattle.lb_certificates.specs.Chain.{peak, IsDivision, IsLeastPeak, HasNoDivi
 use Rattle.lb_snapshot.specs.Measured.{load}
 
 -- a division without its first block divides the rest, and its peak is that block's load or the rest's peak
-pub behind_first : (xs : List ℕ) (first n rest : ℕ) (cuts : List ℕ) → IsDivision first n (rest + 1) cuts → IsDivision (slice_index cuts 1) n rest (drop 1 cuts) × (peak xs cuts ≡ max (load xs first (slice_index cuts 1)) (peak xs (drop 1 cuts)))
+pub behind_first : (xs : List ℕ) (first n rest : ℕ) (cuts : List ℕ) → IsDivision first n (rest + 1) cuts
+    → IsDivision (slice_index cuts 1) n rest (drop 1 cuts) × (peak xs cuts ≡ max (load xs first (slice_index cuts 1)) (peak xs (drop 1 cuts)))
 behind_first xs first n rest [] h = absurd (omega (arith, h.counted))
 behind_first xs first n rest (x ∷ []) h = absurd (omega (arith, h.counted))
 behind_first xs first n rest (x ∷ y ∷ cuts) h = (
@@ -30,7 +31,8 @@ ordered_in_front first cuts ordered below (suc i) (suc j) d before inside =
     ordered i j d (omega arith) (omega arith)
 
 -- a first block in front of a division of the rest
-pub in_front : (xs : List ℕ) (first end n rest : ℕ) (cuts : List ℕ) → first ≤ end → IsDivision end n rest cuts → IsDivision first n (rest + 1) (first ∷ cuts) × (peak xs (first ∷ cuts) ≡ max (load xs first end) (peak xs cuts))
+pub in_front : (xs : List ℕ) (first end n rest : ℕ) (cuts : List ℕ) → first ≤ end → IsDivision end n rest cuts
+    → IsDivision first n (rest + 1) (first ∷ cuts) × (peak xs (first ∷ cuts) ≡ max (load xs first end) (peak xs cuts))
 in_front xs first end n rest [] below h = absurd (omega (arith, h.counted))
 in_front xs first end n rest (y ∷ cuts) below h = (
   record {
@@ -47,13 +49,15 @@ abbrev pub Tried : List ℕ → ℕ → ℕ → ℕ → Option ℕ → Type 0
 Tried xs first blocks end best =
     MatchOption best
     ((cuts : List ℕ) → IsDivision first (length xs) blocks cuts → slice_index cuts 1 < end → ⊥)
-    (λ m. ((cuts : List ℕ) × IsDivision first (length xs) blocks cuts × (peak xs cuts ≡ m)) × ((cuts : List ℕ) → IsDivision first (length xs) blocks cuts → slice_index cuts 1 < end → m ≤ peak xs cuts))
+    (λ m. ((cuts : List ℕ) × IsDivision first (length xs) blocks cuts × (peak xs cuts ≡ m))
+    × ((cuts : List ℕ) → IsDivision first (length xs) blocks cuts → slice_index cuts 1 < end → m ≤ peak xs cuts))
 
 pub tried_none : (xs : List ℕ) (first blocks : ℕ) → 0 < blocks → Tried xs first blocks first None
 tried_none xs first blocks positive cuts h before =
     absurd (omega (arith, h.starts, h.ordered 0 1 0 (omega arith) (omega (arith, h.counted))))
 
-pub tried_all : (xs : List ℕ) (first blocks : ℕ) (best : Option ℕ) → 0 < blocks → Tried xs first blocks (length xs + 1) best → MatchOption best (HasNoDivision xs first blocks) (IsLeastPeak xs first blocks)
+pub tried_all : (xs : List ℕ) (first blocks : ℕ) (best : Option ℕ) → 0 < blocks → Tried xs first blocks (length xs + 1) best
+    → MatchOption best (HasNoDivision xs first blocks) (IsLeastPeak xs first blocks)
 tried_all xs first blocks None positive tried =
     λ cuts h. tried cuts h (omega (arith, h.ends, h.ordered 1 blocks 0 (omega arith) (omega (arith, h.counted))))
 tried_all xs first blocks (Some m) positive tried =
@@ -63,13 +67,15 @@ tried_all xs first blocks (Some m) positive tried =
     }
 
 -- a division whose first block is the last that was tried
-at_last : (xs : List ℕ) (first end rest : ℕ) (cuts : List ℕ) → IsDivision first (length xs) (rest + 1) cuts → end ≤ slice_index cuts 1 → slice_index cuts 1 < end + 1 → IsDivision end (length xs) rest (drop 1 cuts) × (peak xs cuts ≡ max (load xs first end) (peak xs (drop 1 cuts)))
+at_last : (xs : List ℕ) (first end rest : ℕ) (cuts : List ℕ) → IsDivision first (length xs) (rest + 1) cuts → end ≤ slice_index cuts 1
+    → slice_index cuts 1 < end + 1 → IsDivision end (length xs) rest (drop 1 cuts) × (peak xs cuts ≡ max (load xs first end) (peak xs (drop 1 cuts)))
 at_last xs first end rest cuts h low high =
     let e : slice_index cuts 1 ≡ end = omega arith in
     subst (λ n. IsDivision n (length xs) rest (drop 1 cuts) × (peak xs cuts ≡ max (load xs first n) (peak xs (drop 1 cuts)))) e (behind_first xs first (length xs) rest cuts h)
 
 -- one more end, where nothing divides the rest behind it
-pub tried_more_none : (xs : List ℕ) (first end rest : ℕ) (best : Option ℕ) → HasNoDivision xs end rest → Tried xs first (rest + 1) end best → Tried xs first (rest + 1) (end + 1) best
+pub tried_more_none : (xs : List ℕ) (first end rest : ℕ) (best : Option ℕ) → HasNoDivision xs end rest → Tried xs first (rest + 1) end best
+    → Tried xs first (rest + 1) (end + 1) best
 tried_more_none xs first end rest None none tried =
     λ cuts h before. elim (cases_lt (slice_index cuts 1) end) [
       | inl earlier ↦ tried cuts h earlier
@@ -84,18 +90,22 @@ tried_more_none xs first end rest (Some m) none tried = (
 )
 
 -- the least peak behind the last end that was tried is reached, and no peak there is lower
-reached_last : (xs : List ℕ) (first end rest r : ℕ) → first ≤ end → IsLeastPeak xs end rest r → (cuts : List ℕ) × IsDivision first (length xs) (rest + 1) cuts × (peak xs cuts ≡ max (load xs first end) r)
+reached_last : (xs : List ℕ) (first end rest r : ℕ) → first ≤ end → IsLeastPeak xs end rest r → (cuts : List ℕ)
+    × IsDivision first (length xs) (rest + 1) cuts × (peak xs cuts ≡ max (load xs first end) r)
 reached_last xs first end rest r below least =
     let both = in_front xs first end (length xs) rest least.reached.0 below least.reached.1 in
     (first ∷ least.reached.0, both.0, both.1 ∙ ap (λ n. max (load xs first end) n) least.reached.2)
 
-below_last : (xs : List ℕ) (first end rest r : ℕ) → IsLeastPeak xs end rest r → (cuts : List ℕ) → IsDivision first (length xs) (rest + 1) cuts → end ≤ slice_index cuts 1 → slice_index cuts 1 < end + 1 → max (load xs first end) r ≤ peak xs cuts
+below_last : (xs : List ℕ) (first end rest r : ℕ) → IsLeastPeak xs end rest r → (cuts : List ℕ)
+    → IsDivision first (length xs) (rest + 1) cuts → end ≤ slice_index cuts 1 → slice_index cuts 1 < end + 1 → max (load xs first end) r ≤ peak xs cuts
 below_last xs first end rest r least cuts h low high =
     let both = at_last xs first end rest cuts h low high in
     omega (arith, both.1, least.below (drop 1 cuts) both.0)
 
 -- one more end, where the rest behind it has a least peak
-pub tried_more_some : (xs : List ℕ) (first end rest r : ℕ) (best next : Option ℕ) → first ≤ end → IsLeastPeak xs end rest r → MatchOption best (next ≡ Some (max (load xs first end) r)) (λ m. next ≡ Some (min m (max (load xs first end) r))) → Tried xs first (rest + 1) end best → Tried xs first (rest + 1) (end + 1) next
+pub tried_more_some : (xs : List ℕ) (first end rest r : ℕ) (best next : Option ℕ) → first ≤ end → IsLeastPeak xs end rest r
+    → MatchOption best (next ≡ Some (max (load xs first end) r)) (λ m. next ≡ Some (min m (max (load xs first end) r)))
+    → Tried xs first (rest + 1) end best → Tried xs first (rest + 1) (end + 1) next
 tried_more_some xs first end rest r None next below least chosen tried =
     subst (λ o. Tried xs first (rest + 1) (end + 1) o) (sym chosen) (
       reached_last xs first end rest r below least,
@@ -119,7 +129,11 @@ tried_more_some xs first end rest r (Some m) next below least chosen tried =
     )
 
 -- one more end, with what the rest behind it allows
-pub tried_more : (xs : List ℕ) (first end blocks : ℕ) (best rest next : Option ℕ) → 0 < blocks → first ≤ end → MatchOption rest (HasNoDivision xs end (blocks - 1)) (IsLeastPeak xs end (blocks - 1)) → MatchOption rest (next ≡ best) (λ r. next ≡ Some (option_map_or (λ m. min m (max (load xs first end) r)) best (max (load xs first end) r))) → Tried xs first blocks end best → Tried xs first blocks (end + 1) next
+pub tried_more : (xs : List ℕ) (first end blocks : ℕ) (best rest next : Option ℕ) → 0 < blocks → first ≤ end
+    → MatchOption rest (HasNoDivision xs end (blocks - 1)) (IsLeastPeak xs end (blocks - 1))
+    → MatchOption rest (next ≡ best) (λ r. next ≡ Some
+    (option_map_or (λ m. min m (max (load xs first end) r)) best (max (load xs first end) r))) → Tried xs first blocks end best
+    → Tried xs first blocks (end + 1) next
 tried_more xs first end blocks best None next positive below allowed chosen tried =
     let e : blocks - 1 + 1 ≡ blocks = omega arith in
     subst (λ o. Tried xs first blocks (end + 1) o) (sym chosen)

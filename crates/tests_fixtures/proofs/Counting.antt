@@ -39,5 +39,7 @@ module _ {M : Type 1} {𝓤 : Ura M} (𝓛 : Logic 𝓤) (at_mem : Memory → SP
   pub Counts-gives : (v : Val) → ent 𝓤 ((Counts 𝓛 at_mem run).post (at_count 𝓛 at_mem run κ q c r) v) (H.⇛ (ex 𝓤 (λ (is : Bool). guard 𝓤 (v ≡ vbool is) (A.lft κ q))))
   Counts-gives v =
       qed 𝓛 (raw ((Counts 𝓛 at_mem run).post (at_count 𝓛 at_mem run κ q c r) v) ∷ []) ∵ updating ! $
-      use1 𝓛 (later (some (λ (is : Bool). ((‵ (flft κ q) ⊛ ‵ ftrue) ⊛ ‵ (bool.own_val is (v ∷ []))) ⊛ some (λ (ws : Unit {0} × Unit {0}). ‵ (fsep ftrue ftrue) ⊛ raw (fact 𝓤 (r.turn ≡ 0 → is ≡ false)))))) (id⊢ 𝓤 _) $ await ! tt $ pick ! (λ is.
-      split ! $ split ! $ move ! (1 ∷ []) $ feq_l ! (λ e. split ! $ at_once ! $ show ! (λ (is : Bool). guard 𝓤 (v ≡ vbool is) (A.lft κ q)) is $ check ! (ap only e) $ keep ! (0 ∷ []) $ done !))
+      use1 𝓛 (later (some (λ (is : Bool). ((‵ (flft κ q) ⊛ ‵ ftrue) ⊛ ‵ (bool.own_val is (v ∷ []))) ⊛ some
+      (λ (ws : Unit {0} × Unit {0}). ‵ (fsep ftrue ftrue) ⊛ raw (fact 𝓤 (r.turn ≡ 0 → is ≡ false)))))) (id⊢ 𝓤 _) $ await ! tt $ pick ! (λ is.
+      split ! $ split ! $ move ! (1 ∷ []) $ feq_l ! (λ e. split ! $ at_once ! $ show ! (λ (is : Bool). guard 𝓤 (v ≡ vbool is) (A.lft κ q))
+      is $ check ! (ap only e) $ keep ! (0 ∷ []) $ done !))

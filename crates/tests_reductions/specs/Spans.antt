@@ -9,5 +9,6 @@ use Rattle.reductions.specs.Combining.{VALUE_BYTES}
 
 pub small_span : (fewest : ℕ) (most : ℤ) (low high : Float)
     → (Unit {0} × (Unit {0} × (Unit {0} × Unit {0})))
-    × (length (to_be_bytes w64 fewest ++ (pack_signed w64 (to_be_bytes w64) most ++ (pack_float binary64 (to_be_bytes w64) low ++ pack_float binary64 (to_be_bytes w64) high))) ≤ VALUE_BYTES)
+    × (length (to_be_bytes w64 fewest ++ (pack_signed w64 (to_be_bytes w64) most
+    ++ (pack_float binary64 (to_be_bytes w64) low ++ pack_float binary64 (to_be_bytes w64) high))) ≤ VALUE_BYTES)
 small_span fewest most low high = ((tt, (tt, (tt, tt))), lit≤ tt)

@@ -45,8 +45,7 @@ static NO_ORDERS: [(&[u32], u32); 6] = [
 ];
 
 // The order of the PEs of elements on these PEs.
-fn ordered(rt: &(impl Abort + AllocGlobal), places: &[u32], pes: u32) -> Option<PresentOrder>
-{
+fn ordered(rt: &(impl Abort + AllocGlobal), places: &[u32], pes: u32) -> Option<PresentOrder> {
     let sizes = standing(rt, places);
     let pes = Pes::new(pes).expect(rt, "no such number of PEs");
     present_order(rt.alloc(), &sizes, pes).expect(rt, "out of memory")
@@ -110,8 +109,7 @@ fn mixed_chains(
     elements: u32,
     count: u32,
     pes: u32,
-) -> u64
-{
+) -> u64 {
     let mut sum = sum;
     for number in 0..count {
         let places = chain(rt, elements, number);
@@ -136,8 +134,7 @@ fn all_short_chains(rt: HostRuntime) {
 }
 
 // The sum over all chains of up to 5 elements.
-fn sum_of_chains(rt: &(impl Abort + AllocGlobal), pes: u32) -> u64
-{
+fn sum_of_chains(rt: &(impl Abort + AllocGlobal), pes: u32) -> u64 {
     let mut sum = 0;
     for elements in 0..6u32 {
         sum = mixed_chains(rt, sum, elements, 4u32.saturating_pow(elements), pes);

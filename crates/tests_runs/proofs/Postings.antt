@@ -30,8 +30,11 @@ posted_more {P} p xs y =
     let all = posted p (xs ++ y ∷ []) in
     let count : (p.count + length xs) + 1 ≡ p.count + length (xs ++ y ∷ []) = grind (arith, length-append) in
     ap (λ v. record q { count = v }) count
-    ∙ ap (λ v. record q { count = all.count; outbox = v }) (append_assoc p.outbox (letters_of p.me p.count xs) (letters_of p.me (p.count + length xs) (y ∷ [])) ∙ ap (λ v. p.outbox ++ v) (sym (letters_more {P = P} p.me p.count xs y)))
-    ∙ ap (λ v. record all { trace = v }) (traced_more p.tracing p.trace (posts_of p.me p.count xs) (posts_of p.me (p.count + length xs) (y ∷ [])) ∙ ap (traced p.tracing p.trace) (sym (posts_more p.me p.count xs y)))
+    ∙ ap (λ v. record q { count = all.count; outbox = v })
+    (append_assoc p.outbox (letters_of p.me p.count xs) (letters_of p.me (p.count + length xs) (y ∷ []))
+    ∙ ap (λ v. p.outbox ++ v) (sym (letters_more {P = P} p.me p.count xs y)))
+    ∙ ap (λ v. record all { trace = v }) (traced_more p.tracing p.trace (posts_of p.me p.count xs)
+    (posts_of p.me (p.count + length xs) (y ∷ [])) ∙ ap (traced p.tracing p.trace) (sym (posts_more p.me p.count xs y)))
 
 traced_none : (b : Bool) (rs : List TraceEntry) → traced b rs [] ≡ rs
 traced_none true rs = append-nil rs

@@ -53,8 +53,10 @@ module _ {A : Type 0} (fits : TallyView → Type 0) (strategy : Strategy) (bytes
       → EndsRun fits strategy w old new outcome ended → EndsDrive fits strategy bytes rest old new outcome ended
   ends_ran w None ended read told = ends_memory None ended told
   ends_ran w (Some o) ended read (left, inr told) = ends_memory (Some o) ended told
-  ends_ran w (Some o) ended read (left, inl (inl (is, gone))) = subst (λ e. EndsDrive fits strategy bytes rest old new (Some o) e) (sym is) (refl, (outcome_text w.chares o, run_of w o read left, gone))
-  ends_ran w (Some o) ended read (left, inl (inr (is, part))) = subst (λ e. EndsDrive fits strategy bytes rest old new (Some o) e) (sym is) (outcome_text w.chares o, inl (run_of w o read left), part)
+  ends_ran w (Some o) ended read (left, inl (inl (is, gone))) = subst (λ e. EndsDrive fits strategy bytes rest old new (Some o) e) (sym is)
+      (refl, (outcome_text w.chares o, run_of w o read left, gone))
+  ends_ran w (Some o) ended read (left, inl (inr (is, part))) = subst (λ e. EndsDrive fits strategy bytes rest old new (Some o) e) (sym is)
+      (outcome_text w.chares o, inl (run_of w o read left), part)
 
   -- and what its run left is that of the workload
   pub of_workload : (w : WorkloadView) (outcome : Option (OutcomeView TallyView A)) (ended : Ended) → IfSome bytes (IsText w)

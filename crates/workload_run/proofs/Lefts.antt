@@ -12,7 +12,8 @@ use Rattle.workload_run.specs.Driving.{IsLeftBy}
 use Rattle.workload_run.specs.Tallies.{tallies_of, tally_of}
 
 -- what a run of these chares on this number of PEs left
-pub left_by : {A : Type 0} (fits : TallyView → Type 0) (chares chares' : List TallyView) (pes pes' : ℕ) (strategy : Strategy) (o : OutcomeView TallyView A) → chares ≡ chares' → pes ≡ pes'
+pub left_by : {A : Type 0} (fits : TallyView → Type 0) (chares chares' : List TallyView) (pes pes' : ℕ) (strategy : Strategy)
+    (o : OutcomeView TallyView A) → chares ≡ chares' → pes ≡ pes'
     → IsOutcome tally_step fits tally_pack TallyRefuses chares pes strategy o
     → IsLeftBy fits chares' pes' strategy o
 left_by fits chares chares' pes pes' strategy o same_chares same_pes left =

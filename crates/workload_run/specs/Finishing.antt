@@ -18,7 +18,8 @@ IsFinished ended old new status = (status ≡ status_of ended) × (new ≡ old)
 
 -- The dump of each round was written to a file of its own. Where one was not, the status is 5, and the writer has the line
 -- for that, or a prefix of it.
-abbrev pub FinishesWithDumps : {D : Type 0} → DumpFormat → List ℕ → List (Taken × D) → Ended → Option (List (List ℕ)) → Option (List (List ℕ)) → Option (List ℕ) → Option (List ℕ) → ℕ → Option NotWritten → Type 0
+abbrev pub FinishesWithDumps : {D : Type 0} → DumpFormat → List ℕ → List (Taken × D) → Ended → Option (List (List ℕ))
+    → Option (List (List ℕ)) → Option (List ℕ) → Option (List ℕ) → ℕ → Option NotWritten → Type 0
 FinishesWithDumps format prefix rounds ended asked_before asked_after old new status None =
     IsFinished ended old new status × AsksInTurn format prefix rounds asked_before asked_after (Ok tt)
 FinishesWithDumps format prefix rounds ended asked_before asked_after old new status (Some dump) =

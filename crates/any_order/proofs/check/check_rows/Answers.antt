@@ -19,7 +19,9 @@ returns-then-bound_of-ne0-clause-first_flaw g c =
     let any_is : c.bound_of.result ≡ bound_at r.any 0 0 = c.bound_of.ensures.value ∙ ap (λ rows. bound_at rows 0 0) c.as_slice-any.ensures.value in
     let wrong : (bound_at r.any 0 0 ≢ 0) ⊎ (bound_at r.free 0 0 ≢ 0) = elim c.then-bound_of-ne0.branch [
       | then-bound_of-ne0-via-then-bound_of-ne0 w ↦ inl (λ start. w.if-bound_of-ne0.true (any_is ∙ start))
-      | then-bound_of-ne0-via-else-bound_of-ne0+then-bound_of-ne0-2 w ↦ inr (λ start. w.if-bound_of-ne0-2.true (w.bound_of-else-bound_of-ne0.ensures.value ∙ ap (λ rows. bound_at rows 0 0) c.as_slice-free.ensures.value ∙ start))
+      | then-bound_of-ne0-via-else-bound_of-ne0+then-bound_of-ne0-2 w ↦ inr
+          (λ start. w.if-bound_of-ne0-2.true (w.bound_of-else-bound_of-ne0.ensures.value
+          ∙ ap (λ rows. bound_at rows 0 0) c.as_slice-free.ensures.value ∙ start))
     ] in
     start_is_first c.args.snapshot.now.loads c.args.snapshot.now.sizes c.args.pes r c.requires.certified c.requires.ordered c.requires.plan
     (record { any = sym (ap length c.as_slice-any.ensures.value) ∙ c.if-any-pes.false; free = sym (ap length c.as_slice-free.ensures.value) ∙ c.if-free-pes.false })

@@ -7,4 +7,5 @@ returns-then-pe-own-clause-most c = λ held next before here more. joins_own hel
 
 pub returns-clause-most : goal.returns-clause-most
 returns-clause-most c = λ held next before here more.
-    joins_other held next c.args.own c.args.element c.args.most c.raised.result (c.args.element.1) (c.from.result) c.args.kept.now c.raised.ensures c.if-pe-own.false refl c.from.ensures before here more
+    joins_other held next c.args.own c.args.element c.args.most c.raised.result (c.args.element.1) (c.from.result) c.args.kept.now
+    c.raised.ensures c.if-pe-own.false refl c.from.ensures before here more

@@ -7,5 +7,6 @@ pub returns : goal.returns
 returns c =
     let all : c.loop-b.b ≡ length c.args.names.now = omega arith in
     record {
-      value = c.loop-b.invariant.0 ∙ ap (λ n. naming_cost n (block_cost c.args.sizes.now c.args.cuts.now) c.args.names.now) all ∙ sym (moved_is_cost c.args.sizes.now c.args.cuts.now c.args.names.now (length c.args.names.now) c.requires.divides);
+      value = c.loop-b.invariant.0 ∙ ap (λ n. naming_cost n (block_cost c.args.sizes.now c.args.cuts.now) c.args.names.now) all
+          ∙ sym (moved_is_cost c.args.sizes.now c.args.cuts.now c.args.names.now (length c.args.names.now) c.requires.divides);
     }

@@ -10,7 +10,8 @@ returns-then-not-all_below-clause-first_flaw g c =
     let same = c.as_slice-names.ensures.value in
     let named : length r.names ≡ pes = sym (ap length same) ∙ c.if-names-pes.false in
     let wrong = subst (λ (names : List ℕ). (b : ℕ) × (b < length names) × (pes ≤ slice_index names b)) same c.if-not-all_below.ensures.below in
-    name_range_is_first c.args.snapshot.now.loads c.args.snapshot.now.sizes pes r c.requires.certified (omega (arith, c.if-pes-eq0.false)) (omega (arith, c.if-pes-gt-PES.false)) named wrong
+    name_range_is_first c.args.snapshot.now.loads c.args.snapshot.now.sizes pes r c.requires.certified (omega (arith, c.if-pes-eq0.false))
+    (omega (arith, c.if-pes-gt-PES.false)) named wrong
 
 pub returns-then-not-all_apart-clause-first_flaw : goal.returns-then-not-all_apart-clause-first_flaw
 returns-then-not-all_apart-clause-first_flaw g c =
@@ -20,4 +21,5 @@ returns-then-not-all_apart-clause-first_flaw g c =
     let named : length r.names ≡ pes = sym (ap length same) ∙ c.if-names-pes.false in
     let below = subst (λ (names : List ℕ). (b : ℕ) → b < length names → slice_index names b < pes) same c.if-not-all_below.ensures.below in
     let wrong : Repeats r.names = subst Repeats same c.if-not-all_apart.ensures.apart in
-    name_twice_is_first c.args.snapshot.now.loads c.args.snapshot.now.sizes pes r c.requires.certified (omega (arith, c.if-pes-eq0.false)) (omega (arith, c.if-pes-gt-PES.false)) named below wrong
+    name_twice_is_first c.args.snapshot.now.loads c.args.snapshot.now.sizes pes r c.requires.certified (omega (arith, c.if-pes-eq0.false))
+    (omega (arith, c.if-pes-gt-PES.false)) named below wrong

@@ -16,7 +16,8 @@ make_least-requires-clause-allowed c =
     let takers : List (List ℕ) = c.new-takers.result in
     let same : takers ≡ rows width blocks c.write_takers.new.words = c.new-takers.ensures.value ∙ ap (λ n. rows width n c.write_takers.new.words) c.blocks-blocks.ensures.value in
     let counted : length takers ≡ blocks = ap (λ (xs : List (List ℕ)). length xs) same ∙ rows_counted width blocks c.write_takers.new.words in
-    let exact : IsExact blocks cost c.args.price.now c.args.discount.now takers = subst (λ t. IsExact blocks cost c.args.price.now c.args.discount.now t) (sym same) c.write_takers.ensures.exact in
+    let exact : IsExact blocks cost c.args.price.now c.args.discount.now takers = subst
+    (λ t. IsExact blocks cost c.args.price.now c.args.discount.now t) (sym same) c.write_takers.ensures.exact in
     allowed_if_tight blocks cost c.args.price.now c.args.discount.now c.args.names.now takers counted exact c.requires.tight
 
 pub returns-clause-tight : goal.returns-clause-tight
@@ -27,9 +28,11 @@ returns-clause-tight c =
     let takers : List (List ℕ) = c.new-takers.result in
     let same : takers ≡ rows width blocks c.write_takers.new.words = c.new-takers.ensures.value ∙ ap (λ n. rows width n c.write_takers.new.words) c.blocks-blocks.ensures.value in
     let counted : length takers ≡ blocks = ap (λ (xs : List (List ℕ)). length xs) same ∙ rows_counted width blocks c.write_takers.new.words in
-    let exact : IsExact blocks cost c.args.price.now c.args.discount.now takers = subst (λ t. IsExact blocks cost c.args.price.now c.args.discount.now t) (sym same) c.write_takers.ensures.exact in
+    let exact : IsExact blocks cost c.args.price.now c.args.discount.now takers = subst
+    (λ t. IsExact blocks cost c.args.price.now c.args.discount.now t) (sym same) c.write_takers.ensures.exact in
     let naming : IsNaming blocks c.make_least.new.names = subst (λ n. IsNaming n c.make_least.new.names) counted c.make_least.ensures.naming in
-    tight_if_allowed blocks cost c.args.price.now c.args.discount.now c.args.names.now c.make_least.new.names takers counted exact c.requires.tight naming c.make_least.ensures.allowed
+    tight_if_allowed blocks cost c.args.price.now c.args.discount.now c.args.names.now c.make_least.new.names takers counted exact
+    c.requires.tight naming c.make_least.ensures.allowed
 
 pub returns-clause-least_naming : goal.returns-clause-least_naming
 returns-clause-least_naming c =
@@ -39,9 +42,12 @@ returns-clause-least_naming c =
     let takers : List (List ℕ) = c.new-takers.result in
     let same : takers ≡ rows width blocks c.write_takers.new.words = c.new-takers.ensures.value ∙ ap (λ n. rows width n c.write_takers.new.words) c.blocks-blocks.ensures.value in
     let counted : length takers ≡ blocks = ap (λ (xs : List (List ℕ)). length xs) same ∙ rows_counted width blocks c.write_takers.new.words in
-    let exact : IsExact blocks cost c.args.price.now c.args.discount.now takers = subst (λ t. IsExact blocks cost c.args.price.now c.args.discount.now t) (sym same) c.write_takers.ensures.exact in
+    let exact : IsExact blocks cost c.args.price.now c.args.discount.now takers = subst
+    (λ t. IsExact blocks cost c.args.price.now c.args.discount.now t) (sym same) c.write_takers.ensures.exact in
     let naming : IsNaming blocks c.make_least.new.names = subst (λ n. IsNaming n c.make_least.new.names) counted c.make_least.ensures.naming in
-    let tight : IsTight blocks cost c.args.price.now c.args.discount.now c.make_least.new.names = tight_if_allowed blocks cost c.args.price.now c.args.discount.now c.args.names.now c.make_least.new.names takers counted exact c.requires.tight naming c.make_least.ensures.allowed in
+    let tight : IsTight blocks cost c.args.price.now c.args.discount.now c.make_least.new.names = tight_if_allowed blocks cost
+    c.args.price.now c.args.discount.now c.args.names.now c.make_least.new.names takers counted exact c.requires.tight naming
+    c.make_least.ensures.allowed in
     first_from_least blocks cost c.args.price.now c.args.discount.now c.make_least.new.names takers counted exact tight c.make_least.ensures.least
 
 pub make_least-requires-clause-left : goal.make_least-requires-clause-left
@@ -52,7 +58,10 @@ make_least-requires-clause-left c =
     let takers : List (List ℕ) = c.new-takers.result in
     let same : takers ≡ rows width blocks c.write_takers.new.words = c.new-takers.ensures.value ∙ ap (λ n. rows width n c.write_takers.new.words) c.blocks-blocks.ensures.value in
     let counted : length takers ≡ blocks = ap (λ (xs : List (List ℕ)). length xs) same ∙ rows_counted width blocks c.write_takers.new.words in
-    record { wide = omega (arith, counted, c.requires.wide, c.split_at_mut-left.ensures.front_len); narrow = omega (arith, c.requires.narrow, c.split_at_mut-left.ensures.front_len) }
+    record {
+      wide = omega (arith, counted, c.requires.wide, c.split_at_mut-left.ensures.front_len);
+      narrow = omega (arith, c.requires.narrow, c.split_at_mut-left.ensures.front_len);
+    }
 
 pub make_least-requires-clause-waiting : goal.make_least-requires-clause-waiting
 make_least-requires-clause-waiting c =
@@ -64,7 +73,8 @@ make_least-requires-clause-waiting c =
     let counted : length takers ≡ blocks = ap (λ (xs : List (List ℕ)). length xs) same ∙ rows_counted width blocks c.write_takers.new.words in
     let product : c.blocks-blocks.result * width ≡ blocks * width = ap (λ n. n * width) c.blocks-blocks.ensures.value in
     let spread : (blocks + 2) * width ≡ blocks * width + 2 * width = omega arith in
-    let rest : length c.split_at_mut-left.result.1.now ≡ width = omega (arith, product, spread, c.requires.sets, c.split_at_mut-words.ensures.back_len, c.split_at_mut-left.ensures.back_len) in
+    let rest : length c.split_at_mut-left.result.1.now ≡ width = omega
+    (arith, product, spread, c.requires.sets, c.split_at_mut-words.ensures.back_len, c.split_at_mut-left.ensures.back_len) in
     record { wide = omega (arith, counted, c.requires.wide, rest); narrow = omega (arith, c.requires.narrow, rest) }
 
 pub make_least-requires-clause-next : goal.make_least-requires-clause-next
@@ -89,4 +99,7 @@ make_least-requires-clause-naming c =
 
 pub write_takers-requires-clause-none : goal.write_takers-requires-clause-none
 write_takers-requires-clause-none c = λ b p inside.
-    none_in_rows c.args.width c.args.table.now.blocks c.split_at_mut-words.result.0.now b p (λ w within. ap (λ (xs : List ℕ). slice_index xs w) c.split_at_mut-words.ensures.front ∙ get_or-take _ c.args.sets.now w 0 (omega (arith, within, c.split_at_mut-words.ensures.front_len)) ∙ c.requires.none w (omega (arith, within, c.split_at_mut-words.ensures.front_len, c.split_at_mut-words.ensures.back_len))) inside
+    none_in_rows c.args.width c.args.table.now.blocks c.split_at_mut-words.result.0.now b p
+    (λ w within. ap (λ (xs : List ℕ). slice_index xs w) c.split_at_mut-words.ensures.front
+    ∙ get_or-take _ c.args.sets.now w 0 (omega (arith, within, c.split_at_mut-words.ensures.front_len))
+    ∙ c.requires.none w (omega (arith, within, c.split_at_mut-words.ensures.front_len, c.split_at_mut-words.ensures.back_len))) inside

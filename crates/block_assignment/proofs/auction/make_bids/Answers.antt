@@ -19,13 +19,20 @@ loop-used-preserved c =
     let b : ℕ = slice_index c.loop-used.waiting (c.loop-used.count - 1) in
     let block : b < blocks = c.loop-used.invariant.below (c.loop-used.count - 1) waits in
     let held : (p b : ℕ) → slice_index_or c.hand_over-count.new.holders p None ≡ Some b → b < blocks = c.hand_over-count.ensures.held blocks block c.loop-used.invariant.held in
-    let below : (i : ℕ) → i < length c.hand_over-count.new.waiting → slice_index c.hand_over-count.new.waiting i < blocks = c.hand_over-count.ensures.below blocks c.loop-used.invariant.held c.loop-used.invariant.below in
+    let below : (i : ℕ) → i < length c.hand_over-count.new.waiting
+    → slice_index c.hand_over-count.new.waiting i < blocks = c.hand_over-count.ensures.below blocks c.loop-used.invariant.held
+    c.loop-used.invariant.below in
     record {
       count = omega (arith, c.hand_over-count.ensures.counted, c.hand_over-count.auto.waiting);
       small = λ p inside. elim (cases_eq p bid.pe) [
         | inl here ↦
             let at : bid.pe < length c.loop-used.discount = omega (arith, inside, here, c.loop-used.auto.discount, c.requires.discounts) in
-            omega (arith, ap (λ q. slice_index (slice_set c.loop-used.discount bid.pe raised) q) here, get_or-set_same c.loop-used.discount bid.pe raised 0 at, c.if-raised-most.false)
+            omega (
+              arith,
+              ap (λ q. slice_index (slice_set c.loop-used.discount bid.pe raised) q) here,
+              get_or-set_same c.loop-used.discount bid.pe raised 0 at,
+              c.if-raised-most.false,
+            )
         | inr other ↦ omega (arith, get_or-set_other c.loop-used.discount bid.pe p raised 0 other, c.loop-used.invariant.small p inside)
       ];
       held = held;

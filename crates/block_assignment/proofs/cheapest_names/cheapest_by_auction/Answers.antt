@@ -16,11 +16,18 @@ settle-requires-clause-small g c =
     let names : List ℕ = c.in_ok-names.names.items in
     let price : List ℕ = c.in_ok-names.price.items in
     let discount : List ℕ = c.in_ok-names.discount.items in
-    let made : c.new.result ≡ record { blocks = t.blocks; costs = costs } = c.new.ensures.value ∙ ap (λ (n : ℕ). record { blocks = n; costs = c.deref-2.result.now }) c.blocks-2.ensures.value ∙ ap (λ (xs : List ℕ). record { blocks = t.blocks; costs = xs }) c.deref-2.ensures.value in
+    let made : c.new.result ≡ record { blocks = t.blocks; costs = costs } = c.new.ensures.value
+    ∙ ap (λ (n : ℕ). record { blocks = n; costs = c.deref-2.result.now }) c.blocks-2.ensures.value
+    ∙ ap (λ (xs : List ℕ). record { blocks = t.blocks; costs = xs }) c.deref-2.ensures.value in
     let same : c.new.result.blocks ≡ t.blocks = ap (λ (z : Table). z.blocks) made in
     rw (c.deref-3.ensures.value, c.deref_mut-2.ensures.value) (λ p inside.
     let within : p < t.blocks = omega (arith, inside, c.in_ok-names.ensures.discounts, same) in
-    omega (arith, start_small t start c.blocks-2.ensures.within_limits c.in_ok-start.ensures.small p within, c.in_ok-names.ensures.discounts_small p (omega (arith, within, same)), c.in_ok-names.ensures.costs_small))
+    omega (
+      arith,
+      start_small t start c.blocks-2.ensures.within_limits c.in_ok-start.ensures.small p within,
+      c.in_ok-names.ensures.discounts_small p (omega (arith, within, same)),
+      c.in_ok-names.ensures.costs_small,
+    ))
 
 pub settle-requires-clause-high : goal.settle-requires-clause-high
 settle-requires-clause-high g c =
@@ -30,7 +37,9 @@ settle-requires-clause-high g c =
     let names : List ℕ = c.in_ok-names.names.items in
     let price : List ℕ = c.in_ok-names.price.items in
     let discount : List ℕ = c.in_ok-names.discount.items in
-    let made : c.new.result ≡ record { blocks = t.blocks; costs = costs } = c.new.ensures.value ∙ ap (λ (n : ℕ). record { blocks = n; costs = c.deref-2.result.now }) c.blocks-2.ensures.value ∙ ap (λ (xs : List ℕ). record { blocks = t.blocks; costs = xs }) c.deref-2.ensures.value in
+    let made : c.new.result ≡ record { blocks = t.blocks; costs = costs } = c.new.ensures.value
+    ∙ ap (λ (n : ℕ). record { blocks = n; costs = c.deref-2.result.now }) c.blocks-2.ensures.value
+    ∙ ap (λ (xs : List ℕ). record { blocks = t.blocks; costs = xs }) c.deref-2.ensures.value in
     let same : c.new.result.blocks ≡ t.blocks = ap (λ (z : Table). z.blocks) made in
     let found : IsFoundBy t start costs price discount names = record {
       exact = (let h = rw c.deref.ensures.value at c.in_ok-costs.ensures.exact in h);
@@ -48,7 +57,9 @@ returns-clause-tight g c =
     let names : List ℕ = c.in_ok-names.names.items in
     let price : List ℕ = c.in_ok-names.price.items in
     let discount : List ℕ = c.in_ok-names.discount.items in
-    let made : c.new.result ≡ record { blocks = t.blocks; costs = costs } = c.new.ensures.value ∙ ap (λ (n : ℕ). record { blocks = n; costs = c.deref-2.result.now }) c.blocks-2.ensures.value ∙ ap (λ (xs : List ℕ). record { blocks = t.blocks; costs = xs }) c.deref-2.ensures.value in
+    let made : c.new.result ≡ record { blocks = t.blocks; costs = costs } = c.new.ensures.value
+    ∙ ap (λ (n : ℕ). record { blocks = n; costs = c.deref-2.result.now }) c.blocks-2.ensures.value
+    ∙ ap (λ (xs : List ℕ). record { blocks = t.blocks; costs = xs }) c.deref-2.ensures.value in
     let same : c.new.result.blocks ≡ t.blocks = ap (λ (z : Table). z.blocks) made in
     let found : IsFoundBy t start costs price discount names = record {
       exact = (let h = rw c.deref.ensures.value at c.in_ok-costs.ensures.exact in h);
@@ -56,9 +67,13 @@ returns-clause-tight g c =
       discounts = c.in_ok-names.ensures.discounts ∙ same;
       tight = subst (λ (z : Table). IsTight z.blocks (cost_at z) price discount names) made c.in_ok-names.ensures.tight;
     } in
-    let w : take c.in_ok-names.price.len (c.settle.new.price ++ drop (length c.settle.new.price) price) ≡ c.settle.new.price = written _ _ _ (c.settle.auto.price ∙ c.deref_mut.ensures.len) in
-    let w2 : take c.in_ok-names.discount.len (c.settle.new.discount ++ drop (length c.settle.new.discount) discount) ≡ c.settle.new.discount = written _ _ _ (c.settle.auto.discount ∙ c.deref_mut-2.ensures.len) in
-    let settled : IsSettled start price discount c.settle.new.price c.settle.new.discount = (let h = rw (c.deref-3.ensures.value, c.deref_mut.ensures.value, c.deref_mut-2.ensures.value) at c.settle.ensures.settled in h) in
+    let w : take c.in_ok-names.price.len (c.settle.new.price ++ drop (length c.settle.new.price) price) ≡ c.settle.new.price = written _ _ _
+    (c.settle.auto.price ∙ c.deref_mut.ensures.len) in
+    let w2 : take c.in_ok-names.discount.len (c.settle.new.discount
+    ++ drop (length c.settle.new.discount) discount) ≡ c.settle.new.discount = written _ _ _ (c.settle.auto.discount ∙ c.deref_mut-2.ensures.len) in
+    let settled : IsSettled start price discount c.settle.new.price
+    c.settle.new.discount = (let h = rw (c.deref-3.ensures.value, c.deref_mut.ensures.value, c.deref_mut-2.ensures.value) at
+    c.settle.ensures.settled in h) in
     rw (w, w2) (settled_tight t start costs price discount names c.settle.new.price c.settle.new.discount found settled)
 
 pub returns-clause-prices_small : goal.returns-clause-prices_small
@@ -69,7 +84,9 @@ returns-clause-prices_small g c =
     let names : List ℕ = c.in_ok-names.names.items in
     let price : List ℕ = c.in_ok-names.price.items in
     let discount : List ℕ = c.in_ok-names.discount.items in
-    let made : c.new.result ≡ record { blocks = t.blocks; costs = costs } = c.new.ensures.value ∙ ap (λ (n : ℕ). record { blocks = n; costs = c.deref-2.result.now }) c.blocks-2.ensures.value ∙ ap (λ (xs : List ℕ). record { blocks = t.blocks; costs = xs }) c.deref-2.ensures.value in
+    let made : c.new.result ≡ record { blocks = t.blocks; costs = costs } = c.new.ensures.value
+    ∙ ap (λ (n : ℕ). record { blocks = n; costs = c.deref-2.result.now }) c.blocks-2.ensures.value
+    ∙ ap (λ (xs : List ℕ). record { blocks = t.blocks; costs = xs }) c.deref-2.ensures.value in
     let same : c.new.result.blocks ≡ t.blocks = ap (λ (z : Table). z.blocks) made in
     let found : IsFoundBy t start costs price discount names = record {
       exact = (let h = rw c.deref.ensures.value at c.in_ok-costs.ensures.exact in h);
@@ -77,9 +94,13 @@ returns-clause-prices_small g c =
       discounts = c.in_ok-names.ensures.discounts ∙ same;
       tight = subst (λ (z : Table). IsTight z.blocks (cost_at z) price discount names) made c.in_ok-names.ensures.tight;
     } in
-    let w : take c.in_ok-names.price.len (c.settle.new.price ++ drop (length c.settle.new.price) price) ≡ c.settle.new.price = written _ _ _ (c.settle.auto.price ∙ c.deref_mut.ensures.len) in
-    let w2 : take c.in_ok-names.discount.len (c.settle.new.discount ++ drop (length c.settle.new.discount) discount) ≡ c.settle.new.discount = written _ _ _ (c.settle.auto.discount ∙ c.deref_mut-2.ensures.len) in
-    let settled : IsSettled start price discount c.settle.new.price c.settle.new.discount = (let h = rw (c.deref-3.ensures.value, c.deref_mut.ensures.value, c.deref_mut-2.ensures.value) at c.settle.ensures.settled in h) in
+    let w : take c.in_ok-names.price.len (c.settle.new.price ++ drop (length c.settle.new.price) price) ≡ c.settle.new.price = written _ _ _
+    (c.settle.auto.price ∙ c.deref_mut.ensures.len) in
+    let w2 : take c.in_ok-names.discount.len (c.settle.new.discount
+    ++ drop (length c.settle.new.discount) discount) ≡ c.settle.new.discount = written _ _ _ (c.settle.auto.discount ∙ c.deref_mut-2.ensures.len) in
+    let settled : IsSettled start price discount c.settle.new.price
+    c.settle.new.discount = (let h = rw (c.deref-3.ensures.value, c.deref_mut.ensures.value, c.deref_mut-2.ensures.value) at
+    c.settle.ensures.settled in h) in
     rw w (settled_price_small t start costs price discount names c.settle.new.price c.settle.new.discount c.blocks-2.ensures.within_limits found settled)
 
 pub returns-clause-discounts_small : goal.returns-clause-discounts_small
@@ -90,7 +111,9 @@ returns-clause-discounts_small g c =
     let names : List ℕ = c.in_ok-names.names.items in
     let price : List ℕ = c.in_ok-names.price.items in
     let discount : List ℕ = c.in_ok-names.discount.items in
-    let made : c.new.result ≡ record { blocks = t.blocks; costs = costs } = c.new.ensures.value ∙ ap (λ (n : ℕ). record { blocks = n; costs = c.deref-2.result.now }) c.blocks-2.ensures.value ∙ ap (λ (xs : List ℕ). record { blocks = t.blocks; costs = xs }) c.deref-2.ensures.value in
+    let made : c.new.result ≡ record { blocks = t.blocks; costs = costs } = c.new.ensures.value
+    ∙ ap (λ (n : ℕ). record { blocks = n; costs = c.deref-2.result.now }) c.blocks-2.ensures.value
+    ∙ ap (λ (xs : List ℕ). record { blocks = t.blocks; costs = xs }) c.deref-2.ensures.value in
     let same : c.new.result.blocks ≡ t.blocks = ap (λ (z : Table). z.blocks) made in
     let found : IsFoundBy t start costs price discount names = record {
       exact = (let h = rw c.deref.ensures.value at c.in_ok-costs.ensures.exact in h);
@@ -98,9 +121,13 @@ returns-clause-discounts_small g c =
       discounts = c.in_ok-names.ensures.discounts ∙ same;
       tight = subst (λ (z : Table). IsTight z.blocks (cost_at z) price discount names) made c.in_ok-names.ensures.tight;
     } in
-    let w : take c.in_ok-names.price.len (c.settle.new.price ++ drop (length c.settle.new.price) price) ≡ c.settle.new.price = written _ _ _ (c.settle.auto.price ∙ c.deref_mut.ensures.len) in
-    let w2 : take c.in_ok-names.discount.len (c.settle.new.discount ++ drop (length c.settle.new.discount) discount) ≡ c.settle.new.discount = written _ _ _ (c.settle.auto.discount ∙ c.deref_mut-2.ensures.len) in
-    let settled : IsSettled start price discount c.settle.new.price c.settle.new.discount = (let h = rw (c.deref-3.ensures.value, c.deref_mut.ensures.value, c.deref_mut-2.ensures.value) at c.settle.ensures.settled in h) in
+    let w : take c.in_ok-names.price.len (c.settle.new.price ++ drop (length c.settle.new.price) price) ≡ c.settle.new.price = written _ _ _
+    (c.settle.auto.price ∙ c.deref_mut.ensures.len) in
+    let w2 : take c.in_ok-names.discount.len (c.settle.new.discount
+    ++ drop (length c.settle.new.discount) discount) ≡ c.settle.new.discount = written _ _ _ (c.settle.auto.discount ∙ c.deref_mut-2.ensures.len) in
+    let settled : IsSettled start price discount c.settle.new.price
+    c.settle.new.discount = (let h = rw (c.deref-3.ensures.value, c.deref_mut.ensures.value, c.deref_mut-2.ensures.value) at
+    c.settle.ensures.settled in h) in
     rw w2 (settled_discount_small t start costs price discount names c.settle.new.price c.settle.new.discount c.blocks-2.ensures.within_limits found settled)
 
 pub returns-clause-costs_small : goal.returns-clause-costs_small

@@ -24,7 +24,9 @@ returns-clause-tight g c =
     let table : s.table ≡ c.args.table.now = c.name_all.ensures.table ∙ c.in_ok-search.ensures.table in
     let same : s.table.blocks ≡ c.args.table.now.blocks = ap (λ (x : Table). x.blocks) table in
     let all : s.named ≡ s.table.blocks = omega (arith, same, c.name_all.ensures.named, c.blocks-blocks.ensures.value) in
-    rw (c.into_parts.ensures.price, c.into_parts.ensures.discount, c.into_parts.ensures.names) (subst (λ t. IsTight t.blocks (cost_at t) s.price s.discount s.names) table (tight_if_all_named s c.name_all.ensures.sized c.name_all.ensures.matched all))
+    rw (c.into_parts.ensures.price, c.into_parts.ensures.discount, c.into_parts.ensures.names)
+    (subst (λ t. IsTight t.blocks (cost_at t) s.price s.discount s.names) table
+    (tight_if_all_named s c.name_all.ensures.sized c.name_all.ensures.matched all))
 
 pub returns-clause-price : goal.returns-clause-price
 returns-clause-price g c =
@@ -37,12 +39,14 @@ returns-clause-discounts g c =
 pub returns-clause-prices_small : goal.returns-clause-prices_small
 returns-clause-prices_small g c =
     let s : State = c.name_all.new.search in
-    rw c.into_parts.ensures.price (subst (λ (t : Table). (b : ℕ) → b < t.blocks → slice_index s.price b ≤ greatest t.costs) (c.name_all.ensures.table ∙ c.in_ok-search.ensures.table) c.name_all.ensures.small.price)
+    rw c.into_parts.ensures.price (subst (λ (t : Table). (b : ℕ) → b < t.blocks → slice_index s.price b ≤ greatest t.costs)
+    (c.name_all.ensures.table ∙ c.in_ok-search.ensures.table) c.name_all.ensures.small.price)
 
 pub returns-clause-discounts_small : goal.returns-clause-discounts_small
 returns-clause-discounts_small g c =
     let s : State = c.name_all.new.search in
-    rw c.into_parts.ensures.discount (subst (λ (t : Table). (p : ℕ) → p < t.blocks → slice_index s.discount p ≤ greatest t.costs) (c.name_all.ensures.table ∙ c.in_ok-search.ensures.table) c.name_all.ensures.small.discount)
+    rw c.into_parts.ensures.discount (subst (λ (t : Table). (p : ℕ) → p < t.blocks → slice_index s.discount p ≤ greatest t.costs)
+    (c.name_all.ensures.table ∙ c.in_ok-search.ensures.table) c.name_all.ensures.small.discount)
 
 pub returns-clause-costs_small : goal.returns-clause-costs_small
 returns-clause-costs_small g c = greatest_small c.args.table.now.costs BYTES c.blocks-blocks.ensures.within_limits.small

@@ -9,7 +9,13 @@ loop-init g c =
 pub loop-preserved : goal.loop-preserved
 loop-preserved g c =
     let next = c.name_next.ensures in
-    record { sized = next.sized; matched = next.matched; small = next.small; table = next.table ∙ c.loop.invariant.table; named = next.named ∙ ap (λ n. n + 1) c.loop.invariant.named }
+    record {
+      sized = next.sized;
+      matched = next.matched;
+      small = next.small;
+      table = next.table ∙ c.loop.invariant.table;
+      named = next.named ∙ ap (λ n. n + 1) c.loop.invariant.named;
+    }
 
 pub name_next-requires-clause-room : goal.name_next-requires-clause-room
 name_next-requires-clause-room g c =

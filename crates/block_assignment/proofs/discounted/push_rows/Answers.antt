@@ -12,8 +12,10 @@ loop-b-preserved g c =
     let discount : List ℕ = c.args.discount.now in
     let appended : c.extend_from_slice.new.self.items ≡ c.loop-b.costs.items ++ c.fill_row.new.row = search rules in
     let width : length c.fill_row.new.row ≡ t.blocks = omega arith in
-    let filled : (p : ℕ) → p < t.blocks → slice_index c.fill_row.new.row p ≡ discounted_cost t discount b p = λ p inside. omega (arith, c.fill_row.ensures p (omega (arith, inside, width)), c.row.ensures.costs p inside) in
+    let filled : (p : ℕ) → p < t.blocks → slice_index c.fill_row.new.row p ≡ discounted_cost t discount b p = λ p inside. omega
+    (arith, c.fill_row.ensures p (omega (arith, inside, width)), c.row.ensures.costs p inside) in
     record {
-      rows = rw appended (rows_more_of BYTES (discounted_cost t discount) t.blocks b c.loop-b.costs.items c.fill_row.new.row (λ p inside. c.requires.small b p (omega arith) inside) c.loop-b.invariant.rows width filled);
+      rows = rw appended (rows_more_of BYTES (discounted_cost t discount) t.blocks b c.loop-b.costs.items c.fill_row.new.row
+          (λ p inside. c.requires.small b p (omega arith) inside) c.loop-b.invariant.rows width filled);
       width = width;
     }

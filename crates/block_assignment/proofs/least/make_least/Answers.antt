@@ -11,6 +11,7 @@ loop-b-preserved c =
       allowed = c.give_least_pe.ensures.allowed;
       least = λ k inside. elim (cases_eq k c.loop-b.b) [
         | inl last ↦ subst (λ m. IsLeastAt c.args.takers.now c.give_least_pe.new.names m) (sym last) c.give_least_pe.ensures.least
-        | inr other ↦ least_before c.args.takers.now c.loop-b.names c.give_least_pe.new.names c.loop-b.b c.give_least_pe.ensures.before c.loop-b.invariant.least k (omega (arith, inside, other))
+        | inr other ↦ least_before c.args.takers.now c.loop-b.names c.give_least_pe.new.names c.loop-b.b c.give_least_pe.ensures.before
+            c.loop-b.invariant.least k (omega (arith, inside, other))
       ];
     }

@@ -14,17 +14,25 @@ loop-j-init c =
 
 pub loop-j-preserved-in-Some : goal.loop-j-preserved-in-Some
 loop-j-preserved-in-Some c =
-    search_joins c.args.takers.now c.args.names.now c.args.b c.loop-j.i c.in-Some.j _ _ _ _ _ c.loop-j.invariant (omega arith) c.in-Some.ensures.1 c.in-Some.ensures.2 c.remove.ensures.here c.remove.ensures.others c.insert.ensures.here c.insert.ensures.others
+    search_joins c.args.takers.now c.args.names.now c.args.b c.loop-j.i c.in-Some.j _ _ _ _ _ c.loop-j.invariant (omega arith)
+    c.in-Some.ensures.1 c.in-Some.ensures.2 c.remove.ensures.here c.remove.ensures.others c.insert.ensures.here c.insert.ensures.others
 
 pub loop-j-smaller-in-Some : goal.loop-j-smaller-in-Some
 loop-j-smaller-in-Some c =
-    joins_less c.args.takers.now c.args.names.now c.args.b c.loop-j.i c.in-Some.j _ _ _ _ _ c.loop-j.invariant c.in-Some.ensures.1 c.remove.ensures.here c.remove.ensures.others c.insert.ensures.here c.insert.ensures.others
+    joins_less c.args.takers.now c.args.names.now c.args.b c.loop-j.i c.in-Some.j _ _ _ _ _ c.loop-j.invariant c.in-Some.ensures.1
+    c.remove.ensures.here c.remove.ensures.others c.insert.ensures.here c.insert.ensures.others
 
 pub loop-j-preserved : goal.loop-j-preserved
 loop-j-preserved c =
-    search_moves c.args.takers.now c.args.names.now c.args.b c.loop-j.i c.in-Some-first_common.j _ _ _ _ c.loop-j.invariant (λ k inside left. c.in_default.ensures k left) c.in-Some-first_common.ensures.1 c.remove-in-loop-j.ensures.others c.remove-in-loop-j.ensures.here
+    search_moves c.args.takers.now c.args.names.now c.args.b c.loop-j.i c.in-Some-first_common.j _ _ _ _ c.loop-j.invariant
+    (λ k inside left. c.in_default.ensures k left) c.in-Some-first_common.ensures.1 c.remove-in-loop-j.ensures.others c.remove-in-loop-j.ensures.here
 
 pub loop-j-smaller : goal.loop-j-smaller
 loop-j-smaller c =
     let waits : member c.loop-j.waiting c.in-Some-first_common.j ≡ 1 = c.in-Some-first_common.ensures.1 in
-    omega (arith, total_taken (length c.args.takers.now) (member c.loop-j.waiting) (member c.remove-in-loop-j.new.set) c.in-Some-first_common.j (c.loop-j.invariant.opened c.in-Some-first_common.j waits).inside waits c.remove-in-loop-j.ensures.here c.remove-in-loop-j.ensures.others)
+    omega (
+      arith,
+      total_taken (length c.args.takers.now) (member c.loop-j.waiting) (member c.remove-in-loop-j.new.set)
+          c.in-Some-first_common.j (c.loop-j.invariant.opened c.in-Some-first_common.j waits).inside waits c.remove-in-loop-j.ensures.here
+          c.remove-in-loop-j.ensures.others,
+    )

@@ -11,7 +11,13 @@ use Rattle.block_assignment.proofs.matrix.fill_row.Goals.{then-place-row, else-p
 pub loop-i-init : goal.loop-i-init
 loop-i-init c =
     let filled = c.fill.ensures.after (λ _ same. same) in
-    λ p inside. omega (arith, ap (λ (row : List ℕ). slice_index row p) filled ∙ get_or-replicate _ p _ 0 (omega (arith, inside, c.fill.ensures.len)), c.sum_of.ensures, bytes_of_zip c.args.bytes.now c.args.places.now c.requires.paired)
+    λ p inside. omega (
+      arith,
+      ap (λ (row : List ℕ). slice_index row p) filled
+          ∙ get_or-replicate _ p _ 0 (omega (arith, inside, c.fill.ensures.len)),
+      c.sum_of.ensures,
+      bytes_of_zip c.args.bytes.now c.args.places.now c.requires.paired,
+    )
 
 pub loop-i-preserved : goal.loop-i-preserved
 loop-i-preserved c =
@@ -22,7 +28,8 @@ loop-i-preserved c =
     let before : i < length pairs = omega (arith, c.loop-i-test.true, zip_counted c.args.bytes.now c.args.places.now c.requires.paired) in
     let item = pair_at c.args.bytes.now c.args.places.now i c.requires.paired c.loop-i-test.true in
     elim c.if-place-row.branch [
-      | then-place-row w ↦ taken_there pairs i c.loop-i.row c.if-place-row.row place w.from.result pair c.loop-i.invariant before item refl w.from.ensures w.if-place-row.true w.row-is
+      | then-place-row w ↦ taken_there pairs i c.loop-i.row c.if-place-row.row place w.from.result pair c.loop-i.invariant before item refl
+          w.from.ensures w.if-place-row.true w.row-is
       | else-place-row w ↦ taken_nowhere pairs i c.loop-i.row c.if-place-row.row place pair c.loop-i.invariant before item refl w.if-place-row.false w.row-is
     ]
 
@@ -41,4 +48,8 @@ pub returns : goal.returns
 returns c = λ p inside.
     let pairs : List (ℕ × ℕ) = zip c.args.bytes.now c.args.places.now in
     let all = take_all c.loop-i.i pairs (omega (arith, c.loop-i-test.false, zip_counted c.args.bytes.now c.args.places.now c.requires.paired)) in
-    omega (arith, subst (λ xs. slice_index c.loop-i.row p + sum_by (λ size. size.0) xs ≡ sum_by (λ size. size.0) pairs + sum_by (λ size. moved_bytes size p) xs) all (c.loop-i.invariant p inside))
+    omega (
+      arith,
+      subst (λ xs. slice_index c.loop-i.row p + sum_by (λ size. size.0) xs ≡ sum_by (λ size. size.0) pairs + sum_by
+          (λ size. moved_bytes size p) xs) all (c.loop-i.invariant p inside),
+    )

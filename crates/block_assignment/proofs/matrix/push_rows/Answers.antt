@@ -19,10 +19,12 @@ loop-b-preserved g c =
     let appended : c.extend_from_slice.new.self.items ≡ c.loop-b.costs.items ++ c.fill_row.new.row = search rules in
     let width : length c.fill_row.new.row ≡ length cuts - 1 = omega arith in
     let filled : (p : ℕ) → p < length c.fill_row.new.row → slice_index c.fill_row.new.row p ≡ block_cost sizes cuts b p =
-    subst (λ part. (p : ℕ) → p < length c.fill_row.new.row → slice_index c.fill_row.new.row p ≡ sum_by (λ size. moved_bytes size p) part) (part_of_zip first (slice_index cuts (b + 1) - first) c.args.bytes.now c.args.places.now) c.fill_row.ensures in
+    subst (λ part. (p : ℕ) → p < length c.fill_row.new.row → slice_index c.fill_row.new.row p ≡ sum_by (λ size. moved_bytes size p) part)
+    (part_of_zip first (slice_index cuts (b + 1) - first) c.args.bytes.now c.args.places.now) c.fill_row.ensures in
     let most : sum_by (λ size. size.0) sizes ≤ BYTES = omega (arith, bytes_of_zip c.args.bytes.now c.args.places.now c.requires.blocks.divided.paired, c.requires.blocks.small) in
     record {
-      rows = rw appended (rows_more BYTES sizes cuts (length cuts - 1) b c.loop-b.costs.items c.fill_row.new.row (λ p. cost_in_all sizes cuts b p BYTES most) c.loop-b.invariant.rows width (λ p inside. filled p (omega (arith, inside, width))));
+      rows = rw appended (rows_more BYTES sizes cuts (length cuts - 1) b c.loop-b.costs.items c.fill_row.new.row
+          (λ p. cost_in_all sizes cuts b p BYTES most) c.loop-b.invariant.rows width (λ p inside. filled p (omega (arith, inside, width))));
       width = width;
     }
 
@@ -31,13 +33,16 @@ returns-clause-matrix g c =
     let blocks : ℕ = length c.args.cuts.now - 1 in
     let sizes : List (ℕ × ℕ) = zip c.args.bytes.now c.args.places.now in
     let all : c.loop-b.b ≡ blocks = omega (arith, c.loop-b-test.false, c.loop-b.auto.b-end) in
-    let rows : HasRows BYTES sizes c.args.cuts.now blocks blocks c.loop-b.costs.items = subst (λ b. HasRows BYTES sizes c.args.cuts.now blocks b c.loop-b.costs.items) all c.loop-b.invariant.rows in
-    table_of_rows BLOCKS BYTES sizes c.args.cuts.now blocks c.loop-b.costs.items (omega (arith, c.requires.blocks.divided.some_block)) (omega (arith, c.requires.blocks.divided.few_blocks)) rows
+    let rows : HasRows BYTES sizes c.args.cuts.now blocks blocks c.loop-b.costs.items = subst
+    (λ b. HasRows BYTES sizes c.args.cuts.now blocks b c.loop-b.costs.items) all c.loop-b.invariant.rows in
+    table_of_rows BLOCKS BYTES sizes c.args.cuts.now blocks c.loop-b.costs.items (omega (arith, c.requires.blocks.divided.some_block))
+    (omega (arith, c.requires.blocks.divided.few_blocks)) rows
 
 pub returns-clause-exact : goal.returns-clause-exact
 returns-clause-exact g c =
     let blocks : ℕ = length c.args.cuts.now - 1 in
     let sizes : List (ℕ × ℕ) = zip c.args.bytes.now c.args.places.now in
     let all : c.loop-b.b ≡ blocks = omega (arith, c.loop-b-test.false, c.loop-b.auto.b-end) in
-    let rows : HasRows BYTES sizes c.args.cuts.now blocks blocks c.loop-b.costs.items = subst (λ b. HasRows BYTES sizes c.args.cuts.now blocks b c.loop-b.costs.items) all c.loop-b.invariant.rows in
+    let rows : HasRows BYTES sizes c.args.cuts.now blocks blocks c.loop-b.costs.items = subst
+    (λ b. HasRows BYTES sizes c.args.cuts.now blocks b c.loop-b.costs.items) all c.loop-b.invariant.rows in
     exact_of_rows BYTES sizes c.args.cuts.now c.loop-b.costs.items rows

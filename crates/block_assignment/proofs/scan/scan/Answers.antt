@@ -19,7 +19,8 @@ loop-place-init c =
         to_do_distance = λ p _. refl;
         to_do_from = λ p _. refl;
       }) before last;
-      nearest = nearest_to c.args.rank.now pes c.args.distance.now None (2 ^ 64 - 1) end end (behind pes (length pes)) (record { which = λ p past inside. absurd (omega (arith, past, inside)); far = refl }) before last;
+      nearest = nearest_to c.args.rank.now pes c.args.distance.now None (2 ^ 64 - 1) end end (behind pes (length pes))
+          (record { which = λ p past inside. absurd (omega (arith, past, inside)); far = refl }) before last;
       found = tt;
     }
 
@@ -35,14 +36,21 @@ loop-place-preserved-then-comes_first c =
     let listed : IsUnscanned c.args.rank.now pes end = c.requires.unscanned in
     let at : AtPlace c.args.rank.now pes end place = at_place c.args.rank.now pes end place listed in_list in
     let inside : k < end = at.inside in
-    let walked : Walked c.args.joining.distance c.args.joining.price c.args.joining.block c.args.row.now c.args.discount.now c.args.rank.now c.args.distance.now c.args.from.now c.loop-place.distance c.loop-place.from end (k + 1) = subst (λ n. Walked c.args.joining.distance c.args.joining.price c.args.joining.block c.args.row.now c.args.discount.now c.args.rank.now c.args.distance.now c.args.from.now c.loop-place.distance c.loop-place.from end n) (behind_some pes c.loop-place.place some) known.walked in
-    let nearest : Nearest c.args.rank.now pes c.loop-place.distance c.loop-place.nearest c.loop-place.least end (k + 1) = subst (λ n. Nearest c.args.rank.now pes c.loop-place.distance c.loop-place.nearest c.loop-place.least end n) (behind_some pes c.loop-place.place some) known.nearest in
+    let walked : Walked c.args.joining.distance c.args.joining.price c.args.joining.block c.args.row.now c.args.discount.now c.args.rank.now
+    c.args.distance.now c.args.from.now c.loop-place.distance c.loop-place.from end (k + 1) = subst
+    (λ n. Walked c.args.joining.distance c.args.joining.price c.args.joining.block c.args.row.now c.args.discount.now c.args.rank.now
+    c.args.distance.now c.args.from.now c.loop-place.distance c.loop-place.from end n) (behind_some pes c.loop-place.place some) known.walked in
+    let nearest : Nearest c.args.rank.now pes c.loop-place.distance c.loop-place.nearest c.loop-place.least end (k + 1) = subst
+    (λ n. Nearest c.args.rank.now pes c.loop-place.distance c.loop-place.nearest c.loop-place.least end n)
+    (behind_some pes c.loop-place.place some) known.nearest in
     let there : ℕ = c.args.joining.distance + slice_index c.args.row.now k + slice_index c.args.discount.now k - c.args.joining.price in
-    let exact : there + c.args.joining.price ≡ c.args.joining.distance + slice_index c.args.row.now k + slice_index c.args.discount.now k = omega (arith, c.requires.low k inside) in
+    let exact : there + c.args.joining.price ≡ c.args.joining.distance + slice_index c.args.row.now k + slice_index c.args.discount.now
+    k = omega (arith, c.requires.low k inside) in
     let small : there < 2 ^ 64 - 1 = omega (arith, c.requires.near, c.requires.small k inside) in
     let in_distance : k < length c.loop-place.distance = omega (arith, inside, c.loop-place.auto.distance, c.requires.distances) in
     let in_from : k < length c.loop-place.from = omega (arith, inside, c.loop-place.auto.from, c.requires.froms) in
-    let r : Relaxing c.args.joining.distance c.args.joining.price c.args.joining.block c.args.row.now c.args.discount.now c.args.rank.now c.args.distance.now c.args.from.now c.loop-place.distance c.if-way-far.distance c.if-way-far.from end k c.if-way-far.far = elim c.if-way-far.branch [
+    let r : Relaxing c.args.joining.distance c.args.joining.price c.args.joining.block c.args.row.now c.args.discount.now c.args.rank.now
+    c.args.distance.now c.args.from.now c.loop-place.distance c.if-way-far.distance c.if-way-far.from end k c.if-way-far.far = elim c.if-way-far.branch [
       | then-way-far v ↦
           let d : c.if-way-far.distance ≡ set c.loop-place.distance k there = v.distance-is in
           let f : c.if-way-far.from ≡ set c.loop-place.from k c.args.joining.block = v.from-is in
@@ -72,14 +80,21 @@ loop-place-preserved c =
     let listed : IsUnscanned c.args.rank.now pes end = c.requires.unscanned in
     let at : AtPlace c.args.rank.now pes end place = at_place c.args.rank.now pes end place listed in_list in
     let inside : k < end = at.inside in
-    let walked : Walked c.args.joining.distance c.args.joining.price c.args.joining.block c.args.row.now c.args.discount.now c.args.rank.now c.args.distance.now c.args.from.now c.loop-place.distance c.loop-place.from end (k + 1) = subst (λ n. Walked c.args.joining.distance c.args.joining.price c.args.joining.block c.args.row.now c.args.discount.now c.args.rank.now c.args.distance.now c.args.from.now c.loop-place.distance c.loop-place.from end n) (behind_some pes c.loop-place.place some) known.walked in
-    let nearest : Nearest c.args.rank.now pes c.loop-place.distance c.loop-place.nearest c.loop-place.least end (k + 1) = subst (λ n. Nearest c.args.rank.now pes c.loop-place.distance c.loop-place.nearest c.loop-place.least end n) (behind_some pes c.loop-place.place some) known.nearest in
+    let walked : Walked c.args.joining.distance c.args.joining.price c.args.joining.block c.args.row.now c.args.discount.now c.args.rank.now
+    c.args.distance.now c.args.from.now c.loop-place.distance c.loop-place.from end (k + 1) = subst
+    (λ n. Walked c.args.joining.distance c.args.joining.price c.args.joining.block c.args.row.now c.args.discount.now c.args.rank.now
+    c.args.distance.now c.args.from.now c.loop-place.distance c.loop-place.from end n) (behind_some pes c.loop-place.place some) known.walked in
+    let nearest : Nearest c.args.rank.now pes c.loop-place.distance c.loop-place.nearest c.loop-place.least end (k + 1) = subst
+    (λ n. Nearest c.args.rank.now pes c.loop-place.distance c.loop-place.nearest c.loop-place.least end n)
+    (behind_some pes c.loop-place.place some) known.nearest in
     let there : ℕ = c.args.joining.distance + slice_index c.args.row.now k + slice_index c.args.discount.now k - c.args.joining.price in
-    let exact : there + c.args.joining.price ≡ c.args.joining.distance + slice_index c.args.row.now k + slice_index c.args.discount.now k = omega (arith, c.requires.low k inside) in
+    let exact : there + c.args.joining.price ≡ c.args.joining.distance + slice_index c.args.row.now k + slice_index c.args.discount.now
+    k = omega (arith, c.requires.low k inside) in
     let small : there < 2 ^ 64 - 1 = omega (arith, c.requires.near, c.requires.small k inside) in
     let in_distance : k < length c.loop-place.distance = omega (arith, inside, c.loop-place.auto.distance, c.requires.distances) in
     let in_from : k < length c.loop-place.from = omega (arith, inside, c.loop-place.auto.from, c.requires.froms) in
-    let r : Relaxing c.args.joining.distance c.args.joining.price c.args.joining.block c.args.row.now c.args.discount.now c.args.rank.now c.args.distance.now c.args.from.now c.loop-place.distance c.if-way-far.distance c.if-way-far.from end k c.if-way-far.far = elim c.if-way-far.branch [
+    let r : Relaxing c.args.joining.distance c.args.joining.price c.args.joining.block c.args.row.now c.args.discount.now c.args.rank.now
+    c.args.distance.now c.args.from.now c.loop-place.distance c.if-way-far.distance c.if-way-far.from end k c.if-way-far.far = elim c.if-way-far.branch [
       | then-way-far v ↦
           let d : c.if-way-far.distance ≡ set c.loop-place.distance k there = v.distance-is in
           let f : c.if-way-far.from ≡ set c.loop-place.from k c.args.joining.block = v.from-is in
@@ -98,7 +113,8 @@ loop-place-preserved c =
     }
 
 pub returns-clause-relaxed : goal.returns-clause-relaxed
-returns-clause-relaxed c = λ p inside not_yet. c.loop-place.invariant.walked.relaxed p (omega (arith, behind_none c.args.to_scan.now c.loop-place.place (omega (arith, c.loop-place-test.false)))) inside not_yet
+returns-clause-relaxed c = λ p inside not_yet. c.loop-place.invariant.walked.relaxed p
+    (omega (arith, behind_none c.args.to_scan.now c.loop-place.place (omega (arith, c.loop-place-test.false)))) inside not_yet
 
 pub returns-clause-kept_distance : goal.returns-clause-kept_distance
 returns-clause-kept_distance c = c.loop-place.invariant.walked.kept_distance
@@ -109,7 +125,9 @@ returns-clause-kept_from c = c.loop-place.invariant.walked.kept_from
 pub returns-clause-nearest : goal.returns-clause-nearest
 returns-clause-nearest c =
     let all : behind c.args.to_scan.now c.loop-place.place ≡ 0 = behind_none c.args.to_scan.now c.loop-place.place (omega (arith, c.loop-place-test.false)) in
-    nearest_of_all c.args.rank.now c.args.to_scan.now c.loop-place.distance c.loop-place.nearest c.loop-place.least (length c.args.row.now) (subst (λ k. Nearest c.args.rank.now c.args.to_scan.now c.loop-place.distance c.loop-place.nearest c.loop-place.least (length c.args.row.now) k) all c.loop-place.invariant.nearest)
+    nearest_of_all c.args.rank.now c.args.to_scan.now c.loop-place.distance c.loop-place.nearest c.loop-place.least (length c.args.row.now)
+    (subst (λ k. Nearest c.args.rank.now c.args.to_scan.now c.loop-place.distance c.loop-place.nearest c.loop-place.least
+    (length c.args.row.now) k) all c.loop-place.invariant.nearest)
 
 pub returns-clause-listed : goal.returns-clause-listed
 returns-clause-listed c = c.loop-place.invariant.found

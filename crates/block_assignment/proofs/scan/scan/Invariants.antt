@@ -7,7 +7,8 @@ abbrev pub invariant-loop-place : goal.invariant-loop-place
 invariant-loop-place l =
     record {
       few : l.place ≤ length l.to_scan;
-      walked : Walked l.joining.distance l.joining.price l.joining.block l.row l.discount l.rank l.initial.distance l.initial.from l.distance l.from (length l.row) (behind l.to_scan l.place);
+      walked : Walked l.joining.distance l.joining.price l.joining.block l.row l.discount l.rank l.initial.distance l.initial.from
+          l.distance l.from (length l.row) (behind l.to_scan l.place);
       nearest : Nearest l.rank l.to_scan l.distance l.nearest l.least (length l.row) (behind l.to_scan l.place);
       found : IfSome l.nearest (λ found. found < length l.to_scan);
     }

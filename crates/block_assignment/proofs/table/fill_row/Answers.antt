@@ -15,6 +15,8 @@ loop-size-preserved c =
     let stands = c.loop-size.invariant in
     let place = c.get-place.result in
     elim c.if-place-row.branch [
-      | then-place-row w ↦ taken_there c.args.pairs.now i c.loop-size.row c.if-place-row.row place w.from.result c.loop-size-item.result stands c.loop-size-test.true c.loop-size-item.is c.get-place.ensures.value w.from.ensures w.if-place-row.true w.row-is
-      | else-place-row w ↦ taken_nowhere c.args.pairs.now i c.loop-size.row c.if-place-row.row place c.loop-size-item.result stands c.loop-size-test.true c.loop-size-item.is c.get-place.ensures.value w.if-place-row.false w.row-is
+      | then-place-row w ↦ taken_there c.args.pairs.now i c.loop-size.row c.if-place-row.row place w.from.result c.loop-size-item.result
+          stands c.loop-size-test.true c.loop-size-item.is c.get-place.ensures.value w.from.ensures w.if-place-row.true w.row-is
+      | else-place-row w ↦ taken_nowhere c.args.pairs.now i c.loop-size.row c.if-place-row.row place c.loop-size-item.result stands
+          c.loop-size-test.true c.loop-size-item.is c.get-place.ensures.value w.if-place-row.false w.row-is
     ]

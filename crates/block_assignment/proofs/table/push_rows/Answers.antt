@@ -27,9 +27,11 @@ pub loop-b-preserved : goal.loop-b-preserved
 loop-b-preserved g c =
     let appended : c.extend_from_slice.new.self.items ≡ c.loop-b.costs.items ++ c.fill_row.new.row = search rules in
     let width : length c.fill_row.new.row ≡ length c.args.cuts.now - 1 = omega arith in
-    let exact : (p : ℕ) → p < length c.args.cuts.now - 1 → slice_index c.fill_row.new.row p ≡ block_cost c.args.pairs.now c.args.cuts.now c.loop-b.b p = λ p inside. c.fill_row.ensures p (omega arith) in
+    let exact : (p : ℕ) → p < length c.args.cuts.now - 1
+    → slice_index c.fill_row.new.row p ≡ block_cost c.args.pairs.now c.args.cuts.now c.loop-b.b p = λ p inside. c.fill_row.ensures p (omega arith) in
     record {
-      rows = rw appended (rows_more (2 ^ 36) c.args.pairs.now c.args.cuts.now (length c.args.cuts.now - 1) c.loop-b.b c.loop-b.costs.items c.fill_row.new.row (λ p. block_cost_small c.args.pairs.now c.args.cuts.now c.loop-b.b p c.requires.sizes) c.loop-b.invariant.rows width exact);
+      rows = rw appended (rows_more (2 ^ 36) c.args.pairs.now c.args.cuts.now (length c.args.cuts.now - 1) c.loop-b.b c.loop-b.costs.items
+          c.fill_row.new.row (λ p. block_cost_small c.args.pairs.now c.args.cuts.now c.loop-b.b p c.requires.sizes) c.loop-b.invariant.rows width exact);
       width = width;
     }
 
@@ -37,12 +39,14 @@ pub returns-clause-table : goal.returns-clause-table
 returns-clause-table g c =
     let blocks : ℕ = length c.args.cuts.now - 1 in
     let all : c.loop-b.b ≡ blocks = omega (arith, c.loop-b-test.false, c.loop-b.auto.b-end) in
-    let rows : HasRows (2 ^ 36) c.args.pairs.now c.args.cuts.now blocks blocks c.loop-b.costs.items = subst (λ b. HasRows (2 ^ 36) c.args.pairs.now c.args.cuts.now blocks b c.loop-b.costs.items) all c.loop-b.invariant.rows in
+    let rows : HasRows (2 ^ 36) c.args.pairs.now c.args.cuts.now blocks blocks c.loop-b.costs.items = subst
+    (λ b. HasRows (2 ^ 36) c.args.pairs.now c.args.cuts.now blocks b c.loop-b.costs.items) all c.loop-b.invariant.rows in
     table_of_rows PES (2 ^ 36) c.args.pairs.now c.args.cuts.now blocks c.loop-b.costs.items (omega (arith, c.requires.some_block)) (omega (arith, c.requires.few_blocks)) rows
 
 pub returns-clause-exact : goal.returns-clause-exact
 returns-clause-exact g c =
     let blocks : ℕ = length c.args.cuts.now - 1 in
     let all : c.loop-b.b ≡ blocks = omega (arith, c.loop-b-test.false, c.loop-b.auto.b-end) in
-    let rows : HasRows (2 ^ 36) c.args.pairs.now c.args.cuts.now blocks blocks c.loop-b.costs.items = subst (λ b. HasRows (2 ^ 36) c.args.pairs.now c.args.cuts.now blocks b c.loop-b.costs.items) all c.loop-b.invariant.rows in
+    let rows : HasRows (2 ^ 36) c.args.pairs.now c.args.cuts.now blocks blocks c.loop-b.costs.items = subst
+    (λ b. HasRows (2 ^ 36) c.args.pairs.now c.args.cuts.now blocks b c.loop-b.costs.items) all c.loop-b.invariant.rows in
     exact_of_rows (2 ^ 36) c.args.pairs.now c.args.cuts.now c.loop-b.costs.items rows

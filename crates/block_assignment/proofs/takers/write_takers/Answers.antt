@@ -17,12 +17,17 @@ loop-b-preserved c =
     let counted : length c.row.result.now ≡ blocks = c.row.ensures.counted in
     let others : (k p : ℕ) → k ≢ b → may_have (rows width blocks new) k p ≡ may_have (rows width blocks old) k p =
     subst (λ n. (k p : ℕ) → k ≢ b → may_have (rows width n new) k p ≡ may_have (rows width n old) k p) counted c.add_taker.ensures.others in
-    let exact : (p : ℕ) → p < blocks → (may_have (rows width blocks new) b p ≡ 1) ↔ (slice_index c.args.price.now b ≡ slice_index c.row.result.now p + slice_index c.args.discount.now p) =
-    subst (λ n. (p : ℕ) → p < n → (may_have (rows width n new) b p ≡ 1) ↔ (slice_index c.args.price.now b ≡ slice_index c.row.result.now p + slice_index c.args.discount.now p)) counted c.add_taker.ensures.exact in
-    let here : (p : ℕ) → p < blocks → (may_have (rows width blocks new) b p ≡ 1) ↔ (slice_index c.args.price.now b ≡ cost_at c.args.table.now b p + slice_index c.args.discount.now p) = λ p inside.
-    subst (λ cost. (may_have (rows width blocks new) b p ≡ 1) ↔ (slice_index c.args.price.now b ≡ cost + slice_index c.args.discount.now p)) (c.row.ensures.costs p inside) (exact p inside) in
+    let exact : (p : ℕ) → p < blocks → (may_have (rows width blocks new) b p ≡ 1) ↔
+    (slice_index c.args.price.now b ≡ slice_index c.row.result.now p + slice_index c.args.discount.now p) =
+    subst (λ n. (p : ℕ) → p < n → (may_have (rows width n new) b p ≡ 1) ↔
+    (slice_index c.args.price.now b ≡ slice_index c.row.result.now p + slice_index c.args.discount.now p)) counted c.add_taker.ensures.exact in
+    let here : (p : ℕ) → p < blocks → (may_have (rows width blocks new) b p ≡ 1) ↔
+    (slice_index c.args.price.now b ≡ cost_at c.args.table.now b p + slice_index c.args.discount.now p) = λ p inside.
+    subst (λ cost. (may_have (rows width blocks new) b p ≡ 1) ↔ (slice_index c.args.price.now b ≡ cost + slice_index c.args.discount.now p))
+    (c.row.ensures.costs p inside) (exact p inside) in
     record {
-      done = all_known_more (rows width blocks old) (rows width blocks new) b blocks (λ k p. slice_index c.args.price.now k ≡ cost_at c.args.table.now k p + slice_index c.args.discount.now p) c.loop-b.invariant.done others here;
+      done = all_known_more (rows width blocks old) (rows width blocks new) b blocks
+          (λ k p. slice_index c.args.price.now k ≡ cost_at c.args.table.now k p + slice_index c.args.discount.now p) c.loop-b.invariant.done others here;
       to_do = λ k p past inside. others k p (omega (arith, past)) ∙ c.loop-b.invariant.to_do k p (omega (arith, past)) inside;
     }
 
@@ -40,4 +45,5 @@ add_taker-requires-clause-rows c =
 
 pub add_taker-requires-clause-none : goal.add_taker-requires-clause-none
 add_taker-requires-clause-none c =
-    subst (λ n. (p : ℕ) → p < n → may_have (rows c.args.width n c.loop-b.words) c.loop-b.b p ≡ 0) (sym c.row.ensures.counted) (λ p inside. c.loop-b.invariant.to_do c.loop-b.b p (omega arith) inside)
+    subst (λ n. (p : ℕ) → p < n → may_have (rows c.args.width n c.loop-b.words) c.loop-b.b p ≡ 0) (sym c.row.ensures.counted)
+    (λ p inside. c.loop-b.invariant.to_do c.loop-b.b p (omega arith) inside)

@@ -14,14 +14,18 @@ opened_from-requires-clause-queues g c = ap length c.into_parts-ends.ensures.lef
 pub opened_from-requires-clause-account : goal.opened_from-requires-clause-account
 opened_from-requires-clause-account g c =
     let left : IsRunAccount g.C.Chare.step g.H.Openings.opened (left_world c.args.outcome.ends (map (λ q. q.items) c.into_parts-ends.result.1.items)) =
-    subst (λ (v : List (List Parcel)). IsRunAccount g.C.Chare.step g.H.Openings.opened (left_world c.args.outcome.ends v)) (sym c.into_parts-ends.ensures.left) c.requires.earlier.account in
-    subst (λ (v : List (PeView g.row.C.Denot)). IsRunAccount g.C.Chare.step g.H.Openings.opened (left_world v (map (λ q. q.items) c.into_parts-ends.result.1.items))) (sym c.into_parts-ends.ensures.ends) left
+    subst (λ (v : List (List Parcel)). IsRunAccount g.C.Chare.step g.H.Openings.opened (left_world c.args.outcome.ends v))
+    (sym c.into_parts-ends.ensures.left) c.requires.earlier.account in
+    subst (λ (v : List (PeView g.row.C.Denot)). IsRunAccount g.C.Chare.step g.H.Openings.opened
+    (left_world v (map (λ q. q.items) c.into_parts-ends.result.1.items))) (sym c.into_parts-ends.ensures.ends) left
 
 pub opened_from-requires-clause-histories : goal.opened_from-requires-clause-histories
 opened_from-requires-clause-histories g c =
     let left : AreHistories g.C.Chare.step g.C.Pup.fits g.C.Pup.pack g.H.Openings.opened (left_world c.args.outcome.ends (map (λ q. q.items) c.into_parts-ends.result.1.items)) =
-    subst (λ (v : List (List Parcel)). AreHistories g.C.Chare.step g.C.Pup.fits g.C.Pup.pack g.H.Openings.opened (left_world c.args.outcome.ends v)) (sym c.into_parts-ends.ensures.left) c.requires.earlier.histories in
-    subst (λ (v : List (PeView g.row.C.Denot)). AreHistories g.C.Chare.step g.C.Pup.fits g.C.Pup.pack g.H.Openings.opened (left_world v (map (λ q. q.items) c.into_parts-ends.result.1.items))) (sym c.into_parts-ends.ensures.ends) left
+    subst (λ (v : List (List Parcel)). AreHistories g.C.Chare.step g.C.Pup.fits g.C.Pup.pack g.H.Openings.opened
+    (left_world c.args.outcome.ends v)) (sym c.into_parts-ends.ensures.left) c.requires.earlier.histories in
+    subst (λ (v : List (PeView g.row.C.Denot)). AreHistories g.C.Chare.step g.C.Pup.fits g.C.Pup.pack g.H.Openings.opened
+    (left_world v (map (λ q. q.items) c.into_parts-ends.result.1.items))) (sym c.into_parts-ends.ensures.ends) left
 
 pub opened_from-requires-clause-elements : goal.opened_from-requires-clause-elements
 opened_from-requires-clause-elements g c = ap (λ b. elements b.database) c.into_parts-ends.ensures.board ∙ c.requires.earlier.elements

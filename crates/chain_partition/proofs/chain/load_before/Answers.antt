@@ -8,7 +8,13 @@ light_total-requires c =
 
 pub overflow_add-result : goal.overflow_add-result
 overflow_add-result c =
-    omega (arith, c.light_total.ensures.value, load_by_sample c.args.loads.now c.args.samples.now c.args.end c.requires.valid c.requires.within, load_fits c.args.loads.now c.args.samples.now 0 c.args.end c.requires.valid (omega arith))
+    omega (
+      arith,
+      c.light_total.ensures.value,
+      load_by_sample c.args.loads.now c.args.samples.now c.args.end c.requires.valid
+          c.requires.within,
+      load_fits c.args.loads.now c.args.samples.now 0 c.args.end c.requires.valid (omega arith),
+    )
 
 pub returns : goal.returns
 returns c =

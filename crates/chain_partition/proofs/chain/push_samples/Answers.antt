@@ -15,12 +15,22 @@ overflow_add-before g c =
     let n = c.loop-group.group in
     let so_far = c.loop-group.invariant.samples in
     let group : c.light_total-before.result ≡ load xs (n * 16) (n * 16 + 16) = c.light_total-before.ensures.value in
-    omega (arith, group, so_far.last, so_far.sampled.each n (omega arith), load_split xs (n * 16) (n * 16 + 16) (omega arith), load_within xs 0 (n * 16 + 16) (omega arith), c.requires.chain.light)
+    omega (
+      arith,
+      group,
+      so_far.last,
+      so_far.sampled.each n (omega arith),
+      load_split xs (n * 16) (n * 16 + 16) (omega arith),
+      load_within xs 0 (n * 16 + 16) (omega arith),
+      c.requires.chain.light,
+    )
 
 pub loop-group-preserved : goal.loop-group-preserved
 loop-group-preserved g c =
     let n = c.loop-group.group in
     record {
-      samples = rw c.push_reserved-in-loop-group.ensures.items (sampled_more c.args.list.now.items c.args.loads.now n c.loop-group.before c.light_total-before.result c.loop-group.list.items c.loop-group.invariant.samples c.light_total-before.ensures.value);
+      samples = rw c.push_reserved-in-loop-group.ensures.items
+          (sampled_more c.args.list.now.items c.args.loads.now n c.loop-group.before c.light_total-before.result c.loop-group.list.items
+          c.loop-group.invariant.samples c.light_total-before.ensures.value);
       room = omega (arith, c.loop-group.invariant.room, c.push_reserved-in-loop-group.ensures.len, c.push_reserved-in-loop-group.ensures.capacity);
     }

@@ -32,5 +32,6 @@ returns g c =
     let b = c.args.b in
     let cut = slice_index present (b + 1) in
     let apart = apart_from_order claim.sizes claim.names present b c.requires.claimed.order c.requires.order c.requires.inside in
-    let value = subst (λ (seen : Claimed). c.held_by-2.result ≡ held (slice_range seen.sizes cut c.args.x) (slice_index seen.names (b + 1))) c.claim.view_is c.held_by-2.ensures.value in
+    let value = subst (λ (seen : Claimed). c.held_by-2.result ≡ held (slice_range seen.sizes cut c.args.x) (slice_index seen.names (b + 1)))
+    c.claim.view_is c.held_by-2.ensures.value in
     record { cost = value ∙ cost_behind claim.sizes claim.names present b c.args.x cut apart refl (omega (arith, c.if-x-cut.false)) c.requires.within }

@@ -10,5 +10,8 @@ returns g c =
     let present = c.args.present.now in
     record {
       gentle = OnTrue_from c.is_gentle_walk.result (AllGentle claim c.args.b (length claim.loads + 1)) (λ walked.
-          few_are_enough claim present c.args.b c.last_rise.result c.climbed_to.result.height c.args.base c.climbed_to-low.result c.requires.claimed c.requires.order c.requires.inside c.requires.base c.climbed_to-low.ensures.height c.climbed_to.ensures.height (omega (arith, c.if-low-climbed_to.false)) (omega (arith, c.if-base-cut.false)) c.last_rise.ensures.onward (OnTrue_at walked c.is_gentle_walk.ensures.walked));
+          few_are_enough claim present c.args.b c.last_rise.result c.climbed_to.result.height c.args.base c.climbed_to-low.result
+          c.requires.claimed c.requires.order c.requires.inside c.requires.base c.climbed_to-low.ensures.height
+          c.climbed_to.ensures.height (omega (arith, c.if-low-climbed_to.false)) (omega (arith, c.if-base-cut.false))
+          c.last_rise.ensures.onward (OnTrue_at walked c.is_gentle_walk.ensures.walked));
     }

@@ -9,7 +9,8 @@ pub returns : goal.returns
 returns g c =
     let claim = c.args.claim.now in
     let seen = c.claim.inside in
-    let cost = subst (λ (claim : Claimed). c.held_by.result ≡ cut_cost claim.sizes claim.names c.args.b 0) c.claim.view_is (c.held_by.ensures.value ∙ first_cost seen.sizes.now seen.names.now c.args.b) in
+    let cost = subst (λ (claim : Claimed). c.held_by.result ≡ cut_cost claim.sizes claim.names c.args.b 0) c.claim.view_is
+    (c.held_by.ensures.value ∙ first_cost seen.sizes.now seen.names.now c.args.b) in
     record {
       place = record {
         cost_is = cost;

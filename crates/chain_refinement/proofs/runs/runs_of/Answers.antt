@@ -28,7 +28,8 @@ returns-then-place-pes g c =
     elim c.then-place-pes.branch [
       | then-place-pes-via-then-place-pes w ↦ record { runs = no_order_past sizes c.args.pes i (omega arith) (omega (arith, here)) }
       | then-place-pes-via-else-place-pes+then-has w ↦
-          let other : IsLast names (place_of sizes i) → ⊥ = λ last. iff_false c.is_last.ensures c.if-is_last.false (subst (λ ns. IsLast ns c.get-place.result) (sym c.deref.ensures.value) (subst (λ p. IsLast names p) here last)) in
+          let other : IsLast names (place_of sizes i) → ⊥ = λ last. iff_false c.is_last.ensures c.if-is_last.false
+          (subst (λ ns. IsLast ns c.get-place.result) (sym c.deref.ensures.value) (subst (λ p. IsLast names p) here last)) in
           let found = subst (λ ns. Contains ns c.get-place.result) w.deref-else-place-pes.ensures.value (w.has.ensures.0 w.if-has.true) in
           record { runs = no_order_twice sizes c.args.pes i names c.loop-i.starts.items c.loop-i.invariant (omega arith) other (subst (λ p. Contains names p) (sym here) found) }
     ]
@@ -40,5 +41,7 @@ loop-i-preserved g c =
     let names = c.loop-i.names.items in
     let here : place_of sizes i ≡ c.get-place.result =
     sym (c.get-place.ensures.value ∙ ap (λ s. s.1) (get_or_default sizes i c.index-pairs-i.result (0, 0) (omega arith))) in
-    let new : Contains names c.get-place.result → ⊥ = λ found. iff_false c.has.ensures c.if-has.false (subst (λ ns. Contains ns c.get-place.result) (sym c.deref-else-place-pes.ensures.value) found) in
-    rw (c.in_ok-push.ensures.items, c.in_ok-push-2.ensures.items) (runs_push sizes c.args.pes i names c.loop-i.starts.items c.get-place.result c.loop-i.invariant here (omega arith) new)
+    let new : Contains names c.get-place.result → ⊥ = λ found. iff_false c.has.ensures c.if-has.false
+    (subst (λ ns. Contains ns c.get-place.result) (sym c.deref-else-place-pes.ensures.value) found) in
+    rw (c.in_ok-push.ensures.items, c.in_ok-push-2.ensures.items)
+    (runs_push sizes c.args.pes i names c.loop-i.starts.items c.get-place.result c.loop-i.invariant here (omega arith) new)

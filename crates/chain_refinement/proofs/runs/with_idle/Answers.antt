@@ -13,8 +13,10 @@ loop-pe-preserved g c =
     let busy = length c.args.runs.names.items in
     elim c.if-not-has.branch [
       | then-not-has+in_ok-push+in_ok-push-2 w ↦
-          let new : Contains names c.loop-pe.pe → ⊥ = λ found. iff_false c.has.ensures w.if-not-has.true (subst (λ ns. Contains ns c.loop-pe.pe) (sym c.deref.ensures.value) found) in
-          rw (w.names-is, w.starts-is, w.in_ok-push.ensures.items, w.in_ok-push-2.ensures.items) (listed_push sizes c.args.pes (length sizes) busy c.loop-pe.pe names starts c.loop-pe.invariant (omega arith) new)
+          let new : Contains names c.loop-pe.pe → ⊥ = λ found. iff_false c.has.ensures w.if-not-has.true
+          (subst (λ ns. Contains ns c.loop-pe.pe) (sym c.deref.ensures.value) found) in
+          rw (w.names-is, w.starts-is, w.in_ok-push.ensures.items, w.in_ok-push-2.ensures.items)
+          (listed_push sizes c.args.pes (length sizes) busy c.loop-pe.pe names starts c.loop-pe.invariant (omega arith) new)
       | else-not-has w ↦
           let found = subst (λ ns. Contains ns c.loop-pe.pe) c.deref.ensures.value (c.has.ensures.0 w.if-not-has.false) in
           rw (w.names-is, w.starts-is) (listed_skip sizes c.args.pes (length sizes) busy c.loop-pe.pe names starts c.loop-pe.invariant found)

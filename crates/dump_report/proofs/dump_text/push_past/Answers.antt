@@ -9,4 +9,5 @@ returns g c =
     let old = c.args.text.now.items in
     let new = c.push_recorded.new.text.items in
     subst (λ r. OnOk c.push_recorded.result ((past : List ℕ) × IsPast style name c.args.dump.now.snapshot r past × (new ≡ old ++ past))) c.in-Some.ensures.value
-    (subst (λ s. OnOk c.push_recorded.result ((past : List ℕ) × IsPast style name s (Some c.in-Some.recorded.now) past × (new ≡ old ++ past))) c.snapshot.ensures.value c.push_recorded.ensures.text)
+    (subst (λ s. OnOk c.push_recorded.result ((past : List ℕ) × IsPast style name s (Some c.in-Some.recorded.now) past
+    × (new ≡ old ++ past))) c.snapshot.ensures.value c.push_recorded.ensures.text)

@@ -10,7 +10,8 @@ returns-in_err-put g c =
     let p = err_from_is_err_and c.from_residual.result c.from_residual.ensures.1 in
     let r = c.in-Some.recorded.now in
     let more = plan_text r ++ flat_map move_text r.decision.moves in
-    fails _ _ c.to_be_bytes-2.result more _ c.in_err-put.field-0.0 c.from_residual.result (ap (λ (t : List ℕ). t ++ more) c.to_be_bytes-2.ensures ∙ ap ending_text c.in-Some.ensures.value) c.in_err-put.ensures (p.1 ∙ ap Err p.2)
+    fails _ _ c.to_be_bytes-2.result more _ c.in_err-put.field-0.0 c.from_residual.result
+    (ap (λ (t : List ℕ). t ++ more) c.to_be_bytes-2.ensures ∙ ap ending_text c.in-Some.ensures.value) c.in_err-put.ensures (p.1 ∙ ap Err p.2)
 
 pub returns-in_err-put_plan : goal.returns-in_err-put_plan
 returns-in_err-put_plan g c =
@@ -18,7 +19,8 @@ returns-in_err-put_plan g c =
     let r = c.in-Some.recorded.now in
     let moves = flat_map move_text r.decision.moves in
     let more = plan_text r ++ moves in
-    goes_on _ _ _ c.to_be_bytes-2.result more _ c.from_residual-in_err-put_plan.result (ap (λ (t : List ℕ). t ++ more) c.to_be_bytes-2.ensures ∙ ap ending_text c.in-Some.ensures.value) c.in_ok-put.ensures
+    goes_on _ _ _ c.to_be_bytes-2.result more _ c.from_residual-in_err-put_plan.result
+    (ap (λ (t : List ℕ). t ++ more) c.to_be_bytes-2.ensures ∙ ap ending_text c.in-Some.ensures.value) c.in_ok-put.ensures
     (fails _ _ (plan_text r) moves more c.in_err-put_plan.field-0.0 c.from_residual-in_err-put_plan.result refl c.in_err-put_plan.ensures (p.1 ∙ ap Err p.2))
 
 pub returns : goal.returns
@@ -26,5 +28,7 @@ returns g c =
     let r = c.in-Some.recorded.now in
     let moves = flat_map move_text c.as_slice.result.now in
     let more = plan_text r ++ moves in
-    goes_on _ _ _ c.to_be_bytes-2.result more _ c.put_items.result (ap (λ (t : List ℕ). t ++ more) c.to_be_bytes-2.ensures ∙ ap (λ ms. word 1 ++ (plan_text r ++ flat_map move_text ms)) c.as_slice.ensures.value ∙ ap ending_text c.in-Some.ensures.value) c.in_ok-put.ensures
+    goes_on _ _ _ c.to_be_bytes-2.result more _ c.put_items.result
+    (ap (λ (t : List ℕ). t ++ more) c.to_be_bytes-2.ensures
+    ∙ ap (λ ms. word 1 ++ (plan_text r ++ flat_map move_text ms)) c.as_slice.ensures.value ∙ ap ending_text c.in-Some.ensures.value) c.in_ok-put.ensures
     (goes_on _ _ _ (plan_text r) moves more c.put_items.result refl c.in_ok-put_plan.ensures c.put_items.ensures)

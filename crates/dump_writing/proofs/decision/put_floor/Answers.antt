@@ -12,10 +12,13 @@ pub returns-in_err-put-in-Fence : goal.returns-in_err-put-in-Fence
 returns-in_err-put-in-Fence g c =
     let p = err_from_is_err_and c.from_residual.result c.from_residual.ensures.1 in
     let stops = flat_map word c.in-Fence.stops in
-    fails _ _ c.to_be_bytes-in-Fence.result stops _ c.in_err-put-in-Fence.field-0.0 c.from_residual.result (ap (λ (t : List ℕ). t ++ stops) c.to_be_bytes-in-Fence.ensures ∙ sym (ap floor_text c.in-Fence.is)) c.in_err-put-in-Fence.ensures (p.1 ∙ ap Err p.2)
+    fails _ _ c.to_be_bytes-in-Fence.result stops _ c.in_err-put-in-Fence.field-0.0 c.from_residual.result
+    (ap (λ (t : List ℕ). t ++ stops) c.to_be_bytes-in-Fence.ensures ∙ sym (ap floor_text c.in-Fence.is)) c.in_err-put-in-Fence.ensures (p.1 ∙ ap Err p.2)
 
 pub returns-in_ok-put-in-Fence : goal.returns-in_ok-put-in-Fence
 returns-in_ok-put-in-Fence g c =
     let stops = flat_map word c.as_slice.result.now in
     goes_on _ _ _ c.to_be_bytes-in-Fence.result stops _ c.put_items.result
-    (ap (λ (t : List ℕ). t ++ stops) c.to_be_bytes-in-Fence.ensures ∙ ap (λ (s : List ℕ). word 1 ++ flat_map word s) c.as_slice.ensures.value ∙ sym (ap floor_text c.in-Fence.is)) c.in_ok-put-in-Fence.ensures c.put_items.ensures
+    (ap (λ (t : List ℕ). t ++ stops) c.to_be_bytes-in-Fence.ensures
+    ∙ ap (λ (s : List ℕ). word 1 ++ flat_map word s) c.as_slice.ensures.value ∙ sym (ap floor_text c.in-Fence.is))
+    c.in_ok-put-in-Fence.ensures c.put_items.ensures

@@ -11,15 +11,18 @@ returns-in_err-put g c =
     let p = err_from_is_err_and c.from_residual.result c.from_residual.ensures.1 in
     let r = c.args.recorded.now in
     let more = division_text r.decision.division ++ naming_text r.decision in
-    fails _ _ c.to_be_bytes.result more (plan_text r) c.in_err-put.field-0.0 c.from_residual.result (ap (λ (t : List ℕ). t ++ more) c.to_be_bytes.ensures ∙ plan_parts r) c.in_err-put.ensures (p.1 ∙ ap Err p.2)
+    fails _ _ c.to_be_bytes.result more (plan_text r) c.in_err-put.field-0.0 c.from_residual.result
+    (ap (λ (t : List ℕ). t ++ more) c.to_be_bytes.ensures ∙ plan_parts r) c.in_err-put.ensures (p.1 ∙ ap Err p.2)
 
 pub returns-in_err-put_division : goal.returns-in_err-put_division
 returns-in_err-put_division g c =
     let p = err_from_is_err_and c.from_residual-in_err-put_division.result c.from_residual-in_err-put_division.ensures.1 in
     let r = c.args.recorded.now in
     let more = division_text r.decision.division ++ naming_text r.decision in
-    goes_on _ _ _ c.to_be_bytes.result more (plan_text r) c.from_residual-in_err-put_division.result (ap (λ (t : List ℕ). t ++ more) c.to_be_bytes.ensures ∙ plan_parts r) c.in_ok-put.ensures
-    (fails _ _ (division_text r.decision.division) (naming_text r.decision) more c.in_err-put_division.field-0.0 c.from_residual-in_err-put_division.result refl c.in_err-put_division.ensures (p.1 ∙ ap Err p.2))
+    goes_on _ _ _ c.to_be_bytes.result more (plan_text r) c.from_residual-in_err-put_division.result
+    (ap (λ (t : List ℕ). t ++ more) c.to_be_bytes.ensures ∙ plan_parts r) c.in_ok-put.ensures
+    (fails _ _ (division_text r.decision.division) (naming_text r.decision) more c.in_err-put_division.field-0.0
+    c.from_residual-in_err-put_division.result refl c.in_err-put_division.ensures (p.1 ∙ ap Err p.2))
 
 pub returns : goal.returns
 returns g c =

@@ -12,12 +12,15 @@ returns-in_err-put g c =
     let p = err_from_is_err_and c.from_residual.result c.from_residual.ensures.1 in
     let s = c.args.snapshot.now in
     fails _ _ c.head.result (elements_text w64 s.loads s.sizes) (front_text s) c.in_err-put.field-0.0 c.from_residual.result
-    (front_parts s c.head.result c.as_slice-loads.result.now c.step.result c.procs.result c.step.ensures.value c.procs.ensures.value (c.as_slice-loads.ensures.value ∙ c.loads.ensures.value) c.head.ensures) c.in_err-put.ensures (p.1 ∙ ap Err p.2)
+    (front_parts s c.head.result c.as_slice-loads.result.now c.step.result c.procs.result c.step.ensures.value c.procs.ensures.value
+    (c.as_slice-loads.ensures.value ∙ c.loads.ensures.value) c.head.ensures) c.in_err-put.ensures (p.1 ∙ ap Err p.2)
 
 pub returns : goal.returns
 returns g c =
     let s = c.args.snapshot.now in
     goes_on _ _ _ c.head.result (elements_text w64 s.loads s.sizes) (front_text s) c.put_items.result
-    (front_parts s c.head.result c.as_slice-loads.result.now c.step.result c.procs.result c.step.ensures.value c.procs.ensures.value (c.as_slice-loads.ensures.value ∙ c.loads.ensures.value) c.head.ensures) c.in_ok-put.ensures
+    (front_parts s c.head.result c.as_slice-loads.result.now c.step.result c.procs.result c.step.ensures.value c.procs.ensures.value
+    (c.as_slice-loads.ensures.value ∙ c.loads.ensures.value) c.head.ensures) c.in_ok-put.ensures
     (spelled _ _ (elements_text w64 c.as_slice-loads.result.now c.as_slice-sizes.result.now) (elements_text w64 s.loads s.sizes) c.put_items.result
-    (ap (λ (xs : List ℕ). elements_text w64 xs c.as_slice-sizes.result.now) (c.as_slice-loads.ensures.value ∙ c.loads.ensures.value) ∙ ap (elements_text w64 s.loads) (c.as_slice-sizes.ensures.value ∙ c.sizes.ensures.value)) c.put_items.ensures)
+    (ap (λ (xs : List ℕ). elements_text w64 xs c.as_slice-sizes.result.now) (c.as_slice-loads.ensures.value ∙ c.loads.ensures.value)
+    ∙ ap (elements_text w64 s.loads) (c.as_slice-sizes.ensures.value ∙ c.sizes.ensures.value)) c.put_items.ensures)

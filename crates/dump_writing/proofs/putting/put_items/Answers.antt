@@ -18,7 +18,8 @@ returns-in_err-put g c =
     let block = take (g.row.N * (c.loop-first.first + c.min.result - c.loop-first.first)) c.fill.new.block in
     subst (Puts (g.W.Write.contents c.args.writer.now) (g.W.Write.contents c.put.new.writer) (g.L.Items.text c.args.list.now)) (sym (p.1 ∙ ap Err p.2))
     (block_stopped (g.L.Items.item c.args.list.now) c.loop-first.first (c.loop-first.first + c.min.result) (g.L.Items.count c.args.list.now) block (g.L.Items.text c.args.list.now)
-    (g.W.Write.contents c.args.writer.now) (g.W.Write.contents c.loop-first.writer) (g.W.Write.contents c.put.new.writer) c.in_err-put.field-0.0 ordered inside (g.met.L.Items.is_joined c.args.list.now) c.fill.ensures c.loop-first.invariant.gone c.in_err-put.ensures)
+    (g.W.Write.contents c.args.writer.now) (g.W.Write.contents c.loop-first.writer) (g.W.Write.contents c.put.new.writer)
+    c.in_err-put.field-0.0 ordered inside (g.met.L.Items.is_joined c.args.list.now) c.fill.ensures c.loop-first.invariant.gone c.in_err-put.ensures)
 
 pub loop-first-preserved : goal.loop-first-preserved
 loop-first-preserved g c =
@@ -26,5 +27,7 @@ loop-first-preserved g c =
     let inside : c.loop-first.first + c.min.result ≤ g.L.Items.count c.args.list.now = omega arith in
     let block = take (g.row.N * (c.loop-first.first + c.min.result - c.loop-first.first)) c.fill.new.block in record {
       inside = inside;
-      gone = block_gone (g.L.Items.item c.args.list.now) c.loop-first.first (c.loop-first.first + c.min.result) block (g.W.Write.contents c.args.writer.now) (g.W.Write.contents c.loop-first.writer) (g.W.Write.contents c.put.new.writer) ordered c.fill.ensures c.loop-first.invariant.gone c.in_ok-put.ensures;
+      gone = block_gone (g.L.Items.item c.args.list.now) c.loop-first.first (c.loop-first.first + c.min.result) block
+          (g.W.Write.contents c.args.writer.now) (g.W.Write.contents c.loop-first.writer) (g.W.Write.contents c.put.new.writer) ordered
+          c.fill.ensures c.loop-first.invariant.gone c.in_ok-put.ensures;
     }

@@ -11,7 +11,8 @@ returns-in_err-put_front g c =
     let p = err_from_is_err_and c.from_residual.result c.from_residual.ensures.1 in
     let d = c.args.dump.now in
     let rest = ending_text d.recorded in
-    let puts = fails _ _ (front_text c.snapshot.result.now) rest (lbd2_text d) c.in_err-put_front.field-0.0 c.from_residual.result (ap (λ s. front_text s ++ rest) c.snapshot.ensures.value ∙ dump_parts d) c.in_err-put_front.ensures (p.1 ∙ ap Err p.2) in record {
+    let puts = fails _ _ (front_text c.snapshot.result.now) rest (lbd2_text d) c.in_err-put_front.field-0.0 c.from_residual.result
+    (ap (λ s. front_text s ++ rest) c.snapshot.ensures.value ∙ dump_parts d) c.in_err-put_front.ensures (p.1 ∙ ap Err p.2) in record {
       written = (lbd2_text d, record { dump = c.snapshot.ensures.consistent; spelled = refl }, puts);
     }
 
@@ -19,6 +20,7 @@ pub returns : goal.returns
 returns g c =
     let d = c.args.dump.now in
     let rest = ending_text d.recorded in
-    let puts = goes_on _ _ _ (front_text c.snapshot.result.now) rest (lbd2_text d) c.put_ending.result (ap (λ s. front_text s ++ rest) c.snapshot.ensures.value ∙ dump_parts d) c.in_ok-put_front.ensures c.put_ending.ensures in record {
+    let puts = goes_on _ _ _ (front_text c.snapshot.result.now) rest (lbd2_text d) c.put_ending.result
+    (ap (λ s. front_text s ++ rest) c.snapshot.ensures.value ∙ dump_parts d) c.in_ok-put_front.ensures c.put_ending.ensures in record {
       written = (lbd2_text d, record { dump = c.snapshot.ensures.consistent; spelled = refl }, puts);
     }

@@ -6,5 +6,6 @@ pub returns : goal.returns
 returns g c =
     let it = c.in_ok-narrow.narrow in
     record {
-      written = put_same (taken it.step it.procs it.loads.now it.sizes.now) c.args.snapshot.now (g.W.Write.contents c.args.writer.now) (g.W.Write.contents c.put_narrow.new.writer) c.put_narrow.result c.in_ok-narrow.ensures.value it.narrow c.put_narrow.ensures;
+      written = put_same (taken it.step it.procs it.loads.now it.sizes.now) c.args.snapshot.now (g.W.Write.contents c.args.writer.now)
+          (g.W.Write.contents c.put_narrow.new.writer) c.put_narrow.result c.in_ok-narrow.ensures.value it.narrow c.put_narrow.ensures;
     }

@@ -9,7 +9,8 @@ returns-clause-barrier g c = λ pes chares strategy events last some run. barrie
 
 -- src/barrier.rt:30:1
 pub returns-clause-stands : goal.returns-clause-stands
-returns-clause-stands g c = λ pes chares strategy events w trace event next some run happens e r there first. stands g.C.Chare.step g.C.Pup.pack g.C.Pup.unpack pes chares strategy events w trace event next e r some run happens there first
+returns-clause-stands g c = λ pes chares strategy events w trace event next some run happens e r there first. stands g.C.Chare.step
+    g.C.Pup.pack g.C.Pup.unpack pes chares strategy events w trace event next e r some run happens there first
 
 -- src/barrier.rt:30:1
 pub returns-clause-kept : goal.returns-clause-kept
@@ -21,4 +22,5 @@ returns-clause-in_order g c = λ pes chares strategy events last run. in_order g
 
 -- src/barrier.rt:30:1
 pub returns-clause-measured : goal.returns-clause-measured
-returns-clause-measured g c = λ pes chares strategy events w trace event next some run happens r are there. measured g.C.Chare.step g.C.Pup.fits g.C.Pup.pack g.C.Pup.unpack pes chares strategy some events w trace event next r run are happens there
+returns-clause-measured g c = λ pes chares strategy events w trace event next some run happens r are there. measured g.C.Chare.step
+    g.C.Pup.fits g.C.Pup.pack g.C.Pup.unpack pes chares strategy some events w trace event next r run are happens there

@@ -11,4 +11,5 @@ pub returns-clause-words : goal.returns-clause-words
 returns-clause-words g c = λ pes chares strategy events last some run. reached_named g.C.Chare.step g.C.Pup.pack g.C.Pup.unpack pes chares strategy some events last run
 
 pub returns-clause-arrivals : goal.returns-clause-arrivals
-returns-clause-arrivals g c = λ pes chares strategy events last some run. arrive_alone last.0 (reached_alone g.C.Chare.step g.C.Pup.pack g.C.Pup.unpack pes chares strategy some events last run)
+returns-clause-arrivals g c = λ pes chares strategy events last some run. arrive_alone last.0
+    (reached_alone g.C.Chare.step g.C.Pup.pack g.C.Pup.unpack pes chares strategy some events last run)

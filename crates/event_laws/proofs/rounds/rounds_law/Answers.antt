@@ -9,7 +9,8 @@ returns-clause-phase g c = λ opened el is e round load bytes pe has. phase g.C.
 
 -- src/rounds.rt:20:1
 pub returns-clause-once : goal.returns-clause-once
-returns-clause-once g c = λ opened el is chare opens round load bytes other_load other_bytes x y. phase_once g.C.Chare.step g.C.Pup.pack opened el is is.in_order chare opens round load bytes other_load other_bytes x y
+returns-clause-once g c = λ opened el is chare opens round load bytes other_load other_bytes x y. phase_once g.C.Chare.step g.C.Pup.pack
+    opened el is is.in_order chare opens round load bytes other_load other_bytes x y
 
 -- src/rounds.rt:20:1
 pub returns-clause-handled : goal.returns-clause-handled

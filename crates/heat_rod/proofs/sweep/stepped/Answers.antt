@@ -17,7 +17,8 @@ loop-i-preserved g c =
     let right = c.args.right in
     let lt : i < length cells = omega arith in
     let after : c.unwrap_or-after.result ≡ get_or cells (i + 1) right = grind (arith, common_steps, unwrap_or-slice_get) in
-    let heat : c.next_cell-heat.result ≡ next_at left cells right i = at_place left cells right i c.loop-i.before (get_or cells i nan) c.unwrap_or-after.result c.next_cell-heat.result nan lt c.loop-i.invariant.beside refl after c.next_cell-heat.ensures.value in
+    let heat : c.next_cell-heat.result ≡ next_at left cells right i = at_place left cells right i c.loop-i.before (get_or cells i nan)
+    c.unwrap_or-after.result c.next_cell-heat.result nan lt c.loop-i.invariant.beside refl after c.next_cell-heat.ensures.value in
     let change : c.abs.result ≡ change_at left cells right i = change_is left cells right i c.next_cell-heat.result c.abs.result nan lt c.abs.ensures.value heat in
     record {
       beside = beside_next left cells i nan lt;

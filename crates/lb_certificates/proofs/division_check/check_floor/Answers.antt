@@ -55,4 +55,5 @@ returns-in-Some-clause-first_flaw g c =
     let starts : slice_index c.as_slice-stops.result.now 0 ≡ 0 = c.if-stops-ne0.false in
     let ordered : IsNonDecreasing c.as_slice-stops.result.now = c.if-not-rises.ensures in
     let ends : slice_index c.as_slice-stops.result.now c.args.pes < length c.args.loads.now = c.if-stops-pes.false in
-    light_is_first c.args.loads.now c.args.pes c.args.division.now c.as_slice-stops.result.now c.in-Some.i c.requires.divides c.requires.within same counted starts ordered ends c.in-Some.ensures
+    light_is_first c.args.loads.now c.args.pes c.args.division.now c.as_slice-stops.result.now c.in-Some.i c.requires.divides
+    c.requires.within same counted starts ordered ends c.in-Some.ensures

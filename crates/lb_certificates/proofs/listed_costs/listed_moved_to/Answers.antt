@@ -12,8 +12,10 @@ loop-i-preserved c =
     let pairs : List (ℕ × ℕ) = zip c.args.bytes.now c.args.places.now in
     let pair : ℕ × ℕ = (slice_index c.args.bytes.now i, slice_index c.args.places.now i) in
     let before : i < length pairs = omega (arith, c.loop-i-test.true, zip_counted c.args.bytes.now c.args.places.now c.requires.paired) in
-    let item : moved_bytes pair c.args.pe ≡ moved_bytes (get_or pairs i pair) c.args.pe = ap (λ (size : ℕ × ℕ). moved_bytes size c.args.pe) (pair_at c.args.bytes.now c.args.places.now i c.requires.paired c.loop-i-test.true) in
-    let more : sum_by (λ size. moved_bytes size c.args.pe) (take (i + 1) pairs) ≡ sum_by (λ size. moved_bytes size c.args.pe) (take i pairs) + moved_bytes (get_or pairs i pair) c.args.pe = sum_by_more (λ size. moved_bytes size c.args.pe) pairs i pair before in
+    let item : moved_bytes pair c.args.pe ≡ moved_bytes (get_or pairs i pair) c.args.pe = ap (λ (size : ℕ × ℕ). moved_bytes size c.args.pe)
+    (pair_at c.args.bytes.now c.args.places.now i c.requires.paired c.loop-i-test.true) in
+    let more : sum_by (λ size. moved_bytes size c.args.pe) (take (i + 1) pairs) ≡ sum_by (λ size. moved_bytes size c.args.pe)
+    (take i pairs) + moved_bytes (get_or pairs i pair) c.args.pe = sum_by_more (λ size. moved_bytes size c.args.pe) pairs i pair before in
     let value : c.from-moved.result ≡ moved_bytes pair c.args.pe = c.from-moved.ensures ∙ c.size_to.ensures in
     (omega (arith, item, more, value, c.loop-i.invariant.0), omega (arith, c.loop-i.invariant.1))
 

@@ -10,7 +10,13 @@ use Rattle.lb_certificates.proofs.listed_costs.write_listed_costs.Goals.{then-pl
 pub loop-i-init : goal.loop-i-init
 loop-i-init c =
     let filled = c.fill.ensures.after (λ _ same. same) in
-    λ p inside. omega (arith, ap (λ (costs : List ℕ). slice_index costs p) filled ∙ get_or-replicate _ p _ 0 (omega (arith, inside, c.fill.ensures.len)), c.listed_bytes.ensures, bytes_of_zip c.args.bytes.now c.args.places.now c.requires.paired)
+    λ p inside. omega (
+      arith,
+      ap (λ (costs : List ℕ). slice_index costs p) filled
+          ∙ get_or-replicate _ p _ 0 (omega (arith, inside, c.fill.ensures.len)),
+      c.listed_bytes.ensures,
+      bytes_of_zip c.args.bytes.now c.args.places.now c.requires.paired,
+    )
 
 pub loop-i-preserved : goal.loop-i-preserved
 loop-i-preserved c =
@@ -24,7 +30,10 @@ loop-i-preserved c =
     elim c.if-place-costs.branch [
       | then-place-costs w ↦
           let on = subst (λ (size : ℕ × ℕ). size.1 < length costs) item w.if-place-costs.true in
-          let taken : c.if-place-costs.costs ≡ set costs (get_or pairs i pair).1 (slice_index costs (get_or pairs i pair).1 - (get_or pairs i pair).0) = w.costs-is ∙ ap (λ n. set costs place (slice_index costs place - n)) w.from.ensures ∙ ap (λ (size : ℕ × ℕ). set costs size.1 (slice_index costs size.1 - size.0)) item in
+          let taken : c.if-place-costs.costs ≡ set costs (get_or pairs i pair).1
+          (slice_index costs (get_or pairs i pair).1 - (get_or pairs i pair).0) = w.costs-is
+          ∙ ap (λ n. set costs place (slice_index costs place - n)) w.from.ensures
+          ∙ ap (λ (size : ℕ × ℕ). set costs size.1 (slice_index costs size.1 - size.0)) item in
           subst (λ after. Stands pairs (i + 1) after) (sym taken) (stands_after pairs i costs pair c.loop-i.invariant before on)
       | else-place-costs w ↦
           let behind = subst (λ (size : ℕ × ℕ). length costs ≤ size.1) item w.if-place-costs.false in
@@ -46,4 +55,8 @@ pub returns : goal.returns
 returns c = λ p inside.
     let pairs : List (ℕ × ℕ) = zip c.args.bytes.now c.args.places.now in
     let all = take_all c.loop-i.i pairs (omega (arith, c.loop-i-test.false, zip_counted c.args.bytes.now c.args.places.now c.requires.paired)) in
-    omega (arith, subst (λ xs. slice_index c.loop-i.costs p + sum_by (λ size. size.0) xs ≡ sum_by (λ size. size.0) pairs + sum_by (λ size. moved_bytes size p) xs) all (c.loop-i.invariant p inside))
+    omega (
+      arith,
+      subst (λ xs. slice_index c.loop-i.costs p + sum_by (λ size. size.0) xs ≡ sum_by (λ size. size.0) pairs + sum_by
+          (λ size. moved_bytes size p) xs) all (c.loop-i.invariant p inside),
+    )

@@ -10,7 +10,8 @@ pub returns-in_err-check_cuts-clause-exact : goal.returns-in_err-check_cuts-clau
 returns-in_err-check_cuts-clause-exact c =
     let claim = c.args.claim.now in
     let named = IsNamedWithin claim.most claim.sizes claim.cuts claim.names claim.u claim.v in
-    refused_exactly (FlawOf claim) named c.from_residual.result c.in_err-check_cuts.field-0.0 (named_flawless claim.sizes claim.cuts claim.names claim.u claim.v) c.from_residual.ensures.0 c.in_err-check_cuts.ensures.first_flaw
+    refused_exactly (FlawOf claim) named c.from_residual.result c.in_err-check_cuts.field-0.0
+    (named_flawless claim.sizes claim.cuts claim.names claim.u claim.v) c.from_residual.ensures.0 c.in_err-check_cuts.ensures.first_flaw
 
 pub returns-in_err-check_cuts-clause-first_flaw : goal.returns-in_err-check_cuts-clause-first_flaw
 returns-in_err-check_cuts-clause-first_flaw c =
@@ -21,7 +22,8 @@ pub returns-in_err-check_names-clause-exact : goal.returns-in_err-check_names-cl
 returns-in_err-check_names-clause-exact c =
     let claim = c.args.claim.now in
     let named = IsNamedWithin claim.most claim.sizes claim.cuts claim.names claim.u claim.v in
-    refused_exactly (FlawOf claim) named c.from_residual-in_err-check_names.result c.in_err-check_names.field-0.0 (named_flawless claim.sizes claim.cuts claim.names claim.u claim.v) c.from_residual-in_err-check_names.ensures.0 c.in_err-check_names.ensures.first_flaw
+    refused_exactly (FlawOf claim) named c.from_residual-in_err-check_names.result c.in_err-check_names.field-0.0
+    (named_flawless claim.sizes claim.cuts claim.names claim.u claim.v) c.from_residual-in_err-check_names.ensures.0 c.in_err-check_names.ensures.first_flaw
 
 pub returns-in_err-check_names-clause-first_flaw : goal.returns-in_err-check_names-clause-first_flaw
 returns-in_err-check_names-clause-first_flaw c =
@@ -31,11 +33,13 @@ returns-in_err-check_names-clause-first_flaw c =
 pub returns-clause-exact : goal.returns-clause-exact
 returns-clause-exact c =
     let claim = c.args.claim.now in (
-      named_where_ok claim.sizes claim.cuts claim.names claim.u claim.v c.check_prices.result c.in_ok-check_cuts.ensures.blocks c.in_ok-check_names.ensures.naming c.check_prices.ensures.proved,
+      named_where_ok claim.sizes claim.cuts claim.names claim.u claim.v c.check_prices.result c.in_ok-check_cuts.ensures.blocks
+          c.in_ok-check_names.ensures.naming c.check_prices.ensures.proved,
       ok_where_named claim.sizes claim.cuts claim.names claim.u claim.v c.check_prices.result c.check_prices.ensures.first_flaw,
     )
 
 pub returns-clause-cheapest : goal.returns-clause-cheapest
 returns-clause-cheapest c =
     let claim = c.args.claim.now in
-    on_ok_weaker c.check_prices.result (λ proved. cheapest_from_named claim.sizes claim.cuts claim.names claim.u claim.v (record { blocks = c.in_ok-check_cuts.ensures.blocks; naming = c.in_ok-check_names.ensures.naming; proved = proved })) c.check_prices.ensures.proved
+    on_ok_weaker c.check_prices.result (λ proved. cheapest_from_named claim.sizes claim.cuts claim.names claim.u claim.v
+    (record { blocks = c.in_ok-check_cuts.ensures.blocks; naming = c.in_ok-check_names.ensures.naming; proved = proved })) c.check_prices.ensures.proved

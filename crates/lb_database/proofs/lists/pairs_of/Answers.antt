@@ -14,7 +14,8 @@ returns-in_err-push-clause-refused g c =
 
 pub loop-report-preserved : goal.loop-report-preserved
 loop-report-preserved g c =
-    pairs_more c.loop-report.pairs.items c.push.new.self.items c.args.reports.now c.loop-report.report-index c.report-item.result _ c.in_ok-push.ensures.items c.loop-report-test.true c.report-item.is (cc) c.loop-report.invariant
+    pairs_more c.loop-report.pairs.items c.push.new.self.items c.args.reports.now c.loop-report.report-index c.report-item.result _
+    c.in_ok-push.ensures.items c.loop-report-test.true c.report-item.is (cc) c.loop-report.invariant
 
 pub returns-clause-items : goal.returns-clause-items
 returns-clause-items g c =

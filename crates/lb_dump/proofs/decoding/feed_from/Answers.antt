@@ -11,7 +11,8 @@ returns-in_err-feed-clause-fault g c =
     let p = err_from_is_err_and c.from_residual.result c.from_residual.ensures.1 in
     let e = c.in_err-feed.field-0.0 in
     let before = c.loop.invariant in
-    faulted _ _ e (p.1 ∙ ap Err p.2) (fed_broken _ _ _ before.0 (take c.in-Ok.len c.read.new.buf) c.loop.dump c.feed.new.self e before.1 before.2 c.in-Ok.ensures.bytes.0 c.in_err-feed.ensures.fed)
+    faulted _ _ e (p.1 ∙ ap Err p.2) (fed_broken _ _ _ before.0 (take c.in-Ok.len c.read.new.buf) c.loop.dump c.feed.new.self e before.1
+    before.2 c.in-Ok.ensures.bytes.0 c.in_err-feed.ensures.fed)
 
 pub loop-preserved : goal.loop-preserved
 loop-preserved g c =

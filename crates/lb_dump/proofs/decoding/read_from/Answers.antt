@@ -12,7 +12,8 @@ returns-in_err-feed_all-clause-known g c =
 pub returns-clause-known : goal.returns-clause-known
 returns-clause-known g c =
     let ended = c.in_ok-feed_all.ensures.ended in
-    all_answered (g.R.Read.remaining c.args.reader.now) (g.R.Read.remaining c.feed_all.new.reader) ended.0 c.end.result ended.2 ended.3 (subst (λ (p : Progress). EndsReading p c.end.result) ended.1 c.end.ensures.ends)
+    all_answered (g.R.Read.remaining c.args.reader.now) (g.R.Read.remaining c.feed_all.new.reader) ended.0 c.end.result ended.2 ended.3
+    (subst (λ (p : Progress). EndsReading p c.end.result) ended.1 c.end.ensures.ends)
 
 pub returns-in_err-feed_all-clause-at_end : goal.returns-in_err-feed_all-clause-at_end
 returns-in_err-feed_all-clause-at_end g c = no_answer _ _ c.from_residual.ensures.0

@@ -13,18 +13,21 @@ returns-then-is_whole-clause-broken g c = inr (whole_trails dump (text_of c.args
 pub take_move_bytes-requires-clause-missing : goal.take_move_bytes-requires-clause-missing
 take_move_bytes-requires-clause-missing g c =
     let held = c.args.held.now in
-    move_missing g.row.A.Denot held.head held.loads.items held.sizes.items held.plan held.moves.items held.begun.items c.in-Made.field-0 c.in-Made.all c.requires.held c.in-Made.is c.if-is_whole.ensures
+    move_missing g.row.A.Denot held.head held.loads.items held.sizes.items held.plan held.moves.items held.begun.items c.in-Made.field-0
+    c.in-Made.all c.requires.held c.in-Made.is c.if-is_whole.ensures
 
 pub take_plan-requires : goal.take_plan-requires
 take_plan-requires g c =
     let held = c.args.held.now in
     let enough : c.in-Some.head.count ≤ length held.loads.items = omega arith in
-    let fresh = plan_begun g.row.A.Denot held.head held.loads.items held.sizes.items held.plan held.moves.items held.begun.items c.requires.held c.in-Begun.is c.if-is_whole.ensures in
+    let fresh = plan_begun g.row.A.Denot held.head held.loads.items held.sizes.items held.plan held.moves.items held.begun.items
+    c.requires.held c.in-Begun.is c.if-is_whole.ensures in
     record {
       held = c.requires.held;
       headed = c.in-Some.is;
       all = all_elements g.row.A.Denot held.head held.loads.items held.sizes.items held.plan held.moves.items held.begun.items c.in-Some.head c.requires.held c.in-Some.is enough;
-      wide = plan_missing g.row.A.Denot held.head held.loads.items held.sizes.items held.plan held.moves.items held.begun.items c.in-Some.head c.requires.held c.in-Some.is enough fresh c.if-is_whole.ensures;
+      wide = plan_missing g.row.A.Denot held.head held.loads.items held.sizes.items held.plan held.moves.items held.begun.items
+          c.in-Some.head c.requires.held c.in-Some.is enough fresh c.if-is_whole.ensures;
       begun = fresh;
       some = c.requires.some;
     }
@@ -32,12 +35,14 @@ take_plan-requires g c =
 pub returns-then-len-head-clause-head_first : goal.returns-then-len-head-clause-head_first
 returns-then-len-head-clause-head_first g c refused =
     let held = c.args.held.now in
-    good_behind_head g.row.A.Denot held.head held.loads.items held.sizes.items held.plan held.moves.items held.begun.items c.args.bytes.now c.in-Some.head c.requires.held c.in-Some.is
+    good_behind_head g.row.A.Denot held.head held.loads.items held.sizes.items held.plan held.moves.items held.begun.items c.args.bytes.now
+    c.in-Some.head c.requires.held c.in-Some.is
 
 pub returns-in-Made-clause-head_first : goal.returns-in-Made-clause-head_first
 returns-in-Made-clause-head_first g c refused =
     let held = c.args.held.now in
-    good_behind_head g.row.A.Denot held.head held.loads.items held.sizes.items held.plan held.moves.items held.begun.items c.args.bytes.now c.in-Some.head c.requires.held c.in-Some.is
+    good_behind_head g.row.A.Denot held.head held.loads.items held.sizes.items held.plan held.moves.items held.begun.items c.args.bytes.now
+    c.in-Some.head c.requires.held c.in-Some.is
 
 pub returns-in-Begun : goal.returns-in-Begun
 returns-in-Begun g c =
@@ -47,5 +52,6 @@ returns-in-Begun g c =
       shorter = c.take_plan.ensures.shorter;
       broken = c.take_plan.ensures.broken;
       trailing = λ whole. absurd (let both : Whole ≡ Unfinished = sym whole ∙ c.if-is_whole.ensures in cc);
-      head_first = λ refused. good_behind_head g.row.A.Denot held.head held.loads.items held.sizes.items held.plan held.moves.items held.begun.items c.args.bytes.now c.in-Some.head c.requires.held c.in-Some.is;
+      head_first = λ refused. good_behind_head g.row.A.Denot held.head held.loads.items held.sizes.items held.plan held.moves.items
+          held.begun.items c.args.bytes.now c.in-Some.head c.requires.held c.in-Some.is;
     }

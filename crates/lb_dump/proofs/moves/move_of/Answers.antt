@@ -7,7 +7,8 @@ use Rattle.lb_dump.proofs.moves.move_of.Goals as goal
 
 pub returns-then-planned-ge-PES-clause-broken : goal.returns-then-planned-ge-PES-clause-broken
 returns-then-planned-ge-PES-clause-broken c =
-    planned_breaks c.args.count c.args.k c.args.bytes.now (omega (arith, c.requires.whole)) (c.in_ok-judge_move.ensures.index (omega (arith, c.requires.whole))) (c.in_ok-judge_move.ensures.present (omega (arith, c.requires.whole)))
+    planned_breaks c.args.count c.args.k c.args.bytes.now (omega (arith, c.requires.whole))
+    (c.in_ok-judge_move.ensures.index (omega (arith, c.requires.whole))) (c.in_ok-judge_move.ensures.present (omega (arith, c.requires.whole)))
     (subst (λ n. PES ≤ n) (number_from c.args.bytes.now 8 8 c.word-planned.result c.word-planned.ensures.value refl) c.if-planned-ge-PES.true)
 
 pub returns-clause-spelled : goal.returns-clause-spelled

@@ -17,5 +17,7 @@ floor_of-requires-clause-whole g c =
 
 pub returns : goal.returns
 returns g c =
-    division_read c.args.bytes.now c.split_at.result.0.now c.split_at.result.1.now c.in_ok-cuts.cuts.items c.args.target (record { bottleneck = c.long.result; cuts = c.new.result; floor = c.in_ok-floor.floor })
-    (are_bytes c.args.bytes.now c.type_inv.bytes) (omega arith) c.long.ensures.value c.long.type_inv c.split_at.ensures.by_index.0 c.in_ok-cuts.ensures.spelled c.in_ok-cuts.ensures.counted c.in_ok-cuts.ensures.range c.new.ensures.value c.in_ok-floor.ensures
+    division_read c.args.bytes.now c.split_at.result.0.now c.split_at.result.1.now c.in_ok-cuts.cuts.items c.args.target
+    (record { bottleneck = c.long.result; cuts = c.new.result; floor = c.in_ok-floor.floor })
+    (are_bytes c.args.bytes.now c.type_inv.bytes) (omega arith) c.long.ensures.value c.long.type_inv c.split_at.ensures.by_index.0
+    c.in_ok-cuts.ensures.spelled c.in_ok-cuts.ensures.counted c.in_ok-cuts.ensures.range c.new.ensures.value c.in_ok-floor.ensures

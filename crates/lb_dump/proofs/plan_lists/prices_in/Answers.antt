@@ -9,6 +9,8 @@ loop-preserved g c =
       left = omega arith;
       counted = omega arith;
       room = omega arith;
-      read = prices_more c.loop.prices.items c.push_reserved.new.self.items c.long.result c.cast_signed.result c.loop.rest.now c.split_at.result.0.now c.split_at.result.1.now c.args.bytes.now
-          (are_bytes c.args.bytes.now c.type_inv.bytes) c.loop.invariant.read c.split_at.ensures.by_index.0 c.split_at.ensures.front_len c.long.ensures.value c.long.type_inv c.cast_signed.ensures (record { sfits = c.cast_signed.type_inv }) c.push_reserved.ensures.items;
+      read = prices_more c.loop.prices.items c.push_reserved.new.self.items c.long.result c.cast_signed.result c.loop.rest.now
+          c.split_at.result.0.now c.split_at.result.1.now c.args.bytes.now
+          (are_bytes c.args.bytes.now c.type_inv.bytes) c.loop.invariant.read c.split_at.ensures.by_index.0 c.split_at.ensures.front_len
+          c.long.ensures.value c.long.type_inv c.cast_signed.ensures (record { sfits = c.cast_signed.type_inv }) c.push_reserved.ensures.items;
     }

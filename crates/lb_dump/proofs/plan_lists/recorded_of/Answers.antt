@@ -20,5 +20,15 @@ returns-clause-spelled g c =
     let cut : Cut c.args.bytes.now c.split_at.result.0.now c.split_at.result.1.now c.args.target =
     record { target = c.requires.target; whole = c.requires.whole; split = c.split_at.ensures.by_index.0; back_len = omega arith } in
     plan_spelled c.args.bytes.now c.split_at.result.0.now c.split_at.result.1.now c.split_at-2.result.0.now c.split_at-2.result.1.now c.after_floor.result c.lists_len.result
-    (record { target = c.args.target; decision = record { division = c.in_ok-division.division; naming = c.in_ok-naming.naming; prices = c.in_ok-naming.prices; moved = c.long.result; moves = c.new-2.result } })
-    cut (are_bytes c.args.bytes.now c.type_inv.bytes) c.requires.flag c.in_ok-division.ensures c.after_floor.ensures c.split_at.ensures.back c.lists_len.ensures c.split_at-2.ensures.back c.split_at-2.ensures.by_index.0 c.in_ok-naming.ensures c.long.ensures.value
+    (record {
+      target = c.args.target;
+      decision = record {
+        division = c.in_ok-division.division;
+        naming = c.in_ok-naming.naming;
+        prices = c.in_ok-naming.prices;
+        moved = c.long.result;
+        moves = c.new-2.result;
+      };
+    })
+    cut (are_bytes c.args.bytes.now c.type_inv.bytes) c.requires.flag c.in_ok-division.ensures c.after_floor.ensures c.split_at.ensures.back
+    c.lists_len.ensures c.split_at-2.ensures.back c.split_at-2.ensures.by_index.0 c.in_ok-naming.ensures c.long.ensures.value

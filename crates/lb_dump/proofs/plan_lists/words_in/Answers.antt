@@ -10,5 +10,6 @@ loop-preserved g c =
       counted = omega arith;
       room = omega arith;
       read = words_more c.loop.words.items c.push_reserved.new.self.items c.word.result c.loop.rest.now c.split_at.result.0.now c.split_at.result.1.now c.args.bytes.now
-          (are_bytes c.args.bytes.now c.type_inv.bytes) c.loop.invariant.read c.split_at.ensures.by_index.0 c.split_at.ensures.front_len c.word.ensures.value c.word.type_inv c.push_reserved.ensures.items;
+          (are_bytes c.args.bytes.now c.type_inv.bytes) c.loop.invariant.read c.split_at.ensures.by_index.0 c.split_at.ensures.front_len
+          c.word.ensures.value c.word.type_inv c.push_reserved.ensures.items;
     }

@@ -19,7 +19,8 @@ pub returns-clause-allowed : goal.returns-clause-allowed
 returns-clause-allowed c =
     let target = word_read c.args.begun.now 4 c.word-target.result c.word-target.ensures.value in
     let kind = word_read c.args.begun.now c.kind_at-kind_at.result c.word.result c.word.ensures.value in
-    begun_to_end c.args.begun.now c.word-target.result c.word.result c.kind_at-kind_at.result c.plan_len.result c.requires target c.kind_at-kind_at.ensures kind c.if-begun-kind_at.false c.plan_len.ensures.value
+    begun_to_end c.args.begun.now c.word-target.result c.word.result c.kind_at-kind_at.result c.plan_len.result c.requires target
+    c.kind_at-kind_at.ensures kind c.if-begun-kind_at.false c.plan_len.ensures.value
 
 pub returns-then-begun-kind_at-clause-rule : goal.returns-then-begun-kind_at-clause-rule
 returns-then-begun-kind_at-clause-rule c =

@@ -20,7 +20,9 @@ returns-then-bytes-clause-plan g c = waits_for_target c.args.count c.args.bytes.
 pub returns-then-not-is_target-clause-broken : goal.returns-then-not-is_target-clause-broken
 returns-then-not-is_target-clause-broken g c =
     let target = word_read c.args.bytes.now 4 c.word-target.result c.word-target.ensures.value in
-    inr (broken_target c.args.count c.args.bytes.now c.word-target.result c.if-bytes.false (sym c.word.ensures.value ∙ c.in-1.is) target (MatchBool-at_false ((0 < c.word-target.result) × (c.word-target.result ≤ PES)) ((c.word-target.result ≡ 0) ⊎ (PES < c.word-target.result)) c.if-not-is_target.true c.is_target.ensures))
+    inr (broken_target c.args.count c.args.bytes.now c.word-target.result c.if-bytes.false (sym c.word.ensures.value ∙ c.in-1.is) target
+    (MatchBool-at_false ((0 < c.word-target.result) × (c.word-target.result ≤ PES))
+    ((c.word-target.result ≡ 0) ⊎ (PES < c.word-target.result)) c.if-not-is_target.true c.is_target.ensures))
 
 pub read_lists-requires-clause-flag : goal.read_lists-requires-clause-flag
 read_lists-requires-clause-flag g c = sym c.word.ensures.value ∙ c.in-1.is

@@ -19,4 +19,7 @@ returns g c =
     let same : made.0 ≡ c.unwrap.result = cc (made.1, c.unwrap.ensures) in
     let value = value_of c.new.result _ _ c.unwrap-2.result c.new.ensures.made c.unwrap-2.ensures in
     rw (value, c.snapshot_of-snapshot.ensures, c.recorded_of.ensures)
-    (subst (λ (h : Head). IsText (record { snapshot = taken_of h held.loads.items held.sizes.items; recorded = recorded_with held.plan held.moves.items }) (text_of held)) same made.4)
+    (subst (λ (h : Head). IsText (record {
+      snapshot = taken_of h held.loads.items held.sizes.items;
+      recorded = recorded_with held.plan held.moves.items;
+    }) (text_of held)) same made.4)

@@ -16,8 +16,10 @@ pub returns-in-Begun : goal.returns-in-Begun
 returns-in-Begun g c =
     let held = c.args.held.now in
     told_by c.is_narrow.result _ _ _ _ c.is_narrow.ensures
-    (found_narrow g.row.A.Denot held.head held.loads.items held.sizes.items held.plan held.moves.items held.begun.items c.in-Some.head c.requires.held c.in-Some.is (omega arith) c.in-Begun.is)
-    (found_plan g.row.A.Denot held.head held.loads.items held.sizes.items held.plan held.moves.items held.begun.items c.in-Some.head c.requires.held c.in-Some.is (omega arith) c.in-Begun.is)
+    (found_narrow g.row.A.Denot held.head held.loads.items held.sizes.items held.plan held.moves.items held.begun.items c.in-Some.head
+    c.requires.held c.in-Some.is (omega arith) c.in-Begun.is)
+    (found_plan g.row.A.Denot held.head held.loads.items held.sizes.items held.plan held.moves.items held.begun.items c.in-Some.head
+    c.requires.held c.in-Some.is (omega arith) c.in-Begun.is)
 
 pub returns-in-Nothing : goal.returns-in-Nothing
 returns-in-Nothing g c =
@@ -28,4 +30,5 @@ pub returns-in-Made : goal.returns-in-Made
 returns-in-Made g c =
     let held = c.args.held.now in
     let many : c.len-in-Made.result ≡ length held.moves.items = omega arith in
-    rw many (found_moves g.row.A.Denot held.head held.loads.items held.sizes.items held.plan held.moves.items held.begun.items c.in-Made.field-0 c.in-Made.all c.requires.held c.in-Made.is)
+    rw many (found_moves g.row.A.Denot held.head held.loads.items held.sizes.items held.plan held.moves.items held.begun.items
+    c.in-Made.field-0 c.in-Made.all c.requires.held c.in-Made.is)

@@ -7,7 +7,9 @@ use Rattle.lb_lists.proofs.checking.check_claim.Goals as goal
 
 pub returns-clause-exact : goal.returns-clause-exact
 returns-clause-exact g c =
-    whole_claim c.args.run.now c.args.pes c.args.claim.now c.first_flaw-flaw.result (subst (λ claim. MatchOption c.first_flaw-flaw.result (IsRightClaim c.args.run.now c.args.pes claim) (IsFirstFlaw c.args.run.now c.args.pes claim)) c.shorten-short.ensures c.first_flaw-flaw.ensures)
+    whole_claim c.args.run.now c.args.pes c.args.claim.now c.first_flaw-flaw.result
+    (subst (λ claim. MatchOption c.first_flaw-flaw.result (IsRightClaim c.args.run.now c.args.pes claim)
+    (IsFirstFlaw c.args.run.now c.args.pes claim)) c.shorten-short.ensures c.first_flaw-flaw.ensures)
 
 pub returns-clause-best : goal.returns-clause-best
 returns-clause-best g c none =

@@ -10,6 +10,8 @@ loop-b-preserved c =
     let counted = c.loop-b.invariant.counted in
     let filled = c.fill.ensures.after (λ _ same. same) in
     record {
-      counted = same_count (length c.args.new_places.now) (blocks_between c.args.cuts.now) c.args.cuts.now c.args.names.now c.loop-b.new_places c.fill.new.self b c.requires.divides inside counted filled;
-      placed = one_more_written (length c.args.new_places.now) (blocks_between c.args.cuts.now) c.args.cuts.now c.args.names.now c.loop-b.new_places c.fill.new.self b c.requires.divides inside counted filled c.loop-b.invariant.placed;
+      counted = same_count (length c.args.new_places.now) (blocks_between c.args.cuts.now) c.args.cuts.now c.args.names.now
+          c.loop-b.new_places c.fill.new.self b c.requires.divides inside counted filled;
+      placed = one_more_written (length c.args.new_places.now) (blocks_between c.args.cuts.now) c.args.cuts.now c.args.names.now
+          c.loop-b.new_places c.fill.new.self b c.requires.divides inside counted filled c.loop-b.invariant.placed;
     }

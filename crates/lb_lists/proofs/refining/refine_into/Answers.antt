@@ -11,7 +11,8 @@ use Rattle.lb_lists.proofs.refining.refine_into.Goals as goal
 pub returns-in_default-flat_steps-clause-refused : goal.returns-in_default-flat_steps-clause-refused
 returns-in_default-flat_steps-clause-refused g c =
     let few : c.args.thousandths ≤ 1000 = c.in-Some.ensures.when.0 refl in
-    let room = subst (λ (r : Listed). HasRefinedRoom (length r.loads) c.args.pes (lists_in c.args.room.now) (standing_lists_in c.args.standing.now)) c.run.view_is (c.if-not-has_refined_room.ensures.0 refl) in
+    let room = subst (λ (r : Listed). HasRefinedRoom (length r.loads) c.args.pes (lists_in c.args.room.now)
+    (standing_lists_in c.args.standing.now)) c.run.view_is (c.if-not-has_refined_room.ensures.0 refl) in
     (few, ((c.in-Ok.ensures.asked, room), c.in-Ok.ensures.small, c.in-Ok.ensures.fits))
 
 pub write_near-requires-clause-stops : goal.write_near-requires-clause-stops
@@ -19,7 +20,12 @@ write_near-requires-clause-stops g c =
     let run = c.args.run.now in
     let kept = (subst (IsRefined run.loads (sizes_of run) c.args.pes c.in-Some.tolerance) c.in-Near.is c.in-Ok.ensures.decided.refined).0 in
     let room = c.if-not-has_refined_room.ensures.0 refl in
-    omega (arith, few_stops run.loads c.args.pes c.in-Near.kept.refinement.least.bottleneck c.in-Near.kept.refinement.least.floor kept.right.least.floor_holds, room.decision_room.stops)
+    omega (
+      arith,
+      few_stops run.loads c.args.pes c.in-Near.kept.refinement.least.bottleneck c.in-Near.kept.refinement.least.floor
+          kept.right.least.floor_holds,
+      room.decision_room.stops,
+    )
 
 pub write_near-requires-clause-step_starts : goal.write_near-requires-clause-step_starts
 write_near-requires-clause-step_starts g c =
@@ -30,43 +36,69 @@ write_near-requires-clause-step_starts g c =
 
 pub returns-in-Planned-clause-refined : goal.returns-in-Planned-clause-refined
 returns-in-Planned-clause-refined g c =
-    let w = c.write_planned.ensures in
-    ([], decided_anew c.args.run.now c.args.pes c.args.thousandths c.args.keep_order _ _ _ c.if-keep_order.false (told_as_plan c.args.run.now c.args.pes c.in-Some.tolerance c.args.thousandths c.in-Ok.refined c.in-Planned.decision _ _ _ c.in-Planned.is c.in-Some.ensures.some w.planned w.told c.in-Ok.ensures.decided.refined), left_in _ _ _ _ w.planned w.no_steps w.left)
+    let w = c.write_planned.ensures in (
+      [],
+      decided_anew c.args.run.now c.args.pes c.args.thousandths c.args.keep_order _ _ _ c.if-keep_order.false
+          (told_as_plan c.args.run.now c.args.pes c.in-Some.tolerance c.args.thousandths c.in-Ok.refined c.in-Planned.decision _ _ _
+          c.in-Planned.is c.in-Some.ensures.some w.planned w.told c.in-Ok.ensures.decided.refined),
+      left_in _ _ _ _ w.planned w.no_steps w.left,
+    )
 
 pub returns-in-Planned-clause-no_more : goal.returns-in-Planned-clause-no_more
 returns-in-Planned-clause-no_more g c anew =
-    no_more_told c.args.run.now c.args.pes c.in-Some.tolerance c.in-Ok.refined _ _ c.in-Planned.is (ap (λ (t : Told). t.moved) c.write_planned.ensures.told) c.in-Ok.ensures.decided.refined
+    no_more_told c.args.run.now c.args.pes c.in-Some.tolerance c.in-Ok.refined _ _ c.in-Planned.is
+    (ap (λ (t : Told). t.moved) c.write_planned.ensures.told) c.in-Ok.ensures.decided.refined
 
 pub returns-in-Planned-clause-kept_whole : goal.returns-in-Planned-clause-kept_whole
 returns-in-Planned-clause-kept_whole g c =
     let told = c.write_planned.ensures.told in
-    kept_whole_told c.args.run.now.loads (sizes_of c.args.run.now) c.args.pes c.in-Some.tolerance c.args.thousandths c.in-Ok.refined _ _ _ c.in-Planned.is c.in-Some.ensures.some (ap (λ (t : Told). t.least) told) (ap (λ (t : Told). t.moved) told) c.in-Ok.ensures.decided.kept_whole
+    kept_whole_told c.args.run.now.loads (sizes_of c.args.run.now) c.args.pes c.in-Some.tolerance c.args.thousandths c.in-Ok.refined _ _ _
+    c.in-Planned.is c.in-Some.ensures.some (ap (λ (t : Told). t.least) told) (ap (λ (t : Told). t.moved) told) c.in-Ok.ensures.decided.kept_whole
 
 pub returns-in-Planned-clause-asked : goal.returns-in-Planned-clause-asked
-returns-in-Planned-clause-asked g c =
-    (c.in-Ok.ensures.asked, subst (λ (r : Listed). HasRefinedRoom (length r.loads) c.args.pes (lists_in c.args.room.now) (standing_lists_in c.args.standing.now)) c.run.view_is (c.if-not-has_refined_room.ensures.0 refl))
+returns-in-Planned-clause-asked g c = (
+  c.in-Ok.ensures.asked,
+  subst (λ (r : Listed). HasRefinedRoom (length r.loads) c.args.pes (lists_in c.args.room.now)
+      (standing_lists_in c.args.standing.now)) c.run.view_is (c.if-not-has_refined_room.ensures.0 refl),
+)
 
 pub returns-in-Ok-flat_steps-clause-refined : goal.returns-in-Ok-flat_steps-clause-refined
 returns-in-Ok-flat_steps-clause-refined g c =
     let w = c.write_near.ensures in
-    let k = c.in-Near.kept in
-    (k.refinement.heights, decided_anew c.args.run.now c.args.pes c.args.thousandths c.args.keep_order _ _ _ c.if-keep_order.false (told_as_near c.args.run.now c.args.pes c.in-Some.tolerance c.args.thousandths c.in-Ok.refined k _ _ _ c.in-Near.is c.in-Some.ensures.some w.near w.told (same_standing k _ _ w.order w.present) c.in-Ok.ensures.decided.refined), subst (λ b. IsStandingIn b k.refinement.heights c.write_near.result.steps (standing_lists_in c.args.standing.now) (standing_lists_in c.write_near.new.standing)) (sym w.near) w.steps)
+    let k = c.in-Near.kept in (
+      k.refinement.heights,
+      decided_anew c.args.run.now c.args.pes c.args.thousandths c.args.keep_order _ _ _ c.if-keep_order.false
+          (told_as_near c.args.run.now c.args.pes c.in-Some.tolerance c.args.thousandths c.in-Ok.refined k _ _ _ c.in-Near.is
+          c.in-Some.ensures.some w.near w.told (same_standing k _ _ w.order w.present) c.in-Ok.ensures.decided.refined),
+      subst (λ b. IsStandingIn b k.refinement.heights c.write_near.result.steps (standing_lists_in c.args.standing.now)
+          (standing_lists_in c.write_near.new.standing)) (sym w.near) w.steps,
+    )
 
 pub returns-in-Ok-flat_steps-clause-no_more : goal.returns-in-Ok-flat_steps-clause-no_more
 returns-in-Ok-flat_steps-clause-no_more g c anew =
-    no_more_told c.args.run.now c.args.pes c.in-Some.tolerance c.in-Ok.refined _ _ c.in-Near.is (ap (λ (t : Told). t.moved) c.write_near.ensures.told) c.in-Ok.ensures.decided.refined
+    no_more_told c.args.run.now c.args.pes c.in-Some.tolerance c.in-Ok.refined _ _ c.in-Near.is
+    (ap (λ (t : Told). t.moved) c.write_near.ensures.told) c.in-Ok.ensures.decided.refined
 
 pub returns-in-Ok-flat_steps-clause-kept_whole : goal.returns-in-Ok-flat_steps-clause-kept_whole
 returns-in-Ok-flat_steps-clause-kept_whole g c =
     let told = c.write_near.ensures.told in
-    kept_whole_told c.args.run.now.loads (sizes_of c.args.run.now) c.args.pes c.in-Some.tolerance c.args.thousandths c.in-Ok.refined _ _ _ c.in-Near.is c.in-Some.ensures.some (ap (λ (t : Told). t.least) told) (ap (λ (t : Told). t.moved) told) c.in-Ok.ensures.decided.kept_whole
+    kept_whole_told c.args.run.now.loads (sizes_of c.args.run.now) c.args.pes c.in-Some.tolerance c.args.thousandths c.in-Ok.refined _ _ _
+    c.in-Near.is c.in-Some.ensures.some (ap (λ (t : Told). t.least) told) (ap (λ (t : Told). t.moved) told) c.in-Ok.ensures.decided.kept_whole
 
 pub returns-in-Ok-flat_steps-clause-counted : goal.returns-in-Ok-flat_steps-clause-counted
 returns-in-Ok-flat_steps-clause-counted g c =
     let run = c.args.run.now in
     let kept = (subst (IsRefined run.loads (sizes_of run) c.args.pes c.in-Some.tolerance) c.in-Near.is c.in-Ok.ensures.decided.refined).0 in
-    omega (arith, few_stops run.loads c.args.pes c.in-Near.kept.refinement.least.bottleneck c.in-Near.kept.refinement.least.floor kept.right.least.floor_holds, c.write_near.ensures.counted)
+    omega (
+      arith,
+      few_stops run.loads c.args.pes c.in-Near.kept.refinement.least.bottleneck c.in-Near.kept.refinement.least.floor
+          kept.right.least.floor_holds,
+      c.write_near.ensures.counted,
+    )
 
 pub returns-in-Ok-flat_steps-clause-asked : goal.returns-in-Ok-flat_steps-clause-asked
-returns-in-Ok-flat_steps-clause-asked g c =
-    (c.in-Ok.ensures.asked, subst (λ (r : Listed). HasRefinedRoom (length r.loads) c.args.pes (lists_in c.args.room.now) (standing_lists_in c.args.standing.now)) c.run.view_is (c.if-not-has_refined_room.ensures.0 refl))
+returns-in-Ok-flat_steps-clause-asked g c = (
+  c.in-Ok.ensures.asked,
+  subst (λ (r : Listed). HasRefinedRoom (length r.loads) c.args.pes (lists_in c.args.room.now)
+      (standing_lists_in c.args.standing.now)) c.run.view_is (c.if-not-has_refined_room.ensures.0 refl),
+)

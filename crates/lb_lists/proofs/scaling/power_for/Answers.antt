@@ -6,4 +6,5 @@ pub returns-clause-small : goal.returns-clause-small
 returns-clause-small c = fits_in _ _ _ _ _ c.args.bits (omega (arith, c.requires.some)) c.parts_of-digits.ensures.ticks c.ilog2.ensures.next_power_gt c.saturating_sub.ensures
 
 pub returns-clause-least : goal.returns-clause-least
-returns-clause-least c power less = passes_below _ _ _ _ _ power c.args.bits (omega (arith, c.requires.some)) c.parts_of-digits.ensures.ticks c.ilog2.ensures.power_le c.saturating_sub.ensures less
+returns-clause-least c power less = passes_below _ _ _ _ _ power c.args.bits (omega (arith, c.requires.some))
+    c.parts_of-digits.ensures.ticks c.ilog2.ensures.power_le c.saturating_sub.ensures less

@@ -18,9 +18,11 @@ loop-load-preserved c =
     let this = smaller_in limit (ticks load) c.power_for.result c.greater-power.result (omega (arith, more)) within in
     record {
       small = All-more (λ load. ticks load / 2 ^ c.greater-power.result ≤ limit) c.args.loads.now c.loop-load.load-index nan c.loop-load-test.true earlier this;
-      least = least_of_more limit c.args.loads.now c.loop-load.load-index c.loop-load.power c.power_for.result c.greater-power.result c.loop-load-test.true more c.loop-load.invariant.least (λ power less. omega (arith, c.power_for.ensures.least power less, pow_pos c.args.bits));
+      least = least_of_more limit c.args.loads.now c.loop-load.load-index c.loop-load.power c.power_for.result c.greater-power.result
+          c.loop-load-test.true more c.loop-load.invariant.least (λ power less. omega (arith, c.power_for.ensures.least power less, pow_pos c.args.bits));
       bound = omega (arith, more, c.loop-load.invariant.bound, c.power_for.ensures.bound);
     }
 
 pub returns-clause-small : goal.returns-clause-small
-returns-clause-small c = subst (AreSmallIn (2 ^ c.args.bits - 1) c.loop-load.power) (take_all c.loop-load.load-index c.args.loads.now (omega (arith, c.loop-load-test.false))) c.loop-load.invariant.small
+returns-clause-small c = subst (AreSmallIn (2 ^ c.args.bits - 1) c.loop-load.power)
+    (take_all c.loop-load.load-index c.args.loads.now (omega (arith, c.loop-load-test.false))) c.loop-load.invariant.small

@@ -9,7 +9,8 @@ loop-first-preserved g c =
     let ordered : first ≤ first + c.min.result = omega arith in
     record {
       inside = omega (arith, c.loop-first.invariant.inside);
-      pushed = c.in_ok-extend_from_slice.ensures.items ∙ one_more_block c.loop-first.pairs.items (zip c.args.bytes.now c.args.places.now) _ first (first + c.min.result) ordered c.loop-first.invariant.pushed c.write_pairs.ensures;
+      pushed = c.in_ok-extend_from_slice.ensures.items ∙ one_more_block c.loop-first.pairs.items (zip c.args.bytes.now c.args.places.now) _
+          first (first + c.min.result) ordered c.loop-first.invariant.pushed c.write_pairs.ensures;
     }
 
 pub returns : goal.returns

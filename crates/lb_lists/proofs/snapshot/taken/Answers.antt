@@ -15,5 +15,6 @@ unwrap-requires g c =
       some_pe = run.some_pe;
       few_pes = subst (λ r. r.procs ≤ 256) (sym c.run.view_is) c.requires.few_pes;
       paired = omega (arith, ap length loads, ap length sizes, zip_length c.run.inside.bytes.now c.run.inside.places.now same, run.sized);
-      placed = subst (All (λ size. size.1 < c.run.inside.procs)) (sym sizes) (all_seconds (λ place. place < c.run.inside.procs) c.run.inside.bytes.now c.run.inside.places.now same run.placed);
+      placed = subst (All (λ size. size.1 < c.run.inside.procs)) (sym sizes)
+          (all_seconds (λ place. place < c.run.inside.procs) c.run.inside.bytes.now c.run.inside.places.now same run.placed);
     })

@@ -10,4 +10,7 @@ loop-b-preserved g c =
 
 pub returns : goal.returns
 returns g c =
-    record { value = greatest_is_peak c.args.loads.now c.args.cuts.now c.loop-b.b c.loop-b.most (omega (arith, c.requires.divides.counted, c.loop-b-test.false, c.loop-b.auto.b-end)) c.loop-b.invariant }
+    record {
+      value = greatest_is_peak c.args.loads.now c.args.cuts.now c.loop-b.b c.loop-b.most
+          (omega (arith, c.requires.divides.counted, c.loop-b-test.false, c.loop-b.auto.b-end)) c.loop-b.invariant;
+    }

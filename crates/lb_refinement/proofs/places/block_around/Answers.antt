@@ -7,6 +7,8 @@ use Rattle.lb_refinement.proofs.places.block_around.Goals as goal
 pub returns : goal.returns
 returns c =
     let parted = IsPartitionedBy-leb (λ cut. cut) c.args.cuts.now c.args.i c.requires.ordered in
-    let point = IsPartitionPoint-from_clause (λ cut. leb cut c.args.i) c.args.cuts.now c.partition_point.result c.partition_point.ensures.partitioned parted (λ a r q k. search rules) in
-    let first : position_or_len (λ cut. nat_lt c.args.i cut) c.args.cuts.now ≡ c.partition_point.result = first_above c.args.cuts.now c.args.i c.partition_point.result c.partition_point.ensures.bound point in
+    let point = IsPartitionPoint-from_clause (λ cut. leb cut c.args.i) c.args.cuts.now c.partition_point.result
+    c.partition_point.ensures.partitioned parted (λ a r q k. search rules) in
+    let first : position_or_len (λ cut. nat_lt c.args.i cut) c.args.cuts.now ≡ c.partition_point.result = first_above c.args.cuts.now
+    c.args.i c.partition_point.result c.partition_point.ensures.bound point in
     record { value = omega (arith, first) }

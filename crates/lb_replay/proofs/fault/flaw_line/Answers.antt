@@ -12,4 +12,8 @@ pub returns-in-PriceHigh : goal.returns-in-PriceHigh
 returns-in-PriceHigh g c =
     let named : c.flaw_name-name.result.now ≡ codes "PriceHigh" = c.flaw_name-name.ensures ∙ ap flaw_name c.in-PriceHigh.is in
     let pair : List ℕ = blank_number c.in-PriceHigh.b ++ blank_number c.in-PriceHigh.p in
-    record { line = rw c.in-PriceHigh.is (IfOk-weaker c.format.result _ _ (λ line written. written ∙ of_two (codes "check: ") c.flaw_name-name.result.now (codes " ") (decimal c.in-PriceHigh.b) (decimal c.in-PriceHigh.p) newline ∙ ap (λ name. codes "check: " ++ name ++ pair ++ newline) named) c.format.ensures.ok) }
+    record {
+      line = rw c.in-PriceHigh.is (IfOk-weaker c.format.result _ _
+          (λ line written. written ∙ of_two (codes "check: ") c.flaw_name-name.result.now (codes " ") (decimal c.in-PriceHigh.b)
+          (decimal c.in-PriceHigh.p) newline ∙ ap (λ name. codes "check: " ++ name ++ pair ++ newline) named) c.format.ensures.ok);
+    }

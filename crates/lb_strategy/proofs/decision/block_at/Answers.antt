@@ -16,7 +16,8 @@ above cut i not_below =
     ]
 
 -- the first cut above i is where the cuts up to i end
-first_above : (cuts : List ℕ) (i k : ℕ) → k ≤ length cuts → IsPartitionPoint (λ cut. leb cut i ≡ true) (λ cut. leb cut i ≡ false) cuts k → position_or_len (λ cut. nat_lt i cut) cuts ≡ k
+first_above : (cuts : List ℕ) (i k : ℕ) → k ≤ length cuts → IsPartitionPoint (λ cut. leb cut i ≡ true) (λ cut. leb cut i ≡ false) cuts k
+    → position_or_len (λ cut. nat_lt i cut) cuts ≡ k
 first_above cuts i k inside point =
     position_or_len_is (λ cut. nat_lt i cut) cuts k 0 inside
     (λ j before. le-ltb i (slice_index cuts j) (leb-true (slice_index cuts j) i (point.0 j 0 (omega arith) before)))
@@ -25,6 +26,8 @@ first_above cuts i k inside point =
 pub returns : goal.returns
 returns c =
     let parted = IsPartitionedBy-leb (λ cut. cut) c.args.cuts.now c.args.i c.requires in
-    let point = IsPartitionPoint-from_clause (λ cut. leb cut c.args.i) c.args.cuts.now c.partition_point.result c.partition_point.ensures.partitioned parted (λ a r q k. search rules) in
-    let first : position_or_len (λ cut. nat_lt c.args.i cut) c.args.cuts.now ≡ c.partition_point.result = first_above c.args.cuts.now c.args.i c.partition_point.result c.partition_point.ensures.bound point in
+    let point = IsPartitionPoint-from_clause (λ cut. leb cut c.args.i) c.args.cuts.now c.partition_point.result
+    c.partition_point.ensures.partitioned parted (λ a r q k. search rules) in
+    let first : position_or_len (λ cut. nat_lt c.args.i cut) c.args.cuts.now ≡ c.partition_point.result = first_above c.args.cuts.now
+    c.args.i c.partition_point.result c.partition_point.ensures.bound point in
     omega (arith, first)

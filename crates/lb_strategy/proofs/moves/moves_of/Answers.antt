@@ -16,10 +16,13 @@ loop-i-preserved g c =
     let b = c.loop-b.b in
     let i = c.loop-i.i in
     let divides = c.requires.blocks.divides in
-    let below : slice_index cuts (b + 1) ≤ slice_index cuts (blocks_between cuts) = divides.ordered (b + 1) (blocks_between cuts) 0 (omega arith) (omega (arith, divides.counted)) in
+    let below : slice_index cuts (b + 1) ≤ slice_index cuts (blocks_between cuts) = divides.ordered (b + 1) (blocks_between cuts) 0
+    (omega arith) (omega (arith, divides.counted)) in
     let inside : i < length sizes = omega (arith, below, divides.ends) in
     let block : block_of cuts i ≡ b = block_of_is (length sizes) (blocks_between cuts) cuts b i divides (omega arith) (omega arith) (omega arith) in
     let read = get_or_default sizes i c.index-sizes-i.result (0, 0) inside in
     let step : option_to_list c.move_of.result ≡ filter is_move (move_of sizes cuts names i ∷ []) =
-    c.move_of.ensures ∙ ap (λ s. filter is_move ((i, s.1, slice_index names b) ∷ [])) read ∙ ap (λ k. filter is_move ((i, (slice_index_or sizes i (0, 0)).1, slice_index names k) ∷ [])) (sym block) in
-    c.in_ok-push_move.ensures ∙ ap (λ xs. xs ++ option_to_list c.move_of.result) c.loop-i.invariant ∙ ap (λ s. moves_below sizes cuts names i ++ s) step ∙ sym (moves_more sizes cuts names i)
+    c.move_of.ensures ∙ ap (λ s. filter is_move ((i, s.1, slice_index names b) ∷ [])) read
+    ∙ ap (λ k. filter is_move ((i, (slice_index_or sizes i (0, 0)).1, slice_index names k) ∷ [])) (sym block) in
+    c.in_ok-push_move.ensures ∙ ap (λ xs. xs ++ option_to_list c.move_of.result) c.loop-i.invariant
+    ∙ ap (λ s. moves_below sizes cuts names i ++ s) step ∙ sym (moves_more sizes cuts names i)

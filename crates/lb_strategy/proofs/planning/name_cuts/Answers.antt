@@ -7,11 +7,13 @@ use Rattle.lb_strategy.proofs.planning.name_cuts.Goals as goal
 
 pub returns-clause-named : goal.returns-clause-named
 returns-clause-named g c =
-    named_by_table c.args.sizes.now c.args.cuts.now c.in_ok-naming.naming c.in_ok-naming.prices.u c.in_ok-naming.prices.v c.in_ok-table.table c.requires.blocks c.in_ok-table.ensures.table c.in_ok-naming.ensures.naming c.in_ok-naming.ensures.proved
+    named_by_table c.args.sizes.now c.args.cuts.now c.in_ok-naming.naming c.in_ok-naming.prices.u c.in_ok-naming.prices.v
+    c.in_ok-table.table c.requires.blocks c.in_ok-table.ensures.table c.in_ok-naming.ensures.naming c.in_ok-naming.ensures.proved
 
 pub returns-clause-least_naming : goal.returns-clause-least_naming
 returns-clause-least_naming g c =
-    least_by_table c.args.sizes.now c.args.cuts.now c.in_ok-naming.naming _ c.in_ok-table.table refl c.requires.blocks c.in_ok-table.ensures.table c.in_ok-naming.ensures.least_naming
+    least_by_table c.args.sizes.now c.args.cuts.now c.in_ok-naming.naming _ c.in_ok-table.table refl c.requires.blocks
+    c.in_ok-table.ensures.table c.in_ok-naming.ensures.least_naming
 
 pub returns-clause-moved : goal.returns-clause-moved
 returns-clause-moved g c =
@@ -20,4 +22,5 @@ returns-clause-moved g c =
 
 pub returns-clause-bounded : goal.returns-clause-bounded
 returns-clause-bounded g c =
-    bounded_by_table c.args.sizes.now c.args.cuts.now c.in_ok-naming.prices.u c.in_ok-naming.prices.v c.in_ok-table.table (subst IsTable c.table.view_is c.table.invariant) c.in_ok-table.ensures.table c.in_ok-naming.ensures.bounded
+    bounded_by_table c.args.sizes.now c.args.cuts.now c.in_ok-naming.prices.u c.in_ok-naming.prices.v c.in_ok-table.table
+    (subst IsTable c.table.view_is c.table.invariant) c.in_ok-table.ensures.table c.in_ok-naming.ensures.bounded

@@ -10,4 +10,5 @@ of_pieces a b c d e = simp append_assoc
 pub returns : goal.returns
 returns g c =
     let n : ℕ = c.args.n in
-    IfOk-weaker c.format.result _ _ (λ text written. written ∙ of_pieces (decimal (n / 1000)) (codes ".") (decimal (n / 100 % 10)) (decimal (n / 10 % 10)) (decimal (n % 10))) c.format.ensures.ok
+    IfOk-weaker c.format.result _ _ (λ text written. written
+    ∙ of_pieces (decimal (n / 1000)) (codes ".") (decimal (n / 100 % 10)) (decimal (n / 10 % 10)) (decimal (n % 10))) c.format.ensures.ok

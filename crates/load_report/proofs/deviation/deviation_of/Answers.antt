@@ -7,5 +7,6 @@ returns-then-pes-eq0 c = no_deviation c.args.pes c.args.total (slice_index c.arg
 
 pub returns : goal.returns
 returns c =
-    deviation_is c.args.pes c.args.total (slice_index c.args.sums.now) c.squares_of-squares.result c.from.result c.isqrt-doubled.result c.if-pes-eq0.false c.squares_of-squares.ensures.value
+    deviation_is c.args.pes c.args.total (slice_index c.args.sums.now) c.squares_of-squares.result c.from.result c.isqrt-doubled.result
+    c.if-pes-eq0.false c.squares_of-squares.ensures.value
     c.from.ensures c.isqrt-doubled.ensures.square_le c.isqrt-doubled.ensures.next_square_gt

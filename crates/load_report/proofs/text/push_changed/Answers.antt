@@ -16,5 +16,6 @@ returns g c =
     ∙ same_changes c.of-spread.result spread c.args.change c.args.change c.in_ok-traffic.traffic (traffic_of s places pes) counted refl c.in_ok-traffic.ensures.value in
     subst (λ columns. OnOk c.push_line.result (c.push_line.new.text.items ≡ c.args.text.now.items ++ line c.args.csv c.args.name.now columns))
     (c.placement_columns.ensures
-    ∙ same_columns c.args.word c.step.result s.step c.of-spread.result spread c.of-changes.result (changes_of spread c.args.change (traffic_of s places pes)) c.step.ensures.value counted changes)
+    ∙ same_columns c.args.word c.step.result s.step c.of-spread.result spread c.of-changes.result
+    (changes_of spread c.args.change (traffic_of s places pes)) c.step.ensures.value counted changes)
     c.push_line.ensures

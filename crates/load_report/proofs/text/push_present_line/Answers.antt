@@ -10,5 +10,6 @@ returns g c =
     let s = c.args.snapshot.now in
     subst (λ columns. OnOk c.push_line.result (c.push_line.new.text.items ≡ c.args.text.now.items ++ line c.args.csv c.args.name.now columns))
     (c.placement_columns-columns.ensures
-    ∙ same_columns Present c.step.result s.step c.in_ok-spread.spread (spread_of s.loads (present_places s.sizes) s.procs) c.none.result unchanged c.step.ensures.value c.in_ok-spread.ensures c.none.ensures)
+    ∙ same_columns Present c.step.result s.step c.in_ok-spread.spread (spread_of s.loads (present_places s.sizes) s.procs) c.none.result
+    unchanged c.step.ensures.value c.in_ok-spread.ensures c.none.ensures)
     c.push_line.ensures

@@ -9,4 +9,5 @@ returns-clause-encloses c =
     λ loads whole greatest. rw (low, high) (shares_enclose loads c.args.pes c.args.greatest c.args.total (2 ^ 64 - 1) c.requires.some_pe whole greatest (omega arith))
 
 pub returns-clause-least : goal.returns-clause-least
-returns-clause-least c = λ loads least whole greatest peak_is. least_between loads c.args.pes c.max.result c.saturating_add.result least (returns-clause-encloses c loads whole greatest) peak_is
+returns-clause-least c = λ loads least whole greatest peak_is. least_between loads c.args.pes c.max.result c.saturating_add.result least
+    (returns-clause-encloses c loads whole greatest) peak_is

@@ -9,4 +9,7 @@ returns-then-window-lower c =
 pub returns : goal.returns
 returns c =
     let inside : c.args.window < length c.args.lower.now = omega (arith, c.requires.first.inside, c.requires.ordered.paired) in
-    record { next = next_by_window c.args.lower.now c.args.upper.now c.args.window c.args.element c.args.last c.min.result c.requires.ordered c.requires.first c.requires.before inside (search rules) }
+    record {
+      next = next_by_window c.args.lower.now c.args.upper.now c.args.window c.args.element c.args.last c.min.result
+          c.requires.ordered c.requires.first c.requires.before inside (search rules);
+    }

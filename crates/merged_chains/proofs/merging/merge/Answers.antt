@@ -25,19 +25,29 @@ loop-begin-preserved g c =
       from = omega (arith, old.from, next.ends.0);
       to = next.ends.1;
       inside = c.first_behind-window.ensures.first.inside;
-      paired = rw (c.in_ok-push.ensures.items, c.in_ok-push-2.ensures.items) (length_push c.loop-begin.loads.items c.load-load.result ∙ ap (λ n. n + 1) old.paired ∙ sym (length_push c.loop-begin.ends.items end));
+      paired = rw (c.in_ok-push.ensures.items, c.in_ok-push-2.ensures.items)
+          (length_push c.loop-begin.loads.items c.load-load.result ∙ ap (λ n. n + 1) old.paired ∙ sym (length_push c.loop-begin.ends.items end));
       before = λ k earlier. omega (arith, c.first_behind-window.ensures.first.before k earlier, next.ends.0);
-      runs = λ before runs starts counted are. rw (c.in_ok-push.ensures.items, c.in_ok-push-2.ensures.items) (part_more before c.args.part.now runs starts c.loop-begin.loads.items c.loop-begin.ends.items c.args.first c.loop-begin.begin end c.load-load.result counted (old.runs before runs starts counted are) old.from next.ends.0 c.load-load.ensures.value);
-      ends = rw c.in_ok-push-2.ensures.items (ends_more c.lower-lower.result.now c.upper-upper.result.now c.loop-begin.ends.items c.args.first (c.args.first + c.len.result) c.loop-begin.begin end old.ends old.from next);
+      runs = λ before runs starts counted are. rw (c.in_ok-push.ensures.items, c.in_ok-push-2.ensures.items)
+          (part_more before c.args.part.now runs starts c.loop-begin.loads.items c.loop-begin.ends.items c.args.first c.loop-begin.begin end
+          c.load-load.result counted (old.runs before runs starts counted are) old.from next.ends.0 c.load-load.ensures.value);
+      ends = rw c.in_ok-push-2.ensures.items (ends_more c.lower-lower.result.now c.upper-upper.result.now c.loop-begin.ends.items
+          c.args.first (c.args.first + c.len.result) c.loop-begin.begin end old.ends old.from next);
     }
 
 pub returns-clause-runs : goal.returns-clause-runs
 returns-clause-runs g c =
-    λ before runs starts counted are. runs_end (before ++ c.args.part.now) (runs ++ c.loop-begin.loads.items) (starts ++ c.loop-begin.ends.items) c.loop-begin.begin (c.loop-begin.invariant.runs before runs starts counted are) (omega (arith, counted, length-append before c.args.part.now, c.loop-begin.invariant.to, c.loop-begin-test.false, c.len.ensures.value))
+    λ before runs starts counted are. runs_end (before ++ c.args.part.now) (runs ++ c.loop-begin.loads.items)
+    (starts ++ c.loop-begin.ends.items) c.loop-begin.begin (c.loop-begin.invariant.runs before runs starts counted are)
+    (omega (arith, counted, length-append before c.args.part.now, c.loop-begin.invariant.to, c.loop-begin-test.false, c.len.ensures.value))
 
 pub returns-clause-kept : goal.returns-clause-kept
 returns-clause-kept g c =
     let all : c.loop-begin.begin ≡ c.args.first + length c.args.part.now = omega (arith, c.loop-begin.invariant.to, c.loop-begin-test.false, c.len.ensures.value) in
     let last : c.args.first + c.len.result ≡ c.args.first + length c.args.part.now = omega (arith, c.len.ensures.value) in
-    let ends : AreEnds c.args.windows.now.lower c.args.windows.now.upper c.args.first (c.args.first + length c.args.part.now) (c.args.first + length c.args.part.now) c.loop-begin.ends.items = same_ends c.lower-lower.result.now c.upper-upper.result.now c.args.windows.now.lower c.args.windows.now.upper c.loop-begin.ends.items c.args.first (c.args.first + c.len.result) c.loop-begin.begin (c.args.first + length c.args.part.now) c.lower-lower.ensures.value c.upper-upper.ensures.value last all c.loop-begin.invariant.ends in
+    let ends : AreEnds c.args.windows.now.lower c.args.windows.now.upper c.args.first (c.args.first + length c.args.part.now)
+    (c.args.first + length c.args.part.now) c.loop-begin.ends.items = same_ends c.lower-lower.result.now c.upper-upper.result.now
+    c.args.windows.now.lower c.args.windows.now.upper c.loop-begin.ends.items c.args.first (c.args.first + c.len.result)
+    c.loop-begin.begin (c.args.first + length c.args.part.now) c.lower-lower.ensures.value c.upper-upper.ensures.value last all
+    c.loop-begin.invariant.ends in
     λ starts kept. starts_kept c.args.windows.now.lower c.args.windows.now.upper starts c.loop-begin.ends.items c.args.first (c.args.first + length c.args.part.now) ends kept

@@ -12,7 +12,8 @@ invariant-loop-begin g l =
       inside : l.window ≤ length l.upper;
       paired : length l.loads.items ≡ length l.ends.items;
       before : (k : ℕ) → k < l.window → slice_index l.upper k ≤ l.begin;
-      runs : (before runs starts : List ℕ) → length before ≡ l.fn.first → AreRuns before runs starts → RunsTo (before ++ l.part) (runs ++ l.loads.items) (starts ++ l.ends.items) l.begin;
+      runs : (before runs starts : List ℕ) → length before ≡ l.fn.first → AreRuns before runs starts
+          → RunsTo (before ++ l.part) (runs ++ l.loads.items) (starts ++ l.ends.items) l.begin;
       ends : AreEnds l.lower l.upper l.fn.first l.last l.begin l.ends.items;
     }
 

@@ -8,6 +8,8 @@ loop-i-init c = lowered_none c.args.pes c.args.high c.args.limits.now c.args.clo
 pub loop-i-preserved : goal.loop-i-preserved
 loop-i-preserved c =
     elim c.if-closed-i.branch [
-      | then-closed-i w ↦ rw (w.lowered-is, w.min-lowered.ensures) (lowered_left c.args.pes c.loop-i.i c.args.high c.loop-i.lowered c.args.limits.now c.args.closed.now c.loop-i.invariant w.if-closed-i.true)
-      | else-closed-i w ↦ rw w.lowered-is (lowered_full c.args.pes c.loop-i.i c.args.high c.loop-i.lowered c.args.limits.now c.args.closed.now c.loop-i.invariant w.if-closed-i.false)
+      | then-closed-i w ↦ rw (w.lowered-is, w.min-lowered.ensures)
+          (lowered_left c.args.pes c.loop-i.i c.args.high c.loop-i.lowered c.args.limits.now c.args.closed.now c.loop-i.invariant w.if-closed-i.true)
+      | else-closed-i w ↦ rw w.lowered-is (lowered_full c.args.pes c.loop-i.i c.args.high c.loop-i.lowered c.args.limits.now
+          c.args.closed.now c.loop-i.invariant w.if-closed-i.false)
     ]

@@ -8,6 +8,7 @@ returns-clause-merged g c =
       runs.loads.items,
       runs.ends.items,
       c.write_runs.ensures.counted,
-      runs_within c.in_ok-part.part c.args.loads.now c.args.first c.in-Some.windows c.args.lower.now c.args.upper.now runs.loads.items runs.ends.items c.in_ok-part.ensures.made c.in-Some.ensures.made found.paired found.runs found.ends found.kept,
+      runs_within c.in_ok-part.part c.args.loads.now c.args.first c.in-Some.windows c.args.lower.now c.args.upper.now runs.loads.items
+          runs.ends.items c.in_ok-part.ensures.made c.in-Some.ensures.made found.paired found.runs found.ends found.kept,
       c.write_runs.ensures.written,
     )

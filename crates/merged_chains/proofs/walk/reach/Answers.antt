@@ -16,4 +16,5 @@ loop-beyond-init g c =
 pub returns-clause-greatest : goal.returns-clause-greatest
 returns-clause-greatest g c =
     let end = c.loop-beyond.invariant in
-    greatest_between c.args.part.now c.args.first c.args.room c.loop-beyond.fits c.loop-beyond.beyond end.onward (omega (arith, end.apart, c.loop-beyond-test.false)) end.inside end.light end.heavy
+    greatest_between c.args.part.now c.args.first c.args.room c.loop-beyond.fits c.loop-beyond.beyond end.onward
+    (omega (arith, end.apart, c.loop-beyond-test.false)) end.inside end.light end.heavy

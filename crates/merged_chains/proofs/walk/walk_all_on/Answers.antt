@@ -10,5 +10,6 @@ loop-walk-preserved g c =
     let none : Walk = record { limit = 0; closed = 0; filled = 0 } in
     record {
       kept = λ i d later. get_or-set_other c.loop-walk.walks c.loop-walk.walk-index i c.walk_on.result d (omega arith) ∙ old.kept i d (omega arith);
-      walked = walks_more c.args.part.now c.args.pes c.args.walks.now c.loop-walk.walks c.loop-walk.walk-index none c.walk_on.result (omega arith) old.kept old.walked c.walk_on.ensures.walked;
+      walked = walks_more c.args.part.now c.args.pes c.args.walks.now c.loop-walk.walks c.loop-walk.walk-index none c.walk_on.result
+          (omega arith) old.kept old.walked c.walk_on.ensures.walked;
     }

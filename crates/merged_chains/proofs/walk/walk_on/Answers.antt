@@ -20,7 +20,9 @@ pub loop-closed-preserved : goal.loop-closed-preserved
 loop-closed-preserved g c =
     record {
       inside = c.reach-end.ensures.greatest.inside;
-      stands = stands_closes c.args.part.now c.args.pes c.args.walk c.loop-closed.closed c.loop-closed.first c.loop-closed.filled c.saturating_sub.result c.reach-end.result c.loop-closed.invariant.stands (omega arith) c.reach-end.ensures.onward c.reach-end.ensures.greatest c.saturating_sub.ensures (omega arith);
+      stands = stands_closes c.args.part.now c.args.pes c.args.walk c.loop-closed.closed c.loop-closed.first c.loop-closed.filled
+          c.saturating_sub.result c.reach-end.result c.loop-closed.invariant.stands (omega arith) c.reach-end.ensures.onward
+          c.reach-end.ensures.greatest c.saturating_sub.ensures (omega arith);
       fits = λ _. omega arith;
     }
 
@@ -28,9 +30,16 @@ pub returns-then-end-all : goal.returns-then-end-all
 returns-then-end-all g c =
     let new : Walk = record { limit = c.args.walk.limit; closed = c.loop-closed.closed; filled = c.loop-closed.filled + c.load.result } in
     let weighs : c.loop-closed.filled + c.load.result ≡ c.loop-closed.filled + load c.args.part.now c.loop-closed.first c.reach-end.result = omega (arith, c.load.ensures.value) in
-    record { walked = stands_stays c.args.part.now c.args.pes c.args.walk c.loop-closed.first c.loop-closed.filled c.saturating_sub.result c.reach-end.result new c.loop-closed.invariant.stands (omega arith) c.reach-end.ensures.onward c.reach-end.ensures.greatest c.saturating_sub.ensures (omega arith) refl weighs (omega arith) c.loop-closed.invariant.fits }
+    record {
+      walked = stands_stays c.args.part.now c.args.pes c.args.walk c.loop-closed.first c.loop-closed.filled c.saturating_sub.result
+          c.reach-end.result new c.loop-closed.invariant.stands (omega arith) c.reach-end.ensures.onward c.reach-end.ensures.greatest
+          c.saturating_sub.ensures (omega arith) refl weighs (omega arith) c.loop-closed.invariant.fits;
+    }
 
 pub returns : goal.returns
 returns g c =
     let new : Walk = record { limit = c.args.walk.limit; closed = c.args.pes; filled = 0 } in
-    record { walked = stands_ends c.args.part.now c.args.pes c.args.walk c.loop-closed.closed c.loop-closed.first c.loop-closed.filled new c.loop-closed.invariant.stands (λ few. omega arith) refl refl refl }
+    record {
+      walked = stands_ends c.args.part.now c.args.pes c.args.walk c.loop-closed.closed c.loop-closed.first c.loop-closed.filled new
+          c.loop-closed.invariant.stands (λ few. omega arith) refl refl refl;
+    }

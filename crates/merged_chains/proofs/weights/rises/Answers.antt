@@ -4,7 +4,8 @@ use Rattle.std.proofs.lemmas.List.Sorted.{non_decreasing_from_is_sorted}
 use Rattle.lb_certificates.specs.Flaws.{Falls}
 use Rattle.merged_chains.proofs.weights.rises.Goals as goal
 
-answer : (xs : List ℕ) (r : Bool) → MatchBool r (IsNonDecreasing xs) ((k : ℕ) × (k + 1 < length xs) × ((d : ℕ) → get_or xs (k + 1) d < get_or xs k d)) → MatchBool r (IsNonDecreasing xs) (Falls xs)
+answer : (xs : List ℕ) (r : Bool) → MatchBool r (IsNonDecreasing xs)
+    ((k : ℕ) × (k + 1 < length xs) × ((d : ℕ) → get_or xs (k + 1) d < get_or xs k d)) → MatchBool r (IsNonDecreasing xs) (Falls xs)
 answer xs true rising = rising
 answer xs false found = (found.0, found.1, found.2 0)
 

@@ -22,7 +22,15 @@ loop-b-preserved g c =
     let counted : length rows ≡ b + 1 = omega (arith, c.loop-b.rows.ok.0, h.filled) in
     let inside : b + 2 < length table.near.now = omega (arith, c.loop-b-test.true) in
     let read : c.index.result.now ≡ slice_index_or rows b (0, []) = get_or_read rows b c.index.result.now (omega (arith, counted)) c.index.ensures (0, []) in
-    let made : IsRowOn bytes table b rows row = rw (read, c.sums_of.ensures.near, c.sums_of.ensures.far, c.sums_of.ensures.starts, c.sums_of.ensures.before, c.sums_of.ensures.here, c.sums_of.ensures.behind) at c.in_ok-row.ensures.row in
+    let made : IsRowOn bytes table b rows row = rw (
+      read,
+      c.sums_of.ensures.near,
+      c.sums_of.ensures.far,
+      c.sums_of.ensures.starts,
+      c.sums_of.ensures.before,
+      c.sums_of.ensures.here,
+      c.sums_of.ensures.behind,
+    ) at c.in_ok-row.ensures.row in
     record {
       room = search rules;
       filled = search rules;

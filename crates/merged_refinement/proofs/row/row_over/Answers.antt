@@ -8,5 +8,6 @@ returns g c =
     let sums = c.args.sums.now in
     let heights = c.in_ok-heights.heights.items in
     record {
-      row = rw c.new.ensures.value (row_of sums.near sums.far (slice_index sums.starts.now) (cost_by c.args.bytes.now sums) c.args.below.now heights c.requires.sums.some c.in_ok-heights.ensures.counted c.in_ok-heights.ensures.least);
+      row = rw c.new.ensures.value (row_of sums.near sums.far (slice_index sums.starts.now) (cost_by c.args.bytes.now sums) c.args.below.now
+          heights c.requires.sums.some c.in_ok-heights.ensures.counted c.in_ok-heights.ensures.least);
     }

@@ -26,7 +26,8 @@ pub push_reserved-requires : goal.push_reserved-requires
 push_reserved-requires g c =
     let i = c.loop-value.invariant in
     let popped = c.in-Some.ensures.rule in
-    let n = drained_counts (view c.args.pass.now) (view c.pop_as.new.pass) _ popped.1.0 c.len_as-left.result (drained_more (view c.args.pass.now) _ _ _ c.in-Some.value i.traffic popped.0) c.requires.all i.count popped.1.1 in
+    let n = drained_counts (view c.args.pass.now) (view c.pop_as.new.pass) _ popped.1.0 c.len_as-left.result
+    (drained_more (view c.args.pass.now) _ _ _ c.in-Some.value i.traffic popped.0) c.requires.all i.count popped.1.1 in
     let l = length-append c.loop-value.room.items (c.in-Some.value ∷ []) in
     let w = i.wide in
     omega arith
@@ -35,7 +36,8 @@ pub loop-value-preserved : goal.loop-value-preserved
 loop-value-preserved g c =
     let i = c.loop-value.invariant in
     let popped = c.in-Some.ensures in
-    let n = drained_counts (view c.args.pass.now) (view c.pop_as.new.pass) _ popped.rule.1.0 c.len_as-left.result (drained_more (view c.args.pass.now) _ _ _ c.in-Some.value i.traffic popped.rule.0) c.requires.all i.count popped.rule.1.1 in
+    let n = drained_counts (view c.args.pass.now) (view c.pop_as.new.pass) _ popped.rule.1.0 c.len_as-left.result
+    (drained_more (view c.args.pass.now) _ _ _ c.in-Some.value i.traffic popped.rule.0) c.requires.all i.count popped.rule.1.1 in
     let l = length-append c.loop-value.room.items (c.in-Some.value ∷ []) in
     let m = ap length c.push_reserved.ensures.items in
     record {
@@ -51,10 +53,12 @@ pub loop-value-smaller : goal.loop-value-smaller
 loop-value-smaller g c =
     let i = c.loop-value.invariant in
     let popped = c.in-Some.ensures.rule in
-    let n = drained_counts (view c.args.pass.now) (view c.pop_as.new.pass) _ popped.1.0 c.len_as-left.result (drained_more (view c.args.pass.now) _ _ _ c.in-Some.value i.traffic popped.0) c.requires.all i.count popped.1.1 in
+    let n = drained_counts (view c.args.pass.now) (view c.pop_as.new.pass) _ popped.1.0 c.len_as-left.result
+    (drained_more (view c.args.pass.now) _ _ _ c.in-Some.value i.traffic popped.0) c.requires.all i.count popped.1.1 in
     let l = length-append c.loop-value.room.items (c.in-Some.value ∷ []) in
     let e = ap length c.push_reserved.ensures.items in
     omega arith
 
 pub returns-clause-left : goal.returns-clause-left
-returns-clause-left g c = drained_all (view c.args.pass.now) (view c.loop-value.pass) c.loop-value.room.items c.loop-value.invariant.traffic c.requires.all c.in_default.ensures.rule.1
+returns-clause-left g c = drained_all (view c.args.pass.now) (view c.loop-value.pass) c.loop-value.room.items c.loop-value.invariant.traffic
+    c.requires.all c.in_default.ensures.rule.1

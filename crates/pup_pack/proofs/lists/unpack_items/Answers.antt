@@ -9,8 +9,10 @@ returns-in_err-item-clause-answer g c =
     let one : c.args.count - c.loop.counter ≡ suc (c.args.count - (c.loop.counter + 1)) = omega arith in
     let read = rw one at c.loop.invariant.read in
     let whole : UnpackAnswer (unpack_items g.T.Pup.unpack c.args.count c.args.bytes.now) (Err c.in_err-item.field-0.0) =
-    refused_by (g.T.Pup.unpack (take (length c.args.bytes.now - c.loop.end) (drop c.loop.end c.args.bytes.now))) (unpack_items g.T.Pup.unpack c.args.count c.args.bytes.now) c.in_err-item.field-0.0
-    (λ f e. sym read ∙ resumed_refused g.T.Pup.unpack c.args.bytes.now c.loop.items c.loop.end (c.args.count - (c.loop.counter + 1)) f (rw (from_end c.args.bytes.now c.loop.end) at e))
+    refused_by (g.T.Pup.unpack (take (length c.args.bytes.now - c.loop.end) (drop c.loop.end c.args.bytes.now)))
+    (unpack_items g.T.Pup.unpack c.args.count c.args.bytes.now) c.in_err-item.field-0.0
+    (λ f e. sym read ∙ resumed_refused g.T.Pup.unpack c.args.bytes.now c.loop.items c.loop.end (c.args.count - (c.loop.counter + 1)) f
+    (rw (from_end c.args.bytes.now c.loop.end) at e))
     c.in_err-item.ensures.answer in
     search (rules, whole)
 

@@ -16,10 +16,16 @@ loop-b-preserved g c =
     let present_in : slice_index c.args.present.now b < length c.args.starts.now = c.requires.present_within b (omega (arith, h.inside, c.requires.present_counted)) in
     let far : c.max-far.result ≡ max (slice_index c.args.present.now b) low = search rules in
     let read : c.index-rows-b.result ≡ slice_index_or rows b [] = get_or_read rows b c.index-rows-b.result h.inside c.index-rows-b.is [] in
-    let by_far : IsLevelTo (height c.index-rows-b.result) low (max (slice_index c.args.present.now b) low) c.last_on_level.result = subst (λ n. IsLevelTo (height c.index-rows-b.result) low n c.last_on_level.result) far c.last_on_level.ensures.level in
-    let level : IsLevelTo (height_at rows b) low (max (slice_index c.args.present.now b) low) c.last_on_level.result = subst (λ s. IsLevelTo (height s) low (max (slice_index c.args.present.now b) low) c.last_on_level.result) read by_far in
-    read_one (length rows) c.args.present.now (length c.args.starts.now - 1) (slice_index c.args.starts.now) (height_at rows) c.loop-b.cuts b c.last_on_level.result h (omega arith) (omega (arith, level.to, next, low_in, present_in)) level
+    let by_far : IsLevelTo (height c.index-rows-b.result) low (max (slice_index c.args.present.now b) low) c.last_on_level.result = subst
+    (λ n. IsLevelTo (height c.index-rows-b.result) low n c.last_on_level.result) far c.last_on_level.ensures.level in
+    let level : IsLevelTo (height_at rows b) low (max (slice_index c.args.present.now b) low) c.last_on_level.result = subst
+    (λ s. IsLevelTo (height s) low (max (slice_index c.args.present.now b) low) c.last_on_level.result) read by_far in
+    read_one (length rows) c.args.present.now (length c.args.starts.now - 1) (slice_index c.args.starts.now) (height_at rows) c.loop-b.cuts
+    b c.last_on_level.result h (omega arith) (omega (arith, level.to, next, low_in, present_in)) level
 
 pub returns : goal.returns
 returns g c =
-    record { read = read_all (length c.args.rows.now) c.args.present.now (length c.args.starts.now - 1) (slice_index c.args.starts.now) (height_at c.args.rows.now) c.loop-b.cuts c.loop-b.b c.loop-b.invariant (omega arith) }
+    record {
+      read = read_all (length c.args.rows.now) c.args.present.now (length c.args.starts.now - 1) (slice_index c.args.starts.now)
+          (height_at c.args.rows.now) c.loop-b.cuts c.loop-b.b c.loop-b.invariant (omega arith);
+    }

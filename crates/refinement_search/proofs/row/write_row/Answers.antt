@@ -15,7 +15,8 @@ loop-x-init c =
     let inside : span.far < length row = omega (arith, c.requires.far, c.requires.room) in
     let cost = c.held_by-cost.ensures.value ∙ cost_at_far sizes sides.from sides.to span.present span.far c.requires.apart c.requires.present c.requires.far in
     let place : c.max.result ≡ max (slice_index starts span.far) span.below = search rules in
-    let is : slice_index row c.max.result + c.held_by-cost.result ≡ sum_at sizes starts row span.below sides.from sides.to span.far = omega (arith, ap (slice_index row) place, cost) in
+    let is : slice_index row c.max.result + c.held_by-cost.result ≡ sum_at sizes starts row span.below sides.from sides.to span.far = omega
+    (arith, ap (slice_index row) place, cost) in
     record {
       from = omega (arith, c.requires.near, c.requires.present);
       to = omega arith;
@@ -52,8 +53,10 @@ loop-x-preserved c =
     let some : 0 < x = omega (arith, c.loop-x-test.true) in
     let before : slice_index starts (x - 1) ≤ x - 1 = c.requires.before (x - 1) (omega (arith, h.to, c.requires.far, c.requires.counted)) in
     let place : c.max-in-loop-x.result ≡ max (slice_index starts (x - 1)) span.below = search rules in
-    let read = sum_read span.far sizes starts old row span.below sides.from sides.to x (sum_at sizes starts old span.below sides.from sides.to) h.written some before (omega (arith, c.requires.below, c.loop-x-test.true)) in
-    let sum : slice_index row c.max-in-loop-x.result + c.cost_before-cost.result ≡ sum_at sizes starts old span.below sides.from sides.to (x - 1) = omega (arith, ap (slice_index row) place, c.cost_before-cost.ensures.here, read) in
+    let read = sum_read span.far sizes starts old row span.below sides.from sides.to x
+    (sum_at sizes starts old span.below sides.from sides.to) h.written some before (omega (arith, c.requires.below, c.loop-x-test.true)) in
+    let sum : slice_index row c.max-in-loop-x.result + c.cost_before-cost.result ≡ sum_at sizes starts old span.below sides.from sides.to
+    (x - 1) = omega (arith, ap (slice_index row) place, c.cost_before-cost.ensures.here, read) in
     let less : c.min-least.result ≡ min c.loop-x.least (slice_index row c.max-in-loop-x.result + c.cost_before-cost.result) = search rules in
     let is : c.min-least.result ≡ min (slice_index row x) (sum_at sizes starts old span.below sides.from sides.to (x - 1)) = omega (arith, less, sum, h.least_is) in
     record {
@@ -61,5 +64,6 @@ loop-x-preserved c =
       to = omega (arith, h.to);
       cost_is = c.cost_before-cost.ensures.here;
       least_is = sym (get_or-set_same row (x - 1) c.min-least.result 0 (omega (arith, h.written.counted, h.to, c.requires.far, c.requires.room)));
-      written = written_one span.far (sum_at sizes starts old span.below sides.from sides.to) old row x c.min-least.result (omega (arith, c.requires.far, c.requires.room)) h.written some h.to is;
+      written = written_one span.far (sum_at sizes starts old span.below sides.from sides.to) old row x c.min-least.result
+          (omega (arith, c.requires.far, c.requires.room)) h.written some h.to is;
     }

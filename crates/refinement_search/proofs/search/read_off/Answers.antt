@@ -8,7 +8,8 @@ pub returns-clause-proved : goal.returns-clause-proved
 returns-clause-proved g c =
     let chain = c.args.chain.now in
     let heights = c.in_ok-heights.heights in
-    let read = subst (λ hs. AreRead (length hs) chain.present.now (length chain.starts.now - 1) (slice_index chain.starts.now) (height_at hs) c.in_ok-cuts.cuts.items) c.as_slice.ensures.value c.in_ok-cuts.ensures.read in
+    let read = subst (λ hs. AreRead (length hs) chain.present.now (length chain.starts.now - 1) (slice_index chain.starts.now)
+    (height_at hs) c.in_ok-cuts.cuts.items) c.as_slice.ensures.value c.in_ok-cuts.ensures.read in
     let found : AreFound chain c.args.loads.now c.args.limit heights c.in_ok-cuts.cuts.items = record {
       chain = c.requires.chain;
       paired = c.requires.paired;
@@ -24,7 +25,8 @@ pub returns-clause-nearest : goal.returns-clause-nearest
 returns-clause-nearest g c =
     let chain = c.args.chain.now in
     let heights = c.in_ok-heights.heights in
-    let read = subst (λ hs. AreRead (length hs) chain.present.now (length chain.starts.now - 1) (slice_index chain.starts.now) (height_at hs) c.in_ok-cuts.cuts.items) c.as_slice.ensures.value c.in_ok-cuts.ensures.read in
+    let read = subst (λ hs. AreRead (length hs) chain.present.now (length chain.starts.now - 1) (slice_index chain.starts.now)
+    (height_at hs) c.in_ok-cuts.cuts.items) c.as_slice.ensures.value c.in_ok-cuts.ensures.read in
     let found : AreFound chain c.args.loads.now c.args.limit heights c.in_ok-cuts.cuts.items = record {
       chain = c.requires.chain;
       paired = c.requires.paired;

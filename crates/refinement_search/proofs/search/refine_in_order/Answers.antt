@@ -10,5 +10,8 @@ limit-limit-requires g c =
 
 pub search-requires-clause-some_within : goal.search-requires-clause-some_within
 search-requires-clause-some_within g c =
-    let loads = c.as_slice-loads.ensures.value ∙ c.loads.ensures.value in
-    (c.args.least.cuts, rw (loads, c.as_slice.ensures.value, c.limit-limit.ensures.value) (within_tolerance c.args.snapshot.now.loads c.args.order c.args.tolerance c.args.least c.requires.certified))
+    let loads = c.as_slice-loads.ensures.value ∙ c.loads.ensures.value in (
+      c.args.least.cuts,
+      rw (loads, c.as_slice.ensures.value, c.limit-limit.ensures.value)
+          (within_tolerance c.args.snapshot.now.loads c.args.order c.args.tolerance c.args.least c.requires.certified),
+    )

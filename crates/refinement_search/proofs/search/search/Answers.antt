@@ -10,4 +10,14 @@ read_off-requires-clause-chain g c =
     let far : c.in_ok-far.far.items ≡ c.deref-5.result.now = sym c.deref-5.ensures.value in
     let first : c.deref.result.now ≡ c.deref-3.result.now = c.deref.ensures.value ∙ starts in
     let second : c.deref-2.result.now ≡ c.deref-3.result.now = c.deref-2.ensures.value ∙ starts in
-    spanned (record { sizes = a.sizes; names = a.names; present = a.present; starts = c.deref-3.result; near = c.deref-4.result; far = c.deref-5.result }) a.loads.now a.limit c.requires.sizes c.requires.paired c.requires.some_block c.requires.few_blocks c.requires.naming c.requires.in_order (rw (← starts) c.in_ok-starts.ensures.counted) (rw (← starts) c.in_ok-starts.ensures.starts) (rw (← near) c.in_ok-near.ensures.counted) (rw (← near, ← first) c.in_ok-near.ensures.near) (rw (← far) c.in_ok-far.ensures.counted) (rw (← far, ← second) c.in_ok-far.ensures.far)
+    spanned (record {
+      sizes = a.sizes;
+      names = a.names;
+      present = a.present;
+      starts = c.deref-3.result;
+      near = c.deref-4.result;
+      far = c.deref-5.result;
+    }) a.loads.now a.limit c.requires.sizes c.requires.paired c.requires.some_block c.requires.few_blocks
+    c.requires.naming c.requires.in_order (rw (← starts) c.in_ok-starts.ensures.counted) (rw (← starts) c.in_ok-starts.ensures.starts)
+    (rw (← near) c.in_ok-near.ensures.counted) (rw (← near, ← first) c.in_ok-near.ensures.near) (rw (← far) c.in_ok-far.ensures.counted)
+    (rw (← far, ← second) c.in_ok-far.ensures.far)

@@ -7,7 +7,8 @@ use Rattle.report_command_line.proofs.words.command.Goals as goal
 
 pub returns : goal.returns
 returns c =
-    let one = with_argument c.new_program-command.result c.in_ok-command.command c.files.result (versioned (codes "lb_report")) files_rule c.new_program-command.ensures.bare.app c.in_ok-command.ensures c.files.ensures.fits c.files.ensures.rule in
+    let one = with_argument c.new_program-command.result c.in_ok-command.command c.files.result (versioned (codes "lb_report")) files_rule
+    c.new_program-command.ensures.bare.app c.in_ok-command.ensures c.files.ensures.fits c.files.ensures.rule in
     let two = with_argument _ c.in_ok-command-2.command c.procs.result _ procs_rule one c.in_ok-command-2.ensures c.procs.ensures.fits c.procs.ensures.rule in
     let three = with_argument _ c.in_ok-command-3.command c.tolerance.result _ tolerance_rule two c.in_ok-command-3.ensures c.tolerance.ensures.fits c.tolerance.ensures.rule in
     let four = with_argument _ c.in_ok-command-4.command c.csv.result _ csv_rule three c.in_ok-command-4.ensures c.csv.ensures.fits c.csv.ensures.rule in

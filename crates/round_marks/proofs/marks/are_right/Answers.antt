@@ -23,7 +23,8 @@ returns-then-not-is_next_resumption g c =
 pub returns : goal.returns
 returns g c =
     let decided = ap length c.rounds.ensures.value in
-    let ended = walked c.args.board.now c.args.e c.args.home c.loop-mark.reached c.loop-mark.least c.loop-mark.mark-index c.args.marks.now c.loop-mark-test.false c.loop-mark.invariant.same in (
+    let ended = walked c.args.board.now c.args.e c.args.home c.loop-mark.reached c.loop-mark.least c.loop-mark.mark-index c.args.marks.now
+    c.loop-mark-test.false c.loop-mark.invariant.same in (
       λ t. ended.0 (omega (arith, decided, leb-true (length c.rounds.result.now) c.loop-mark.reached t)),
       λ h. le-leb (length c.rounds.result.now) c.loop-mark.reached (omega (arith, decided, ended.1 h)),
     )

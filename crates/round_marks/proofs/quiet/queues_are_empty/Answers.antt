@@ -10,7 +10,9 @@ returns-then-not-is_vacant g c =
     let queues = c.args.queues.now in
     let next = ap (map (λ queue. queue.items)) (from_here queues i c.queue-item.result c.loop-queue-test.true c.queue-item.is) in (
       λ t. absurd (false≢true t),
-      λ h. absurd (walk_stops (λ queue. queue ≡ []) (map (λ queue. queue.items) queues) (map (λ queue. queue.items) (drop i queues)) c.loop-queue.invariant c.queue-item.result.items (map (λ queue. queue.items) (drop (i + 1) queues)) next (λ all. iff_false c.is_vacant.ensures c.if-not-is_vacant.true (rw c.as_slice.ensures.value all)) h),
+      λ h. absurd (walk_stops (λ queue. queue ≡ []) (map (λ queue. queue.items) queues) (map (λ queue. queue.items) (drop i queues))
+          c.loop-queue.invariant c.queue-item.result.items (map (λ queue. queue.items) (drop (i + 1) queues)) next
+          (λ all. iff_false c.is_vacant.ensures c.if-not-is_vacant.true (rw c.as_slice.ensures.value all)) h),
     )
 
 pub loop-queue-preserved : goal.loop-queue-preserved
@@ -18,12 +20,15 @@ loop-queue-preserved g c =
     let i = c.loop-queue.queue-index in
     let queues = c.args.queues.now in
     let next = ap (map (λ queue. queue.items)) (from_here queues i c.queue-item.result c.loop-queue-test.true c.queue-item.is) in
-    walk_on (λ queue. queue ≡ []) (map (λ queue. queue.items) queues) (map (λ queue. queue.items) (drop i queues)) c.loop-queue.invariant c.queue-item.result.items (map (λ queue. queue.items) (drop (i + 1) queues)) next (rw c.as_slice.ensures.value at (c.is_vacant.ensures.0 c.if-not-is_vacant.false))
+    walk_on (λ queue. queue ≡ []) (map (λ queue. queue.items) queues) (map (λ queue. queue.items) (drop i queues)) c.loop-queue.invariant
+    c.queue-item.result.items (map (λ queue. queue.items) (drop (i + 1) queues)) next
+    (rw c.as_slice.ensures.value at (c.is_vacant.ensures.0 c.if-not-is_vacant.false))
 
 pub returns : goal.returns
 returns g c =
     let i = c.loop-queue.queue-index in
     let queues = c.args.queues.now in (
-      λ _. walk_ends (λ queue. queue ≡ []) (map (λ queue. queue.items) queues) (map (λ queue. queue.items) (drop i queues)) c.loop-queue.invariant (ap (map (λ queue. queue.items)) (drop_all i queues c.loop-queue-test.false)),
+      λ _. walk_ends (λ queue. queue ≡ []) (map (λ queue. queue.items) queues) (map (λ queue. queue.items) (drop i queues))
+          c.loop-queue.invariant (ap (map (λ queue. queue.items)) (drop_all i queues c.loop-queue-test.false)),
       λ _. refl,
     )

@@ -12,7 +12,8 @@ returns-then-not-is_at_rest g c =
     let next = rest_more deref_pair at.element-iterator c.next.new.self c.next.result (c.in-Some.field-0-0, c.in-Some.element) c.in-Some.is c.next.ensures.steps in
     let tells = c.is_at_rest.ensures in (
       λ t. absurd (false≢true t),
-      λ h. absurd (walk_stops (λ x. IsAtRest c.args.board.now x.1) c.args.pe.now.room at.element-iterator at.invariant.same (c.in-Some.field-0-0.now, c.in-Some.element.now) c.next.new.self next (iff_false tells c.if-not-is_at_rest.true) h),
+      λ h. absurd (walk_stops (λ x. IsAtRest c.args.board.now x.1) c.args.pe.now.room at.element-iterator at.invariant.same
+          (c.in-Some.field-0-0.now, c.in-Some.element.now) c.next.new.self next (iff_false tells c.if-not-is_at_rest.true) h),
     )
 
 pub loop-element-preserved : goal.loop-element-preserved
@@ -23,5 +24,6 @@ loop-element-preserved g c =
     record {
       can = search rules;
       ends = search rules;
-      same = walk_on (λ x. IsAtRest c.args.board.now x.1) c.args.pe.now.room at.element-iterator at.invariant.same (c.in-Some.field-0-0.now, c.in-Some.element.now) c.next.new.self next (tells.0 c.if-not-is_at_rest.false);
+      same = walk_on (λ x. IsAtRest c.args.board.now x.1) c.args.pe.now.room at.element-iterator at.invariant.same
+          (c.in-Some.field-0-0.now, c.in-Some.element.now) c.next.new.self next (tells.0 c.if-not-is_at_rest.false);
     }

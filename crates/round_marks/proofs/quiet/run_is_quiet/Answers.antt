@@ -12,7 +12,11 @@ returns-then-is_complete g c = record {
 pub returns-then-pes_are_quiet : goal.returns-then-pes_are_quiet
 returns-then-pes_are_quiet g c = record {
   quiet = (
-    λ t. record { waits = iff_false c.is_complete.ensures.value c.if-is_complete.false; at_pes = c.pes_are_quiet.ensures.0 c.if-pes_are_quiet.true; in_queues = c.queues_are_empty.ensures.0 t },
+    λ t. record {
+      waits = iff_false c.is_complete.ensures.value c.if-is_complete.false;
+      at_pes = c.pes_are_quiet.ensures.0 c.if-pes_are_quiet.true;
+      in_queues = c.queues_are_empty.ensures.0 t;
+    },
     λ h. c.queues_are_empty.ensures.1 h.in_queues,
   );
 }

@@ -15,4 +15,5 @@ pub returns-clause-beginning : goal.returns-clause-beginning
 returns-clause-beginning g c = λ opened pe. local_beginning g.C.Chare.step opened pe
 
 pub returns-clause-still_accounted : goal.returns-clause-still_accounted
-returns-clause-still_accounted g c = λ opened start pe ledger call may running histories keyed local. local_call g.C.Chare.step g.C.Pup.fits g.C.Pup.pack opened start g.C.Pup.unpack pe ledger call may running histories keyed local
+returns-clause-still_accounted g c = λ opened start pe ledger call may running histories keyed local. local_call g.C.Chare.step g.C.Pup.fits
+    g.C.Pup.pack opened start g.C.Pup.unpack pe ledger call may running histories keyed local

@@ -19,7 +19,9 @@ loop-chare-preserved g c =
     let taken : c.loop-chare.left.items ≡ c.in-Some.chare ∷ c.take_next.new.left.items = c.in-Some.ensures.taken in
     let next = drop_next g.H.Openings.opened c.loop-chare.e c.in-Some.chare c.take_next.new.left.items (sym taken ∙ inv.what_is_left) in
     record {
-      same_placed = place_all_step c.args.n c.loop-chare.e c.index_at-index.result c.loop-chare.pes.items c.place_home.new.pes.items c.in-Some.chare c.loop-chare.left.items c.take_next.new.left.items _ c.index_at-index.ensures.value taken c.in_ok-place_home.ensures.placed inv.same_placed;
+      same_placed = place_all_step c.args.n c.loop-chare.e c.index_at-index.result c.loop-chare.pes.items c.place_home.new.pes.items
+          c.in-Some.chare c.loop-chare.left.items c.take_next.new.left.items _ c.index_at-index.ensures.value taken
+          c.in_ok-place_home.ensures.placed inv.same_placed;
       what_is_left = next.0;
       counted = omega (arith, inv.counted, ap length taken);
       same_pes = c.in_ok-place_home.ensures.counted ∙ inv.same_pes;

@@ -9,7 +9,10 @@ pub returns-in-Start-clause-kept : goal.returns-in-Start-clause-kept
 returns-in-Start-clause-kept g c =
     let d = c.requires.run in
     record {
-      histories = pe_kept g.C.Chare.step g.C.Pup.fits g.C.Pup.pack g.H.Openings.opened c.args.pe.now c.start.new.pe (start_event g.C.Chare.step g.C.Pup.pack c.args.pe.now c.in-Start.e) c.start.result (λ v. v) d.histories (start_event_holds g.C.Chare.step g.C.Pup.fits g.C.Pup.pack g.H.Openings.opened c.args.pe.now c.in-Start.e d.histories) c.start.ensures.ok c.start.ensures.err;
+      histories = pe_kept g.C.Chare.step g.C.Pup.fits g.C.Pup.pack g.H.Openings.opened c.args.pe.now c.start.new.pe
+          (start_event g.C.Chare.step g.C.Pup.pack c.args.pe.now c.in-Start.e) c.start.result (λ v. v) d.histories
+          (start_event_holds g.C.Chare.step g.C.Pup.fits g.C.Pup.pack g.H.Openings.opened c.args.pe.now c.in-Start.e d.histories)
+          c.start.ensures.ok c.start.ensures.err;
       parcels = d.parcels;
       words_name = d.words_name;
       board_counted = d.board_counted;
@@ -20,7 +23,8 @@ pub returns-in-Look-clause-kept : goal.returns-in-Look-clause-kept
 returns-in-Look-clause-kept g c =
     let d = c.requires.run in
     record {
-      histories = subst (λ (x : PeView g.row.C.Denot). HasHistories g.C.Chare.step g.C.Pup.fits g.C.Pup.pack g.H.Openings.opened x) (sym c.look.ensures) (look_event_holds g.C.Chare.step g.C.Pup.fits g.C.Pup.pack g.H.Openings.opened c.args.pe.now c.args.words.now d.histories);
+      histories = subst (λ (x : PeView g.row.C.Denot). HasHistories g.C.Chare.step g.C.Pup.fits g.C.Pup.pack g.H.Openings.opened x)
+          (sym c.look.ensures) (look_event_holds g.C.Chare.step g.C.Pup.fits g.C.Pup.pack g.H.Openings.opened c.args.pe.now c.args.words.now d.histories);
       parcels = d.parcels;
       words_name = d.words_name;
       board_counted = d.board_counted;
@@ -30,7 +34,10 @@ returns-in-Look-clause-kept g c =
 pub returns-in_ok-flush-in-Flush-clause-kept : goal.returns-in_ok-flush-in-Flush-clause-kept
 returns-in_ok-flush-in-Flush-clause-kept g c =
     let d = c.requires.run in
-    let k = queues_kept g.C.Chare.step g.C.Pup.fits g.C.Pup.pack g.H.Openings.opened c.args.pe.now c.flush.new.pe c.args.queues.now c.flush.new.queues (flush_event c.args.pe.now c.args.queues.now) d.histories d.parcels (flush_event_holds g.C.Chare.step g.C.Pup.fits g.C.Pup.pack g.H.Openings.opened c.args.pe.now c.args.queues.now d.histories d.parcels) c.in_ok-flush-in-Flush.ensures.ok in
+    let k = queues_kept g.C.Chare.step g.C.Pup.fits g.C.Pup.pack g.H.Openings.opened c.args.pe.now c.flush.new.pe c.args.queues.now
+    c.flush.new.queues (flush_event c.args.pe.now c.args.queues.now) d.histories d.parcels
+    (flush_event_holds g.C.Chare.step g.C.Pup.fits g.C.Pup.pack g.H.Openings.opened c.args.pe.now c.args.queues.now d.histories
+    d.parcels) c.in_ok-flush-in-Flush.ensures.ok in
     record {
       histories = k.0;
       parcels = k.1;
@@ -42,7 +49,10 @@ returns-in_ok-flush-in-Flush-clause-kept g c =
 pub returns-in-Deliver-clause-kept : goal.returns-in-Deliver-clause-kept
 returns-in-Deliver-clause-kept g c =
     let d = c.requires.run in
-    let k = queues_kept g.C.Chare.step g.C.Pup.fits g.C.Pup.pack g.H.Openings.opened c.args.pe.now c.deliver_at.new.pe c.args.queues.now c.deliver_at.new.queues (deliver_event c.args.pe.now c.args.queues.now c.in-Deliver.p) d.histories d.parcels (deliver_event_holds g.C.Chare.step g.C.Pup.fits g.C.Pup.pack g.H.Openings.opened c.args.pe.now c.args.queues.now c.in-Deliver.p d.histories d.parcels) c.deliver_at.ensures in
+    let k = queues_kept g.C.Chare.step g.C.Pup.fits g.C.Pup.pack g.H.Openings.opened c.args.pe.now c.deliver_at.new.pe c.args.queues.now
+    c.deliver_at.new.queues (deliver_event c.args.pe.now c.args.queues.now c.in-Deliver.p) d.histories d.parcels
+    (deliver_event_holds g.C.Chare.step g.C.Pup.fits g.C.Pup.pack g.H.Openings.opened c.args.pe.now c.args.queues.now c.in-Deliver.p
+    d.histories d.parcels) c.deliver_at.ensures in
     record {
       histories = k.0;
       parcels = k.1;
@@ -55,7 +65,10 @@ pub returns-in-Act-clause-kept : goal.returns-in-Act-clause-kept
 returns-in-Act-clause-kept g c =
     let d = c.requires.run in
     record {
-      histories = pe_kept g.C.Chare.step g.C.Pup.fits g.C.Pup.pack g.H.Openings.opened c.args.pe.now c.act.new.pe (act_event g.C.Chare.step g.C.Pup.pack g.C.Pup.unpack c.args.pe.now) c.act.result (λ v. v) d.histories (act_event_holds g.C.Chare.step g.C.Pup.fits g.C.Pup.pack g.H.Openings.opened g.C.Pup.counted g.C.Pup.unpack g.met.C.Pup.round_trip g.met.C.Chare.packs c.args.pe.now d.histories) c.act.ensures.ok c.act.ensures.err;
+      histories = pe_kept g.C.Chare.step g.C.Pup.fits g.C.Pup.pack g.H.Openings.opened c.args.pe.now c.act.new.pe
+          (act_event g.C.Chare.step g.C.Pup.pack g.C.Pup.unpack c.args.pe.now) c.act.result (λ v. v) d.histories
+          (act_event_holds g.C.Chare.step g.C.Pup.fits g.C.Pup.pack g.H.Openings.opened g.C.Pup.counted g.C.Pup.unpack
+          g.met.C.Pup.round_trip g.met.C.Chare.packs c.args.pe.now d.histories) c.act.ensures.ok c.act.ensures.err;
       parcels = d.parcels;
       words_name = d.words_name;
       board_counted = d.board_counted;
@@ -65,7 +78,8 @@ returns-in-Act-clause-kept g c =
 pub returns-in_ok-reports-in-Report-clause-kept : goal.returns-in_ok-reports-in-Report-clause-kept
 returns-in_ok-reports-in-Report-clause-kept g c =
     let d = c.requires.run in
-    let k = board_kept g.C.Chare.step g.C.Pup.fits g.C.Pup.pack g.H.Openings.opened c.args.pe.now c.report.new.pe c.args.board.now c.report.new.board c.in_ok-reports-in-Report.reports d.histories c.in_ok-reports-in-Report.ensures.ok in
+    let k = board_kept g.C.Chare.step g.C.Pup.fits g.C.Pup.pack g.H.Openings.opened c.args.pe.now c.report.new.pe c.args.board.now
+    c.report.new.board c.in_ok-reports-in-Report.reports d.histories c.in_ok-reports-in-Report.ensures.ok in
     record {
       histories = k.0;
       parcels = d.parcels;
@@ -78,7 +92,11 @@ pub returns-in-Depart-clause-kept : goal.returns-in-Depart-clause-kept
 returns-in-Depart-clause-kept g c =
     let d = c.requires.run in
     record {
-      histories = words_kept g.C.Chare.step g.C.Pup.fits g.C.Pup.pack g.H.Openings.opened c.args.pe.now c.depart.new.pe c.args.words.now c.depart.new.words (depart_event g.C.Chare.step g.C.Pup.pack c.in-Depart.p c.args.pe.now c.args.words.now c.args.board.now c.in-Depart.e) c.depart.result (λ v. v) d.histories (depart_event_holds g.C.Chare.step g.C.Pup.fits g.C.Pup.pack g.H.Openings.opened c.in-Depart.p c.args.pe.now c.args.words.now c.args.board.now c.in-Depart.e d.histories c.depart.ensures.fits) c.depart.ensures.ok c.depart.ensures.err;
+      histories = words_kept g.C.Chare.step g.C.Pup.fits g.C.Pup.pack g.H.Openings.opened c.args.pe.now c.depart.new.pe c.args.words.now
+          c.depart.new.words (depart_event g.C.Chare.step g.C.Pup.pack c.in-Depart.p c.args.pe.now c.args.words.now c.args.board.now
+          c.in-Depart.e) c.depart.result (λ v. v) d.histories
+          (depart_event_holds g.C.Chare.step g.C.Pup.fits g.C.Pup.pack g.H.Openings.opened c.in-Depart.p c.args.pe.now c.args.words.now
+          c.args.board.now c.in-Depart.e d.histories c.depart.ensures.fits) c.depart.ensures.ok c.depart.ensures.err;
       parcels = d.parcels;
       words_name = c.depart.ensures.named;
       board_counted = d.board_counted;
@@ -89,7 +107,10 @@ pub returns-in-Resume-clause-kept : goal.returns-in-Resume-clause-kept
 returns-in-Resume-clause-kept g c =
     let d = c.requires.run in
     record {
-      histories = pe_kept g.C.Chare.step g.C.Pup.fits g.C.Pup.pack g.H.Openings.opened c.args.pe.now c.resume.new.pe (resume_event g.C.Chare.step g.C.Pup.pack c.in-Resume.p c.args.pe.now c.args.board.now c.in-Resume.e) c.resume.result (λ v. v) d.histories (resume_event_holds g.C.Chare.step g.C.Pup.fits g.C.Pup.pack g.H.Openings.opened c.in-Resume.p c.args.pe.now c.args.board.now c.in-Resume.e d.histories) c.resume.ensures.ok c.resume.ensures.err;
+      histories = pe_kept g.C.Chare.step g.C.Pup.fits g.C.Pup.pack g.H.Openings.opened c.args.pe.now c.resume.new.pe
+          (resume_event g.C.Chare.step g.C.Pup.pack c.in-Resume.p c.args.pe.now c.args.board.now c.in-Resume.e) c.resume.result (λ v. v)
+          d.histories (resume_event_holds g.C.Chare.step g.C.Pup.fits g.C.Pup.pack g.H.Openings.opened c.in-Resume.p c.args.pe.now
+          c.args.board.now c.in-Resume.e d.histories) c.resume.ensures.ok c.resume.ensures.err;
       parcels = d.parcels;
       words_name = d.words_name;
       board_counted = d.board_counted;

@@ -23,7 +23,8 @@ returns-clause-ok g c =
 
 pub returns-clause-same_pes : goal.returns-clause-same_pes
 returns-clause-same_pes g c =
-    same_at c.args.pes.now c.get-i.result (get_or c.args.pes.now c.get-i.result c.index-pes-i.result) c.step_at.new.pe c.step_at.result (set-get_or c.args.pes.now c.get-i.result c.index-pes-i.result) c.step_at.ensures.same_pe
+    same_at c.args.pes.now c.get-i.result (get_or c.args.pes.now c.get-i.result c.index-pes-i.result) c.step_at.new.pe c.step_at.result
+    (set-get_or c.args.pes.now c.get-i.result c.index-pes-i.result) c.step_at.ensures.same_pe
 
 pub returns-clause-refused : goal.returns-clause-refused
 returns-clause-refused g c =
@@ -37,7 +38,8 @@ pub returns-clause-world : goal.returns-clause-world
 returns-clause-world g c =
     let w : WorldView g.row.C.Denot g.row.A.Denot = record { pes = c.args.pes.now; queues = c.args.queues.now; words = c.args.words.now; board = c.args.board.now } in
     let d : LocalView g.row.C.Denot g.row.A.Denot = record { pe = c.step_at.new.pe; queues = c.step_at.new.queues; words = c.step_at.new.words; board = c.step_at.new.board } in
-    world_local g.C.Chare.step g.C.Pup.fits g.C.Pup.pack g.H.Openings.opened g.H.Openings.pes w c.get-i.result d c.requires.world c.step_at.ensures.kept c.step_at.auto.queues c.step_at.auto.words
+    world_local g.C.Chare.step g.C.Pup.fits g.C.Pup.pack g.H.Openings.opened g.H.Openings.pes w c.get-i.result d c.requires.world
+    c.step_at.ensures.kept c.step_at.auto.queues c.step_at.auto.words
 
 pub returns-clause-run : goal.returns-clause-run
 returns-clause-run g c =

@@ -14,13 +14,17 @@ loop-next-preserved g c =
     let n = counted_more c.loop-next.gathered.ends c.with-gathered.result.ends _ c.with-gathered.ensures.ends in
     let me = next_is (λ w. w.seated.pe.me) (length c.loop-next.gathered.ends) c.in-Some.next left others is i.in_order in
     record {
-      gathered = more_in_order (λ pe. pe.me) c.into_parts-seated-in-Some.result.0.pe c.loop-next.gathered.ends c.with-gathered.result.ends c.with-gathered.ensures.ends (ap (λ s. s.pe.me) c.into_parts-seated-in-Some.ensures.seated ∙ me) i.gathered;
+      gathered = more_in_order (λ pe. pe.me) c.into_parts-seated-in-Some.result.0.pe c.loop-next.gathered.ends c.with-gathered.result.ends
+          c.with-gathered.ensures.ends (ap (λ s. s.pe.me) c.into_parts-seated-in-Some.ensures.seated ∙ me) i.gathered;
       in_order = rw n (rest_is (λ w. w.seated.pe.me) (length c.loop-next.gathered.ends) c.in-Some.next left others is i.in_order);
       counted = omega (arith, i.counted, n, ap length is);
       wide = rw c.with-gathered.ensures.room i.wide;
-      first = next_fault c.loop-next.fault c.in-Some.next.fault c.or-fault.result (map (λ w. w.fault) others) (map (λ w. w.fault) left) _ (ap (map (λ w. w.fault)) is) (c.or-fault.ensures ∙ ap (option_or c.loop-next.fault) c.into_parts-seated-in-Some.ensures.fault) i.first;
-      cause = either_fault (HasCause g.C.Chare.step g.C.Pup.pack g.C.Chare.refuses g.H.Openings.opened) c.loop-next.fault c.into_parts-seated-in-Some.result.1 c.or-fault.result c.or-fault.ensures i.cause c.into_parts-seated-in-Some.ensures.cause;
+      first = next_fault c.loop-next.fault c.in-Some.next.fault c.or-fault.result (map (λ w. w.fault) others) (map (λ w. w.fault) left) _
+          (ap (map (λ w. w.fault)) is) (c.or-fault.ensures ∙ ap (option_or c.loop-next.fault) c.into_parts-seated-in-Some.ensures.fault) i.first;
+      cause = either_fault (HasCause g.C.Chare.step g.C.Pup.pack g.C.Chare.refuses g.H.Openings.opened) c.loop-next.fault
+          c.into_parts-seated-in-Some.result.1 c.or-fault.result c.or-fault.ensures i.cause c.into_parts-seated-in-Some.ensures.cause;
     }
 
 pub returns-clause-fault : goal.returns-clause-fault
-returns-clause-fault g c = last_fault c.loop-next.fault (map (λ w. w.fault) c.loop-next.others.items) _ (ap (map (λ w. w.fault)) c.in_default.ensures.taken.0) c.loop-next.invariant.first
+returns-clause-fault g c = last_fault c.loop-next.fault (map (λ w. w.fault) c.loop-next.others.items) _
+    (ap (map (λ w. w.fault)) c.in_default.ensures.taken.0) c.loop-next.invariant.first

@@ -4,29 +4,40 @@ use Rattle.rts_run.proofs.Faults.{no_unpack, no_mismatch}
 use Rattle.rts_run.proofs.running.ended.Goals as goal
 
 pub returns-then-run_agrees-clause-marks : goal.returns-then-run_agrees-clause-marks
-returns-then-run_agrees-clause-marks g c = λ _. rw c.new.ensures.board (rw c.new.ensures.ends (rw c.new.ensures.left (rw (← c.deref.ensures.value) (rw (← c.deref-2.ensures.value) (c.run_agrees.ensures.agree.0 c.if-run_agrees.true)))))
+returns-then-run_agrees-clause-marks g c = λ _. rw c.new.ensures.board
+    (rw c.new.ensures.ends (rw c.new.ensures.left (rw (← c.deref.ensures.value)
+    (rw (← c.deref-2.ensures.value) (c.run_agrees.ensures.agree.0 c.if-run_agrees.true)))))
 
 pub returns-then-run_agrees-clause-mismatch : goal.returns-then-run_agrees-clause-mismatch
-returns-then-run_agrees-clause-mismatch g c = λ is. absurd (no_mismatch g.C.Chare.step g.C.Pup.fits g.C.Pup.pack g.C.Chare.refuses g.H.Openings.opened c.fault_at_end-fault.result c.fault_at_end-fault.ensures.cause (sym c.new.ensures.fault ∙ is))
+returns-then-run_agrees-clause-mismatch g c = λ is. absurd
+    (no_mismatch g.C.Chare.step g.C.Pup.fits g.C.Pup.pack g.C.Chare.refuses g.H.Openings.opened c.fault_at_end-fault.result
+    c.fault_at_end-fault.ensures.cause (sym c.new.ensures.fault ∙ is))
 
 pub returns-then-run_agrees-clause-unpacks : goal.returns-then-run_agrees-clause-unpacks
-returns-then-run_agrees-clause-unpacks g c = λ is. no_unpack g.C.Chare.step g.C.Pup.fits g.C.Pup.pack g.C.Chare.refuses g.H.Openings.opened c.fault_at_end-fault.result c.fault_at_end-fault.ensures.cause (sym c.new.ensures.fault ∙ is)
+returns-then-run_agrees-clause-unpacks g c = λ is. no_unpack g.C.Chare.step g.C.Pup.fits g.C.Pup.pack g.C.Chare.refuses g.H.Openings.opened
+    c.fault_at_end-fault.result c.fault_at_end-fault.ensures.cause (sym c.new.ensures.fault ∙ is)
 
 pub returns-then-run_agrees-clause-cause : goal.returns-then-run_agrees-clause-cause
 returns-then-run_agrees-clause-cause g c = λ _. rw c.new.ensures.fault c.fault_at_end-fault.ensures.cause
 
 pub returns-then-run_agrees-clause-finished : goal.returns-then-run_agrees-clause-finished
-returns-then-run_agrees-clause-finished g c = λ none. rw c.new.ensures.board (c.all_finished-finished.ensures.board (c.fault_at_end-fault.ensures.finished (sym c.new.ensures.fault ∙ none)))
+returns-then-run_agrees-clause-finished g c = λ none. rw c.new.ensures.board
+    (c.all_finished-finished.ensures.board (c.fault_at_end-fault.ensures.finished (sym c.new.ensures.fault ∙ none)))
 
 pub returns-then-run_agrees-clause-all_finished : goal.returns-then-run_agrees-clause-all_finished
 returns-then-run_agrees-clause-all_finished g c =
     λ none.
-    rw c.new.ensures.ends (rw c.new.ensures.left (rw (← c.deref-then-run_agrees.ensures.value) (rw (← c.deref-then-run_agrees-2.ensures.value) (c.all_finished-finished.ensures.elements (c.fault_at_end-fault.ensures.finished (sym c.new.ensures.fault ∙ none))))))
+    rw c.new.ensures.ends (rw c.new.ensures.left (rw (← c.deref-then-run_agrees.ensures.value)
+    (rw (← c.deref-then-run_agrees-2.ensures.value) (c.all_finished-finished.ensures.elements
+    (c.fault_at_end-fault.ensures.finished (sym c.new.ensures.fault ∙ none))))))
 
 pub returns-then-run_agrees-clause-quiet : goal.returns-then-run_agrees-clause-quiet
 returns-then-run_agrees-clause-quiet g c =
     λ is.
-    rw c.new.ensures.board (rw c.new.ensures.ends (rw c.new.ensures.left (rw (← c.deref-then-run_agrees-3.ensures.value) (rw (← c.deref-then-run_agrees-4.ensures.value) (c.is_quiet-quiet.ensures.quiet (c.fault_at_end-fault.ensures.quiet (sym c.new.ensures.fault ∙ is)))))))
+    rw c.new.ensures.board (rw c.new.ensures.ends (rw c.new.ensures.left
+    (rw (← c.deref-then-run_agrees-3.ensures.value) (rw (← c.deref-then-run_agrees-4.ensures.value)
+    (c.is_quiet-quiet.ensures.quiet (c.fault_at_end-fault.ensures.quiet (sym c.new.ensures.fault ∙ is)))))))
 
 pub returns-clause-mismatch : goal.returns-clause-mismatch
-returns-clause-mismatch g c = λ _ marked. iff_false c.run_agrees.ensures.agree c.if-run_agrees.false (rw c.deref.ensures.value (rw c.deref-2.ensures.value (rw (← c.new-2.ensures.left) (rw (← c.new-2.ensures.ends) (rw (← c.new-2.ensures.board) marked)))))
+returns-clause-mismatch g c = λ _ marked. iff_false c.run_agrees.ensures.agree c.if-run_agrees.false
+    (rw c.deref.ensures.value (rw c.deref-2.ensures.value (rw (← c.new-2.ensures.left) (rw (← c.new-2.ensures.ends) (rw (← c.new-2.ensures.board) marked)))))

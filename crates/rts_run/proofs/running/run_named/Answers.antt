@@ -88,12 +88,15 @@ returns g c =
         queues = omega (arith, m, ap length c.ended.ensures.left, length-map c.settled-ends.result.1.items (λ q. q.items), c.settled-ends.ensures.counted);
         account = rw c.ended.ensures.ends (rw c.ended.ensures.left c.settled-ends.ensures.account);
         histories = rw c.ended.ensures.ends (rw c.ended.ensures.left c.settled-ends.ensures.histories);
-        in_order = rw c.ended.ensures.ends (rw c.ended.ensures.left (histories_in_order g.C.Chare.step g.C.Pup.fits g.C.Pup.pack g.H.Openings.opened _ c.settled-ends.ensures.histories));
+        in_order = rw c.ended.ensures.ends (rw c.ended.ensures.left
+            (histories_in_order g.C.Chare.step g.C.Pup.fits g.C.Pup.pack g.H.Openings.opened _ c.settled-ends.ensures.histories));
         board = rw c.ended.ensures.board c.into_parts-post.ensures.board;
         elements = rw c.ended.ensures.board c.into_parts-post.ensures.counted;
         on_pes = rw c.ended.ensures.board c.into_parts-post.ensures.on_pes;
         by_strategy = rw c.ended.ensures.board c.into_parts-post.ensures.by_strategy;
-        rounds = rw c.ended.ensures.board (decided_on c.into_parts-post.result.1 (length g.H.Openings.opened) g.H.Openings.pes g.H.RunStrategy.strategy c.into_parts-post.ensures.counted c.into_parts-post.ensures.on_pes c.into_parts-post.ensures.by_strategy c.into_parts-post.ensures.board);
+        rounds = rw c.ended.ensures.board (decided_on c.into_parts-post.result.1 (length g.H.Openings.opened) g.H.Openings.pes
+            g.H.RunStrategy.strategy c.into_parts-post.ensures.counted c.into_parts-post.ensures.on_pes
+            c.into_parts-post.ensures.by_strategy c.into_parts-post.ensures.board);
         marks = c.ended.ensures.marks;
         mismatch = c.ended.ensures.mismatch;
         unpacks = c.ended.ensures.unpacks;

@@ -25,18 +25,21 @@ pub seated-seated-requires-clause-start : goal.seated-seated-requires-clause-sta
 seated-seated-requires-clause-start g c =
     let i = c.loop-pe.invariant in
     let is = c.in-Some.ensures.taken in
-    ap (slice_get g.J.RunBeginning.beginning.starts) (next_is (λ pe. pe.me) (length c.loop-pe.workers.items) c.in-Some.pe c.take_next.new.left.items c.loop-pe.states.items is i.in_order)
+    ap (slice_get g.J.RunBeginning.beginning.starts) (next_is (λ pe. pe.me) (length c.loop-pe.workers.items) c.in-Some.pe
+    c.take_next.new.left.items c.loop-pe.states.items is i.in_order)
     ∙ (drop_next g.J.RunBeginning.beginning.starts (length c.loop-pe.workers.items) c.in-Some.pe c.take_next.new.left.items (sym is ∙ i.starts)).1
 
 pub seated-seated-requires-clause-share : goal.seated-seated-requires-clause-share
 seated-seated-requires-clause-share g c =
     let i = c.loop-pe.invariant in
     rw (next_is (λ pe. pe.me) (length c.loop-pe.workers.items) c.in-Some.pe c.take_next.new.left.items c.loop-pe.states.items c.in-Some.ensures.taken i.in_order)
-    (drop_head (λ s. s.seats) g.J.RunBeginning.beginning.shares (length c.loop-pe.workers.items) c.in-Some-take_next.seat c.take_next-in-Some.new.left.items c.loop-pe.seats.items c.in-Some-take_next.ensures.taken i.shares).1
+    (drop_head (λ s. s.seats) g.J.RunBeginning.beginning.shares (length c.loop-pe.workers.items) c.in-Some-take_next.seat
+    c.take_next-in-Some.new.left.items c.loop-pe.seats.items c.in-Some-take_next.ensures.taken i.shares).1
 
 pub seated-seated-requires-clause-seat : goal.seated-seated-requires-clause-seat
 seated-seated-requires-clause-seat g c =
-    (all_next (λ s. s ≡ new_seat g.J.RunBeginning.beginning.post s.seats) c.in-Some-take_next.seat c.take_next-in-Some.new.left.items c.loop-pe.seats.items c.in-Some-take_next.ensures.taken c.loop-pe.invariant.new).0
+    (all_next (λ s. s ≡ new_seat g.J.RunBeginning.beginning.post s.seats) c.in-Some-take_next.seat c.take_next-in-Some.new.left.items
+    c.loop-pe.seats.items c.in-Some-take_next.ensures.taken c.loop-pe.invariant.new).0
 
 pub loop-pe-preserved : goal.loop-pe-preserved
 loop-pe-preserved g c =
@@ -47,12 +50,15 @@ loop-pe-preserved g c =
     let me = next_is (λ pe. pe.me) (length made) c.in-Some.pe c.take_next.new.left.items c.loop-pe.states.items is i.in_order in
     let n = counted_more made c.push_back_reserved.new.self.items c.new-in-Some.result c.push_back_reserved.ensures.items in
     record {
-      workers = more_in_order (λ w. w.seated.pe.me) c.new-in-Some.result made c.push_back_reserved.new.self.items c.push_back_reserved.ensures.items (ap (λ w. w.seated.pe.me) c.new-in-Some.ensures.made ∙ (ap (λ s. s.pe.me) c.seated-seated.ensures.made ∙ me)) i.workers;
+      workers = more_in_order (λ w. w.seated.pe.me) c.new-in-Some.result made c.push_back_reserved.new.self.items
+          c.push_back_reserved.ensures.items (ap (λ w. w.seated.pe.me) c.new-in-Some.ensures.made
+          ∙ (ap (λ s. s.pe.me) c.seated-seated.ensures.made ∙ me)) i.workers;
       counted = omega (arith, i.counted, n, ap length is);
       as_many = omega (arith, i.as_many, ap length is, ap length at);
       wide = omega (arith, i.wide, c.push_back_reserved.ensures.capacity);
       starts = rw n (drop_next g.J.RunBeginning.beginning.starts (length made) c.in-Some.pe c.take_next.new.left.items (sym is ∙ i.starts)).0;
-      shares = rw n (drop_head (λ s. s.seats) g.J.RunBeginning.beginning.shares (length made) c.in-Some-take_next.seat c.take_next-in-Some.new.left.items c.loop-pe.seats.items at i.shares).0;
+      shares = rw n (drop_head (λ s. s.seats) g.J.RunBeginning.beginning.shares (length made) c.in-Some-take_next.seat
+          c.take_next-in-Some.new.left.items c.loop-pe.seats.items at i.shares).0;
       in_order = rw n (rest_is (λ pe. pe.me) (length made) c.in-Some.pe c.take_next.new.left.items c.loop-pe.states.items is i.in_order);
       new = (all_next (λ s. s ≡ new_seat g.J.RunBeginning.beginning.post s.seats) c.in-Some-take_next.seat c.take_next-in-Some.new.left.items c.loop-pe.seats.items at i.new).1;
     }

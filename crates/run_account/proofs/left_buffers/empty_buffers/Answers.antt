@@ -9,5 +9,7 @@ loop-queue-preserved g c =
     record {
       one_each = omega (arith, i.one_each, n);
       wide = omega (arith, i.wide, c.push_back_reserved.ensures.capacity);
-      empty = all_more (λ room. (room.items ≡ []) × (c.args.capacity ≤ vec_capacity room)) c.loop-queue.buffers.items c.push_back_reserved.new.self.items c.in_ok-room.room c.push_back_reserved.ensures.items i.empty (c.in_ok-room.ensures.items, omega (arith, c.in_ok-room.ensures.capacity));
+      empty = all_more (λ room. (room.items ≡ []) × (c.args.capacity ≤ vec_capacity room)) c.loop-queue.buffers.items
+          c.push_back_reserved.new.self.items c.in_ok-room.room c.push_back_reserved.ensures.items i.empty
+          (c.in_ok-room.ensures.items, omega (arith, c.in_ok-room.ensures.capacity));
     }

@@ -9,12 +9,14 @@ use Rattle.program_words.specs.Arguments.{file_rule, tolerance_rule, versioned}
 use Rattle.run_command_line.specs.CommandLine.{dump_rule, events_rule, lbd1_rule, no_journal_rule, progress_rule, replay_rule, seed_rule, seeds_rule, trace_rule}
 use Rattle.run_command_line.proofs.words.command.Goals as goal
 
-distinct : are_distinct (codes "file" ∷ codes "dump" ∷ codes "lbd1" ∷ codes "progress" ∷ codes "tolerance" ∷ codes "seed" ∷ codes "seeds" ∷ codes "events" ∷ codes "replay" ∷ codes "trace" ∷ codes "no-journal" ∷ []) ≡ true
+distinct : are_distinct (codes "file" ∷ codes "dump" ∷ codes "lbd1" ∷ codes "progress" ∷ codes "tolerance" ∷ codes "seed" ∷ codes
+    "seeds" ∷ codes "events" ∷ codes "replay" ∷ codes "trace" ∷ codes "no-journal" ∷ []) ≡ true
 distinct = refl
 
 pub returns-clause-program : goal.returns-clause-program
 returns-clause-program c =
-    let one = with_argument c.new_program-command.result c.in_ok-command.command c.file.result (versioned (codes "charm_run")) file_rule c.new_program-command.ensures.bare.app c.in_ok-command.ensures c.file.ensures.fits c.file.ensures.rule in
+    let one = with_argument c.new_program-command.result c.in_ok-command.command c.file.result (versioned (codes "charm_run")) file_rule
+    c.new_program-command.ensures.bare.app c.in_ok-command.ensures c.file.ensures.fits c.file.ensures.rule in
     let two = with_argument _ c.in_ok-command-2.command c.dump.result _ dump_rule one c.in_ok-command-2.ensures c.dump.ensures.fits c.dump.ensures.rule in
     let three = with_argument _ c.in_ok-command-3.command c.lbd1.result _ lbd1_rule two c.in_ok-command-3.ensures c.lbd1.ensures.fits c.lbd1.ensures.rule in
     let four = with_argument _ c.in_ok-command-4.command c.progress.result _ progress_rule three c.in_ok-command-4.ensures c.progress.ensures.fits c.progress.ensures.rule in
@@ -29,12 +31,77 @@ returns-clause-program c =
 
 pub returns-clause-named : goal.returns-clause-named
 returns-clause-named c =
-    let chain = c.file.result ∷ c.dump.result ∷ c.lbd1.result ∷ c.progress.result ∷ c.tolerance.result ∷ c.seed.result ∷ c.seeds.result ∷ c.events.result ∷ c.replay.result ∷ c.trace.result ∷ c.no_journal.result ∷ [] in
-    let named : are_distinct (ids_of chain) ≡ true = rw (ap (λ r. r.id) c.file.ensures.rule, ap (λ r. r.id) c.dump.ensures.rule, ap (λ r. r.id) c.lbd1.ensures.rule, ap (λ r. r.id) c.progress.ensures.rule, ap (λ r. r.id) c.tolerance.ensures.rule, ap (λ r. r.id) c.seed.ensures.rule, ap (λ r. r.id) c.seeds.ensures.rule, ap (λ r. r.id) c.events.ensures.rule, ap (λ r. r.id) c.replay.ensures.rule, ap (λ r. r.id) c.trace.ensures.rule, ap (λ r. r.id) c.no_journal.ensures.rule) distinct in
-    let all = All-from_recursion FitsChain chain (c.file.ensures.fits, (c.dump.ensures.fits, (c.lbd1.ensures.fits, (c.progress.ensures.fits, (c.tolerance.ensures.fits, (c.seed.ensures.fits, (c.seeds.ensures.fits, (c.events.ensures.fits, (c.replay.ensures.fits, (c.trace.ensures.fits, (c.no_journal.ensures.fits, tt))))))))))) in
+    let chain = c.file.result ∷ c.dump.result ∷ c.lbd1.result ∷ c.progress.result ∷ c.tolerance.result
+    ∷ c.seed.result ∷ c.seeds.result ∷ c.events.result ∷ c.replay.result ∷ c.trace.result ∷ c.no_journal.result ∷ [] in
+    let named : are_distinct (ids_of chain) ≡ true = rw (
+      ap (λ r. r.id) c.file.ensures.rule,
+      ap (λ r. r.id) c.dump.ensures.rule,
+      ap (λ r. r.id) c.lbd1.ensures.rule,
+      ap (λ r. r.id) c.progress.ensures.rule,
+      ap (λ r. r.id) c.tolerance.ensures.rule,
+      ap (λ r. r.id) c.seed.ensures.rule,
+      ap (λ r. r.id) c.seeds.ensures.rule,
+      ap (λ r. r.id) c.events.ensures.rule,
+      ap (λ r. r.id) c.replay.ensures.rule,
+      ap (λ r. r.id) c.trace.ensures.rule,
+      ap (λ r. r.id) c.no_journal.ensures.rule,
+    ) distinct in
+    let all = All-from_recursion FitsChain chain (
+      c.file.ensures.fits,
+      (
+        c.dump.ensures.fits,
+        (
+          c.lbd1.ensures.fits,
+          (
+            c.progress.ensures.fits,
+            (
+              c.tolerance.ensures.fits,
+              (
+                c.seed.ensures.fits,
+                (
+                  c.seeds.ensures.fits,
+                  (c.events.ensures.fits, (c.replay.ensures.fits, (c.trace.ensures.fits, (c.no_journal.ensures.fits, tt)))),
+                ),
+              ),
+            ),
+          ),
+        ),
+      ),
+    ) in
     let bare = c.new_program-command.ensures.bare in
     IfOk-weaker c.arg-11.result _ _ (λ command added m parsed.
     subst (λ id. is_some (first_value (found_of m) id) ≡ true) (ap (λ r. r.id) c.file.ensures.rule)
-    (required_in_chain c.new_program-command.result command chain 0 c.file.result m
-    (c.in_ok-command.command, c.in_ok-command.ensures, (c.in_ok-command-2.command, c.in_ok-command-2.ensures, (c.in_ok-command-3.command, c.in_ok-command-3.ensures, (c.in_ok-command-4.command, c.in_ok-command-4.ensures, (c.in_ok-command-5.command, c.in_ok-command-5.ensures, (c.in_ok-command-6.command, c.in_ok-command-6.ensures, (c.in_ok-command-7.command, c.in_ok-command-7.ensures, (c.in_ok-command-8.command, c.in_ok-command-8.ensures, (c.in_ok-command-9.command, c.in_ok-command-9.ensures, (c.in_ok-command-10.command, c.in_ok-command-10.ensures, (command, added, refl)))))))))))
+    (required_in_chain c.new_program-command.result command chain 0 c.file.result m (
+      c.in_ok-command.command,
+      c.in_ok-command.ensures,
+      (
+        c.in_ok-command-2.command,
+        c.in_ok-command-2.ensures,
+        (
+          c.in_ok-command-3.command,
+          c.in_ok-command-3.ensures,
+          (
+            c.in_ok-command-4.command,
+            c.in_ok-command-4.ensures,
+            (
+              c.in_ok-command-5.command,
+              c.in_ok-command-5.ensures,
+              (
+                c.in_ok-command-6.command,
+                c.in_ok-command-6.ensures,
+                (
+                  c.in_ok-command-7.command,
+                  c.in_ok-command-7.ensures,
+                  (
+                    c.in_ok-command-8.command,
+                    c.in_ok-command-8.ensures,
+                    (c.in_ok-command-9.command, c.in_ok-command-9.ensures, (c.in_ok-command-10.command, c.in_ok-command-10.ensures, (command, added, refl))),
+                  ),
+                ),
+              ),
+            ),
+          ),
+        ),
+      ),
+    )
     bare.args bare.groups bare.globals bare.negates all (distinct_ids chain named) (omega arith) c.file.ensures.takes parsed)) c.arg-11.ensures

@@ -39,7 +39,8 @@ returns-in-Some-first_load_past-clause-input c =
 pub returns-in-Some-first_load_past-clause-load : goal.returns-in-Some-first_load_past-clause-load
 returns-in-Some-first_load_past-clause-load c =
     let asked : IsAsked c.args.run.now c.args.pes = c.in_default-list_refusal.ensures.exact true in
-    let passes : PassesAt c.args.run.now.loads LOAD c.in-Some-first_load_past.entry = subst (λ (k : Listed). PassesAt k.loads LOAD c.in-Some-first_load_past.entry) c.run.view_is c.in-Some-first_load_past.ensures in
+    let passes : PassesAt c.args.run.now.loads LOAD c.in-Some-first_load_past.entry = subst
+    (λ (k : Listed). PassesAt k.loads LOAD c.in-Some-first_load_past.entry) c.run.view_is c.in-Some-first_load_past.ensures in
     let past : LOAD < sum c.args.run.now.loads = passes_limit c.args.run.now.loads LOAD c.in-Some-first_load_past.entry passes in
     (λ same. (asked, λ small. omega (arith, past, small)), λ both. refl)
 
@@ -67,4 +68,5 @@ returns-clause-input c =
 pub returns-clause-too_large : goal.returns-clause-too_large
 returns-clause-too_large c =
     let small = subst (λ (k : Listed). AreSmall k.loads) c.run.view_is c.in_default-first_load_past.ensures in
-    too_large c.tolerance_refusal.result c.args.run.now c.args.pes (c.in_default-list_refusal.ensures.exact true) small c.tolerance_refusal.ensures.number c.tolerance_refusal.ensures.unfit
+    too_large c.tolerance_refusal.result c.args.run.now c.args.pes (c.in_default-list_refusal.ensures.exact true) small
+    c.tolerance_refusal.ensures.number c.tolerance_refusal.ensures.unfit

@@ -6,7 +6,8 @@ pub returns-in-Ok : goal.returns-in-Ok
 returns-in-Ok g c =
     let pes : c.workload.inside.pes ≡ c.args.workload.now.pes = ap (λ w. w.pes) c.workload.view_is in
     record {
-      left = on_one _ _ _ _ _ _ _ _ c.in-Ok.explored c.in_ok-tallies.ensures.value (c.schedule_of-schedule.ensures.pes ∙ pes) c.schedule_of-schedule.ensures.strategy c.in-Ok.ensures.explored;
+      left = on_one _ _ _ _ _ _ _ _ c.in-Ok.explored c.in_ok-tallies.ensures.value (c.schedule_of-schedule.ensures.pes ∙ pes)
+          c.schedule_of-schedule.ensures.strategy c.in-Ok.ensures.explored;
       follows = c.in-Ok.ensures.follows;
       refused = tt;
     }
@@ -17,4 +18,9 @@ returns-in-Err g c =
     let tallies = c.in_ok-tallies.ensures.value in
     let same = c.schedule_of-schedule.ensures.pes ∙ pes in
     let may = may_explore c.args.workload.now c.schedule_of-schedule.result _ c.requires.within tallies same in
-    record { left = tt; follows = tt; refused = refuses_run g.row.A.Denot _ c.args.workload.now _ c.schedule_of-schedule.result c.args.strategy c.args.events.now c.in-Err.error may tallies same c.schedule_of-schedule.ensures.strategy c.in-Err.ensures.answer }
+    record {
+      left = tt;
+      follows = tt;
+      refused = refuses_run g.row.A.Denot _ c.args.workload.now _ c.schedule_of-schedule.result
+          c.args.strategy c.args.events.now c.in-Err.error may tallies same c.schedule_of-schedule.ensures.strategy c.in-Err.ensures.answer;
+    }

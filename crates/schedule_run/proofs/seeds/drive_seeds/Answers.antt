@@ -7,4 +7,7 @@ pub returns : goal.returns
 returns g c =
     let pes : c.workload.inside.pes ≡ c.args.workload.now.pes = ap (λ w. w.pes) c.workload.view_is in
     let chares = ap (λ w. tallies_of w.now) c.new-cast.ensures.workload in
-    record { tried = seeds_on_one _ _ _ _ _ _ _ _ _ _ _ _ _ _ _ c.schedule_of-schedule.ensures.bias chares (c.schedule_of-schedule.ensures.pes ∙ pes) c.schedule_of-schedule.ensures.strategy c.tell_seeds.ensures.tried }
+    record {
+      tried = seeds_on_one _ _ _ _ _ _ _ _ _ _ _ _ _ _ _ c.schedule_of-schedule.ensures.bias chares
+          (c.schedule_of-schedule.ensures.pes ∙ pes) c.schedule_of-schedule.ensures.strategy c.tell_seeds.ensures.tried;
+    }

@@ -16,6 +16,7 @@ loop-step-preserved g c =
       bias = did.bias ∙ at.invariant.bias;
       knows = where_taken _ _ c.in-Ok-true.field-0 is did.idle;
       drawn =
-          drawn_next g.C.Chare.step g.C.Pup.pack g.C.Pup.unpack c.args.chooser.now.bias (turn_of c.args.course.now.world c.args.chooser.now) at.course c.draw_step.new.course at.chooser
+          drawn_next g.C.Chare.step g.C.Pup.pack g.C.Pup.unpack c.args.chooser.now.bias (turn_of c.args.course.now.world c.args.chooser.now)
+          at.course c.draw_step.new.course at.chooser
           c.draw_step.new.chooser c.in-Ok-true.field-0 _ at.invariant.bias at.invariant.drawn is did.drawn;
     }

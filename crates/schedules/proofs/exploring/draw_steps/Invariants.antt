@@ -9,5 +9,6 @@ invariant-loop-step g l = record {
   many : length l.course.steps ≡ l._step;
   bias : l.chooser.bias ≡ l.initial.chooser.bias;
   knows : Knows l.course.world l.chooser.choices;
-  drawn : DrawsAll g.C.Chare.step g.C.Pup.pack g.C.Pup.unpack l.initial.chooser.bias (turn_of l.initial.course.world l.initial.chooser) l.course.steps (turn_of l.course.world l.chooser);
+  drawn : DrawsAll g.C.Chare.step g.C.Pup.pack g.C.Pup.unpack l.initial.chooser.bias (turn_of l.initial.course.world l.initial.chooser)
+      l.course.steps (turn_of l.course.world l.chooser);
 }

@@ -17,5 +17,6 @@ returns-in-Err-clause-follows g c =
     let at = c.loop-event in
     let same = ap (λ (k : CourseView g.row.C.Denot g.row.A.Denot). events_of k.steps) c.in-Err.ensures.err in (
       drop (suc at.event-index) c.args.events.now,
-      refused_next c.args.events.now _ at.event-index c.event-item.result c.in-Err.refusal.event c.loop-event-test.true c.event-item.is c.in-Err.ensures.event (same ∙ at.invariant.happened),
+      refused_next c.args.events.now _ at.event-index c.event-item.result c.in-Err.refusal.event c.loop-event-test.true c.event-item.is
+          c.in-Err.ensures.event (same ∙ at.invariant.happened),
     )

@@ -23,4 +23,5 @@ returns-clause-picks g c =
     let opening : WorldView g.row.C.Denot g.row.A.Denot = opening_world g.H.Openings.pes g.H.Openings.opened c.args.schedule.now.strategy in
     picks_left g.C.Chare.step g.C.Pup.pack g.C.Chare.refuses g.C.Pup.unpack k ending.result c.leave.result opening c.args.events.now
     c.leave.ensures.world c.leave.ensures.steps c.leave.ensures.refused c.leave.ensures.fault
-    (subst (λ (w : WorldView g.row.C.Denot g.row.A.Denot). PicksUpTo g.C.Chare.step g.C.Pup.pack g.C.Pup.unpack w c.args.events.now (refused_in ending.result) k.steps k.world) c.in_ok-course.ensures.world ending.ensures.picks)
+    (subst (λ (w : WorldView g.row.C.Denot g.row.A.Denot). PicksUpTo g.C.Chare.step g.C.Pup.pack g.C.Pup.unpack w c.args.events.now
+    (refused_in ending.result) k.steps k.world) c.in_ok-course.ensures.world ending.ensures.picks)

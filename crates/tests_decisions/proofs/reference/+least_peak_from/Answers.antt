@@ -8,4 +8,6 @@ returns-then-first-len g t c =
 
 pub loop-end-preserved : goal.loop-end-preserved
 loop-end-preserved g t c =
-    tried_more c.args.loads.now c.args.first c.loop-end.end c.args.blocks c.loop-end.least c.least_peak_from-rest.result c.lesser-least.result (omega arith) c.loop-end.auto.end c.least_peak_from-rest.ensures (rw c.load.ensures.value at c.lesser-least.ensures) c.loop-end.invariant
+    tried_more c.args.loads.now c.args.first c.loop-end.end c.args.blocks c.loop-end.least c.least_peak_from-rest.result
+    c.lesser-least.result (omega arith) c.loop-end.auto.end c.least_peak_from-rest.ensures
+    (rw c.load.ensures.value at c.lesser-least.ensures) c.loop-end.invariant

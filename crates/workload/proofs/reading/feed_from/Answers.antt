@@ -46,7 +46,8 @@ loop-preserved g c =
     let piece = take len c.read_piece.new.room in
     let whole : length piece ≡ len = length-take-le len c.read_piece.new.room c.in_ok-len.ensures.bound in (
       before.0 ++ piece,
-      Consumes-trans (g.R.Read.remaining c.args.reader.now) (g.R.Read.remaining c.loop.reader) (g.R.Read.remaining c.read_piece.new.reader) before.0 piece before.1 c.in_ok-len.ensures.bytes.0,
+      Consumes-trans (g.R.Read.remaining c.args.reader.now) (g.R.Read.remaining c.loop.reader) (g.R.Read.remaining c.read_piece.new.reader)
+          before.0 piece before.1 c.in_ok-len.ensures.bytes.0,
       c.judge_piece-judged.ensures.judged before.0 before.2,
       length-append before.0 piece ∙ (omega (arith, whole, before.3)),
       omega (arith, before.3, before.4, c.if-len-taken.false),

@@ -5,7 +5,8 @@ use Rattle.workload_run.proofs.tallies.tallies_of.Goals as goal
 
 pub loop-i-preserved : goal.loop-i-preserved
 loop-i-preserved g c =
-    one_more (tally_of c.args.workload.now) c.loop-i.i c.loop-i.tallies.items c.push.new.self.items c.in_ok-tally_of.field-0 c.in_ok-push.ensures.items c.in_ok-tally_of.ensures.value c.loop-i.invariant
+    one_more (tally_of c.args.workload.now) c.loop-i.i c.loop-i.tallies.items c.push.new.self.items c.in_ok-tally_of.field-0
+    c.in_ok-push.ensures.items c.in_ok-tally_of.ensures.value c.loop-i.invariant
 
 pub returns : goal.returns
 returns g c =

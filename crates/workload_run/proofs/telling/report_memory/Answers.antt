@@ -5,4 +5,7 @@ use Rattle.workload_run.proofs.telling.report_memory.Goals as goal
 
 pub returns : goal.returns
 returns g c =
-    record { written = subst (λ t. WritesText t OutOfMemory (g.W.Write.contents c.args.writer.now) (g.W.Write.contents c.report_text.new.writer) c.report_text.result) c.as_bytes.ensures.value c.report_text.ensures.written }
+    record {
+      written = subst (λ t. WritesText t OutOfMemory (g.W.Write.contents c.args.writer.now)
+          (g.W.Write.contents c.report_text.new.writer) c.report_text.result) c.as_bytes.ensures.value c.report_text.ensures.written;
+    }

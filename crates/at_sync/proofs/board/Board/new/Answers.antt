@@ -5,7 +5,8 @@ use Rattle.at_sync.proofs.board.Board.new.Goals as goal
 
 pub invariant_of-result : goal.invariant_of-result
 invariant_of-result g c =
-    rw (c.of-pes.ensures.value, c.in-Ok.ensures.made, c.new-2.ensures.items, c.in_ok-all_running.ensures.items) (board_new g.row.A.Denot c.args.n c.args.pes c.args.strategy c.requires.some_pe c.requires.few_pes, count_all c.args.n)
+    rw (c.of-pes.ensures.value, c.in-Ok.ensures.made, c.new-2.ensures.items, c.in_ok-all_running.ensures.items)
+    (board_new g.row.A.Denot c.args.n c.args.pes c.args.strategy c.requires.some_pe c.requires.few_pes, count_all c.args.n)
 
 pub returns-clause-made : goal.returns-clause-made
 returns-clause-made g c =

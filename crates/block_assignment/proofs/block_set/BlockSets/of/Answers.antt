@@ -4,7 +4,12 @@ use Rattle.block_assignment.proofs.block_set.BlockSets.of.Goals as goal
 
 pub slice_bounds-result-end : goal.slice_bounds-result-end
 slice_bounds-result-end c =
-    let inside : c.args.p < c.self.inside.count = omega (arith, c.requires.inside, ap (λ (sets : List (List ℕ)). length sets) c.self.view_is, rows_counted c.self.inside.width c.self.inside.count c.self.inside.words.now) in
+    let inside : c.args.p < c.self.inside.count = omega (
+      arith,
+      c.requires.inside,
+      ap (λ (sets : List (List ℕ)). length sets) c.self.view_is,
+      rows_counted c.self.inside.width c.self.inside.count c.self.inside.words.now,
+    ) in
     omega (arith, row_inside c.self.inside.width c.self.inside.count c.args.p inside, c.self.invariant.counted)
 
 pub returns-clause-value : goal.returns-clause-value
@@ -12,9 +17,11 @@ returns-clause-value c =
     let width : ℕ = c.self.inside.width in
     let words : List ℕ = c.self.inside.words.now in
     let start : ℕ = c.args.p * width in
-    let inside : c.args.p < c.self.inside.count = omega (arith, c.requires.inside, ap (λ (sets : List (List ℕ)). length sets) c.self.view_is, rows_counted width c.self.inside.count words) in
+    let inside : c.args.p < c.self.inside.count = omega
+    (arith, c.requires.inside, ap (λ (sets : List (List ℕ)). length sets) c.self.view_is, rows_counted width c.self.inside.count words) in
     let short : start + width - start ≡ width = omega arith in
-    ap (λ n. take n (drop start words)) short ∙ sym (row_is width c.self.inside.count words c.args.p inside) ∙ ap (λ (sets : List (List ℕ)). slice_index_or sets c.args.p []) c.self.view_is
+    ap (λ n. take n (drop start words)) short ∙ sym (row_is width c.self.inside.count words c.args.p inside)
+    ∙ ap (λ (sets : List (List ℕ)). slice_index_or sets c.args.p []) c.self.view_is
 
 pub returns-clause-wide : goal.returns-clause-wide
 returns-clause-wide c =

@@ -12,7 +12,8 @@ index-requires-in-loop-b g c =
     let r = c.loop-b.invariant.rest in
     let augmenting : IsAugmenting s names holders c.loop-b.pe = c.loop-b.invariant.augmenting in
     let named : c.loop-b.b < s.named = omega (arith, ap (λ (z : State). z.named) r, c.loop-b-test.true) in
-    let before : c.index-before.result.now ≡ slice_index names c.loop-b.b = get_or_read names c.loop-b.b c.index-before.result.now (omega (arith, augmenting.names_length, named, c.requires.unnamed)) c.index-before.ensures 0 in
+    let before : c.index-before.result.now ≡ slice_index names c.loop-b.b = get_or_read names c.loop-b.b c.index-before.result.now
+    (omega (arith, augmenting.names_length, named, c.requires.unnamed)) c.index-before.ensures 0 in
     let counted : length c.loop-b.self-inside.from.items ≡ s.table.blocks = ap (λ (z : State). length z.from) (sym r) ∙ c.requires.sized.from_length in
     omega (arith, counted, before, augmenting.below c.loop-b.b named)
 
@@ -25,7 +26,8 @@ loop-b-smaller g c =
     let augmenting : IsAugmenting s names holders c.loop-b.pe = c.loop-b.invariant.augmenting in
     let path : IsPath s = c.requires.path in
     let named : c.loop-b.b < s.named = omega (arith, ap (λ (z : State). z.named) r, c.loop-b-test.true) in
-    let before : c.index-before.result.now ≡ slice_index names c.loop-b.b = get_or_read names c.loop-b.b c.index-before.result.now (omega (arith, augmenting.names_length, named, c.requires.unnamed)) c.index-before.ensures 0 in
+    let before : c.index-before.result.now ≡ slice_index names c.loop-b.b = get_or_read names c.loop-b.b c.index-before.result.now
+    (omega (arith, augmenting.names_length, named, c.requires.unnamed)) c.index-before.ensures 0 in
     let less = next_earlier s names holders c.loop-b.pe c.loop-b.b path augmenting c.loop-b.invariant.reaches named in
     subst (λ q. slice_index s.rank q < slice_index s.rank c.loop-b.pe) (sym before) less.1
 
@@ -38,10 +40,15 @@ loop-b-preserved g c =
     let augmenting : IsAugmenting s names holders c.loop-b.pe = c.loop-b.invariant.augmenting in
     let path : IsPath s = c.requires.path in
     let named : c.loop-b.b < s.named = omega (arith, ap (λ (z : State). z.named) r, c.loop-b-test.true) in
-    let before : c.index-before.result.now ≡ slice_index names c.loop-b.b = get_or_read names c.loop-b.b c.index-before.result.now (omega (arith, augmenting.names_length, named, c.requires.unnamed)) c.index-before.ensures 0 in
-    let moved : IsAugmenting s (set names c.loop-b.b c.loop-b.pe) (set holders c.loop-b.pe (Some c.loop-b.b)) c.index-before.result.now = augmenting_next s names holders c.loop-b.pe c.loop-b.b c.index-before.result.now (omega (arith, c.requires.unnamed)) path augmenting c.loop-b.invariant.reaches named before in
+    let before : c.index-before.result.now ≡ slice_index names c.loop-b.b = get_or_read names c.loop-b.b c.index-before.result.now
+    (omega (arith, augmenting.names_length, named, c.requires.unnamed)) c.index-before.ensures 0 in
+    let moved : IsAugmenting s (set names c.loop-b.b c.loop-b.pe) (set holders c.loop-b.pe (Some c.loop-b.b))
+    c.index-before.result.now = augmenting_next s names holders c.loop-b.pe c.loop-b.b c.index-before.result.now
+    (omega (arith, c.requires.unnamed)) path augmenting c.loop-b.invariant.reaches named before in
     let counted : length c.loop-b.self-inside.from.items ≡ s.table.blocks = ap (λ (z : State). length z.from) (sym r) ∙ c.requires.sized.from_length in
-    let reaches : c.index-in-loop-b.result.now ≡ slice_index s.from c.index-before.result.now = get_or_read c.loop-b.self-inside.from.items c.index-before.result.now c.index-in-loop-b.result.now (omega (arith, counted, moved.inside)) c.index-in-loop-b.ensures 0 ∙ ap (λ (z : State). slice_index z.from c.index-before.result.now) (sym r) in
+    let reaches : c.index-in-loop-b.result.now ≡ slice_index s.from c.index-before.result.now = get_or_read c.loop-b.self-inside.from.items
+    c.index-before.result.now c.index-in-loop-b.result.now (omega (arith, counted, moved.inside)) c.index-in-loop-b.ensures 0
+    ∙ ap (λ (z : State). slice_index z.from c.index-before.result.now) (sym r) in
     record { rest = r; augmenting = moved; reaches = reaches }
 
 pub returns-clause-matched : goal.returns-clause-matched
@@ -53,11 +60,15 @@ returns-clause-matched g c =
     let augmenting : IsAugmenting s names holders c.loop-b.pe = c.loop-b.invariant.augmenting in
     let path : IsPath s = c.requires.path in
     let past : s.named ≤ c.loop-b.b = omega (arith, ap (λ (z : State). z.named) r, c.loop-b-test.false) in
-    subst (λ (z : State). IsMatched (renamed z (z.named + 1) (set names z.named c.loop-b.pe) (set holders c.loop-b.pe (Some z.named)))) r (augmenting_ends s names holders c.loop-b.pe c.loop-b.b c.requires.unnamed c.requires.matched path augmenting c.loop-b.invariant.reaches past)
+    subst (λ (z : State). IsMatched (renamed z (z.named + 1) (set names z.named c.loop-b.pe) (set holders c.loop-b.pe (Some z.named)))) r
+    (augmenting_ends s names holders c.loop-b.pe c.loop-b.b c.requires.unnamed c.requires.matched path augmenting c.loop-b.invariant.reaches past)
 
 pub returns-clause-sized : goal.returns-clause-sized
 returns-clause-sized g c =
-    subst (λ (z : State). IsSized (renamed z (z.named + 1) (set c.loop-b.self-inside.names.items z.named c.loop-b.pe) (set c.loop-b.self-inside.holders.items c.loop-b.pe (Some z.named)))) c.loop-b.invariant.rest (augmented_sized c.args.self.now (c.args.self.now.named + 1) c.args.self.now.named c.loop-b.self-inside.names.items c.loop-b.self-inside.holders.items c.loop-b.pe c.requires.sized c.loop-b.invariant.augmenting)
+    subst (λ (z : State). IsSized (renamed z (z.named + 1) (set c.loop-b.self-inside.names.items z.named c.loop-b.pe)
+    (set c.loop-b.self-inside.holders.items c.loop-b.pe (Some z.named)))) c.loop-b.invariant.rest
+    (augmented_sized c.args.self.now (c.args.self.now.named + 1) c.args.self.now.named c.loop-b.self-inside.names.items
+    c.loop-b.self-inside.holders.items c.loop-b.pe c.requires.sized c.loop-b.invariant.augmenting)
 
 pub returns-clause-table : goal.returns-clause-table
 returns-clause-table g c = ap (λ (z : State). z.table) (sym c.loop-b.invariant.rest)
@@ -93,11 +104,33 @@ index_mut-requires-3 g c =
 
 pub loop-b-init : goal.loop-b-init
 loop-b-init g c =
-    let s : State = record { table = c.self.inside.table.now; named = c.self.inside.named; names = c.self.inside.names.items; holders = c.self.inside.holders.items; price = c.self.inside.price.items; discount = c.self.inside.discount.items; rank = c.self.inside.rank.items; distance = c.self.inside.distance.items; from = c.self.inside.from.items } in
+    let s : State = record {
+      table = c.self.inside.table.now;
+      named = c.self.inside.named;
+      names = c.self.inside.names.items;
+      holders = c.self.inside.holders.items;
+      price = c.self.inside.price.items;
+      discount = c.self.inside.discount.items;
+      rank = c.self.inside.rank.items;
+      distance = c.self.inside.distance.items;
+      from = c.self.inside.from.items;
+    } in
     let v : c.args.self.now ≡ s = sym c.self.view_is in
     let counted : length c.self.inside.from.items ≡ c.args.self.now.table.blocks = ap (λ (z : State). length z.from) (sym v) ∙ c.requires.sized.from_length in
     record {
-      rest = v ∙ ap (λ (z : State). record { table = s.table; named = s.named; names = z.names; holders = z.holders; price = s.price; discount = s.discount; rank = s.rank; distance = s.distance; from = s.from }) (sym v);
-      augmenting = subst (λ (z : State). IsAugmenting c.args.self.now z.names z.holders c.args.free) v (augmenting_starts c.args.self.now c.args.free c.requires.sized c.requires.matched c.requires.inside c.requires.free c.requires.scanned);
-      reaches = get_or_read c.self.inside.from.items c.args.free c.index.result.now (omega (arith, counted, c.requires.inside)) c.index.ensures 0 ∙ ap (λ (z : State). slice_index z.from c.args.free) (sym v);
+      rest = v ∙ ap (λ (z : State). record {
+        table = s.table;
+        named = s.named;
+        names = z.names;
+        holders = z.holders;
+        price = s.price;
+        discount = s.discount;
+        rank = s.rank;
+        distance = s.distance;
+        from = s.from;
+      }) (sym v);
+      augmenting = subst (λ (z : State). IsAugmenting c.args.self.now z.names z.holders c.args.free) v
+          (augmenting_starts c.args.self.now c.args.free c.requires.sized c.requires.matched c.requires.inside c.requires.free c.requires.scanned);
+      reaches = get_or_read c.self.inside.from.items c.args.free c.index.result.now (omega (arith, counted, c.requires.inside))
+          c.index.ensures 0 ∙ ap (λ (z : State). slice_index z.from c.args.free) (sym v);
     }

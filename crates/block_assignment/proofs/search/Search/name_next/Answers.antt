@@ -19,8 +19,16 @@ loop-nearest-init g c =
       tree = made.tree;
       table = made.table;
       named = made.named;
-      listed = subst (λ xs. IsUnscanned c.start_tree-nearest.new.self.rank xs c.start_tree-nearest.new.self.table.blocks) whole (subst (λ (t : Table). IsUnscanned c.start_tree-nearest.new.self.rank pes t.blocks) (sym made.table) made.listed);
-      nearest = subst (λ xs. MatchOption c.start_tree-nearest.result ((p : ℕ) → p < c.start_tree-nearest.new.self.table.blocks → 0 < slice_index c.start_tree-nearest.new.self.rank p) (λ place. IsNearest c.start_tree-nearest.new.self.rank c.start_tree-nearest.new.self.distance c.start_tree-nearest.new.self.table.blocks (slice_index xs place))) whole (subst (λ (t : Table). MatchOption c.start_tree-nearest.result ((p : ℕ) → p < t.blocks → 0 < slice_index c.start_tree-nearest.new.self.rank p) (λ place. IsNearest c.start_tree-nearest.new.self.rank c.start_tree-nearest.new.self.distance t.blocks (slice_index pes place))) (sym made.table) made.nearest);
+      listed = subst (λ xs. IsUnscanned c.start_tree-nearest.new.self.rank xs c.start_tree-nearest.new.self.table.blocks) whole
+          (subst (λ (t : Table). IsUnscanned c.start_tree-nearest.new.self.rank pes t.blocks) (sym made.table) made.listed);
+      nearest = subst (λ xs. MatchOption c.start_tree-nearest.result
+          ((p : ℕ) → p < c.start_tree-nearest.new.self.table.blocks → 0 < slice_index c.start_tree-nearest.new.self.rank p)
+          (λ place. IsNearest c.start_tree-nearest.new.self.rank c.start_tree-nearest.new.self.distance
+          c.start_tree-nearest.new.self.table.blocks (slice_index xs place))) whole
+          (subst (λ (t : Table). MatchOption c.start_tree-nearest.result
+          ((p : ℕ) → p < t.blocks → 0 < slice_index c.start_tree-nearest.new.self.rank p)
+          (λ place. IsNearest c.start_tree-nearest.new.self.rank c.start_tree-nearest.new.self.distance t.blocks (slice_index pes place)))
+          (sym made.table) made.nearest);
       inside = made.inside;
       within = omega arith;
       not_yet = omega (arith, made.unscanned, ap (λ (t : Table). t.blocks) made.table);
@@ -38,7 +46,9 @@ loop-nearest-preserved g c =
       table = next.table ∙ known.table;
       named = next.named ∙ known.named;
       listed = subst (λ (t : Table). IsUnscanned c.grow-nearest.new.self.rank pes t.blocks) (sym next.table) next.listed;
-      nearest = subst (λ (t : Table). MatchOption c.grow-nearest.result ((p : ℕ) → p < t.blocks → 0 < slice_index c.grow-nearest.new.self.rank p) (λ place. IsNearest c.grow-nearest.new.self.rank c.grow-nearest.new.self.distance t.blocks (slice_index pes place))) (sym next.table) next.nearest;
+      nearest = subst (λ (t : Table). MatchOption c.grow-nearest.result
+          ((p : ℕ) → p < t.blocks → 0 < slice_index c.grow-nearest.new.self.rank p)
+          (λ place. IsNearest c.grow-nearest.new.self.rank c.grow-nearest.new.self.distance t.blocks (slice_index pes place))) (sym next.table) next.nearest;
       inside = IfSome_then c.grow-nearest.result next.inside (λ place inside. omega (arith, inside, length-take (c.loop-nearest.count - 1) c.take_out.new.pes));
       within = omega (arith, known.within, c.take_out.auto.pes);
       not_yet = omega (arith, next.unscanned, known.not_yet, ap (λ (t : Table). t.blocks) next.table);
@@ -67,8 +77,11 @@ grow-nearest-requires-clause-listed g c =
     let count : ℕ = c.loop-nearest.count in
     let inside : c.in-Some.place < count = (let h = rw c.in-Some.is at known.inside in h) in
     let nearest = rw c.in-Some.is at known.nearest in
-    let without : IsWithout (take count old) (take (count - 1) new) c.in-Some.place = taken_out old new count c.in-Some.place inside known.within c.take_out.auto.pes c.take_out.ensures.before c.take_out.ensures.behind in
-    one_less_listed c.loop-nearest.self.rank (take count old) (take (count - 1) new) c.loop-nearest.self.table.blocks c.in-Some.place (slice_index (take count old) c.in-Some.place) c.loop-nearest.rank known.listed without refl (omega (arith, nearest.inside, known.sized.rank_length)) known.tree.some
+    let without : IsWithout (take count old) (take (count - 1) new) c.in-Some.place = taken_out old new count c.in-Some.place inside
+    known.within c.take_out.auto.pes c.take_out.ensures.before c.take_out.ensures.behind in
+    one_less_listed c.loop-nearest.self.rank (take count old) (take (count - 1) new) c.loop-nearest.self.table.blocks c.in-Some.place
+    (slice_index (take count old) c.in-Some.place) c.loop-nearest.rank known.listed without refl
+    (omega (arith, nearest.inside, known.sized.rank_length)) known.tree.some
 
 pub loop-nearest-smaller : goal.loop-nearest-smaller
 loop-nearest-smaller g c = omega (arith, c.grow-nearest.ensures.unscanned)
@@ -81,8 +94,16 @@ returns-in_default-index-clause-matched g c = c.augment.ensures.matched
 
 pub returns-in_default-index-clause-small : goal.returns-in_default-index-clause-small
 returns-in_default-index-clause-small g c =
-    let fewer : c.raise.new.self.named < c.raise.new.self.table.blocks = omega (arith, c.raise.ensures.named, c.loop-nearest.invariant.named, ap (λ (t : Table). t.blocks) c.raise.ensures.table, ap (λ (t : Table). t.blocks) c.loop-nearest.invariant.table, c.requires.unnamed) in
-    small_kept c.raise.new.self c.augment.new.self c.augment.ensures.table c.augment.ensures.price c.augment.ensures.discount (small_from_matched c.raise.new.self c.raise.ensures.sized.is_table c.raise.ensures.matched fewer)
+    let fewer : c.raise.new.self.named < c.raise.new.self.table.blocks = omega (
+      arith,
+      c.raise.ensures.named,
+      c.loop-nearest.invariant.named,
+      ap (λ (t : Table). t.blocks) c.raise.ensures.table,
+      ap (λ (t : Table). t.blocks) c.loop-nearest.invariant.table,
+      c.requires.unnamed,
+    ) in
+    small_kept c.raise.new.self c.augment.new.self c.augment.ensures.table c.augment.ensures.price c.augment.ensures.discount
+    (small_from_matched c.raise.new.self c.raise.ensures.sized.is_table c.raise.ensures.matched fewer)
 
 pub returns-in_default-index-clause-table : goal.returns-in_default-index-clause-table
 returns-in_default-index-clause-table g c = c.augment.ensures.table ∙ c.raise.ensures.table ∙ c.loop-nearest.invariant.table
@@ -93,7 +114,8 @@ returns-in_default-index-clause-named g c = c.augment.ensures.named ∙ ap (λ n
 -- the loop does not end, since the tree has not scanned all PEs
 no_end : (g : _) (c : goal.In_default g) → ⊥
 no_end g c =
-    let fewer : c.loop-nearest.self.named < c.loop-nearest.self.table.blocks = omega (arith, c.loop-nearest.invariant.named, ap (λ (t : Table). t.blocks) c.loop-nearest.invariant.table, c.requires.unnamed) in
+    let fewer : c.loop-nearest.self.named < c.loop-nearest.self.table.blocks = omega
+    (arith, c.loop-nearest.invariant.named, ap (λ (t : Table). t.blocks) c.loop-nearest.invariant.table, c.requires.unnamed) in
     let all : (p : ℕ) → p < c.loop-nearest.self.table.blocks → 0 < slice_index c.loop-nearest.self.rank p = (let h = rw c.in_default.is at c.loop-nearest.invariant.nearest in h) in
     not_all_scanned c.loop-nearest.rank c.loop-nearest.self c.loop-nearest.invariant.tree fewer all
 
@@ -161,4 +183,11 @@ augment-requires-clause-scanned g c = c.raise.ensures.scanned
 
 pub augment-requires-clause-unnamed : goal.augment-requires-clause-unnamed
 augment-requires-clause-unnamed g c =
-    omega (arith, c.raise.ensures.named, ap (λ (t : Table). t.blocks) c.raise.ensures.table, c.loop-nearest.invariant.named, ap (λ (t : Table). t.blocks) c.loop-nearest.invariant.table, c.requires.unnamed)
+    omega (
+      arith,
+      c.raise.ensures.named,
+      ap (λ (t : Table). t.blocks) c.raise.ensures.table,
+      c.loop-nearest.invariant.named,
+      ap (λ (t : Table). t.blocks) c.loop-nearest.invariant.table,
+      c.requires.unnamed,
+    )

@@ -11,7 +11,8 @@ invariant-loop-nearest g l =
       table : l.self.table ≡ l.fn.self.table;
       named : l.self.named ≡ l.fn.self.named;
       listed : IsUnscanned l.self.rank (take l.count l.to_scan) l.self.table.blocks;
-      nearest : MatchOption l.nearest ((p : ℕ) → p < l.self.table.blocks → 0 < slice_index l.self.rank p) (λ place. IsNearest l.self.rank l.self.distance l.self.table.blocks (slice_index (take l.count l.to_scan) place));
+      nearest : MatchOption l.nearest ((p : ℕ) → p < l.self.table.blocks → 0 < slice_index l.self.rank p)
+          (λ place. IsNearest l.self.rank l.self.distance l.self.table.blocks (slice_index (take l.count l.to_scan) place));
       inside : IfSome l.nearest (λ place. place < l.count);
       within : l.count ≤ length l.to_scan;
       not_yet : l.rank + unscanned l.self.rank ≡ l.self.table.blocks + 1;

@@ -72,7 +72,8 @@ returns-in-Err-clause-refused g c k =
 pub returns-in-Err-clause-taken_back : goal.returns-in-Err-clause-taken_back
 returns-in-Err-clause-taken_back g c =
     let logged = where_answered c.log.result _ (c.if-is_err-3.ensures.value) c.log.ensures.ok in
-    all_rewound c.args.sends.now c.log.new.self c.on_letter-handled.new.sends c.rewind.new.self (Trace.Executed c.id.result c.to.result) c.on_letter-handled.ensures.only_posts.0 _ _ _
+    all_rewound c.args.sends.now c.log.new.self c.on_letter-handled.new.sends c.rewind.new.self (Trace.Executed c.id.result c.to.result)
+    c.on_letter-handled.ensures.only_posts.0 _ _ _
     logged c.on_letter-handled.ensures.only_posts.1 c.count-count.ensures.value c.waiting-waiting.ensures.value c.logged-logged.ensures.value c.rewind.ensures.ok
 
 -- the handler answers
@@ -82,13 +83,21 @@ returns-clause-note g c =
     let logged = where_answered c.log.result _ c.if-is_err-3.ensures.value c.log.ensures.ok in
     let all = c.n.ensures.value ∙ ap (λ p. p.n) logged in
     note_after g.C.Chare.step g.C.Pup.pack _ _ _ _ _ (Letter c.args.letter) _ _ _ _ _ _ c.self.view_is all
-    (record { input_is = ap Letter c.body.ensures.value; state_is = c.in-Ok.ensures.state; effect_is = c.in-Ok.ensures.effect; work_is = c.charged-progress.ensures.value; end_is = c.ending-ending.ensures.value; note_is = c.owed-note.ensures.value })
+    (record {
+      input_is = ap Letter c.body.ensures.value;
+      state_is = c.in-Ok.ensures.state;
+      effect_is = c.in-Ok.ensures.effect;
+      work_is = c.charged-progress.ensures.value;
+      end_is = c.ending-ending.ensures.value;
+      note_is = c.owed-note.ensures.value;
+    })
 
 pub returns-clause-sends : goal.returns-clause-sends
 returns-clause-sends g c =
     let logged = where_answered c.log.result _ c.if-is_err-3.ensures.value c.log.ensures.ok in
     let all = c.n.ensures.value ∙ ap (λ p. p.n) logged in
-    let named = logged ∙ ap (λ i. with_entry c.args.sends.now (Trace.Executed i c.to.result)) c.id.ensures.value ∙ ap (λ i. with_entry c.args.sends.now (Trace.Executed c.args.letter.id i)) c.to.ensures.value in
+    let named = logged ∙ ap (λ i. with_entry c.args.sends.now (Trace.Executed i c.to.result)) c.id.ensures.value
+    ∙ ap (λ i. with_entry c.args.sends.now (Trace.Executed c.args.letter.id i)) c.to.ensures.value in
     sends_after _ _ _ _ _ _ (Letter c.args.letter.body) (Trace.Executed c.args.letter.id c.args.letter.to) c.self.view_is all named g.C.Chare.step _
     (c.in-Ok.ensures.sends ∙ ap (λ b. posted c.log.new.self (g.C.Chare.step c.self.inside.chare c.self.inside.index c.n.result (Letter b)).sends) c.body.ensures.value)
 
@@ -97,7 +106,14 @@ returns-clause-element g c =
     let logged = where_answered c.log.result _ c.if-is_err-3.ensures.value c.log.ensures.ok in
     let all = c.n.ensures.value ∙ ap (λ p. p.n) logged in
     element_after g.C.Chare.step g.C.Pup.pack _ _ _ _ _ (Letter c.args.letter) _ _ _ _ _ _ c.self.view_is all
-    (record { input_is = ap Letter c.body.ensures.value; state_is = c.in-Ok.ensures.state; effect_is = c.in-Ok.ensures.effect; work_is = c.charged-progress.ensures.value; end_is = c.ending-ending.ensures.value; note_is = c.owed-note.ensures.value })
+    (record {
+      input_is = ap Letter c.body.ensures.value;
+      state_is = c.in-Ok.ensures.state;
+      effect_is = c.in-Ok.ensures.effect;
+      work_is = c.charged-progress.ensures.value;
+      end_is = c.ending-ending.ensures.value;
+      note_is = c.owed-note.ensures.value;
+    })
     _ _ _
     (c.push_letter.ensures.entries ∙ ap (λ v. v ++ Letter c.args.letter ∷ []) c.reserve_letter.ensures.entries)
     c.ended-self-inside.ensures.value
@@ -105,4 +121,5 @@ returns-clause-element g c =
 
 pub invariant_of-self-2 : goal.invariant_of-self-2
 invariant_of-self-2 g c =
-    ended_before c.ended-self-inside.result c.charged-progress.result c.ending-ending.result ROUND c.ended-self-inside.ensures.value (subst (λ (v : ℕ). v < ROUND) (sym (ap (λ p. p.round) c.charged-progress.ensures.value)) c.self.invariant)
+    ended_before c.ended-self-inside.result c.charged-progress.result c.ending-ending.result ROUND c.ended-self-inside.ensures.value
+    (subst (λ (v : ℕ). v < ROUND) (sym (ap (λ p. p.round) c.charged-progress.ensures.value)) c.self.invariant)

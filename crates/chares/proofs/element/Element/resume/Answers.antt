@@ -90,7 +90,8 @@ returns-in-Err-clause-err g c = same_parts _ _ _ _ _ c.in-Err.ensures.err c.rese
 
 pub returns-in-Err-clause-refused : goal.returns-in-Err-clause-refused
 returns-in-Err-clause-refused g c =
-    refused_after _ _ _ _ _ _ (Resumption c.args.round) (Trace.Resumed c.self.inside.index c.args.round) c.self.view_is (c.n.ensures.value ∙ ap (λ p. p.n) c.in_ok-log.ensures.ok) c.in_ok-log.ensures.ok g.C.Chare.refuses _ c.in-Err.ensures.refused
+    refused_after _ _ _ _ _ _ (Resumption c.args.round) (Trace.Resumed c.self.inside.index c.args.round) c.self.view_is
+    (c.n.ensures.value ∙ ap (λ p. p.n) c.in_ok-log.ensures.ok) c.in_ok-log.ensures.ok g.C.Chare.refuses _ c.in-Err.ensures.refused
 
 pub returns-in-Err-clause-taken_back : goal.returns-in-Err-clause-taken_back
 returns-in-Err-clause-taken_back g c =
@@ -100,24 +101,44 @@ returns-in-Err-clause-taken_back g c =
 -- the handler answers
 
 pub returns-clause-note : goal.returns-clause-note
-returns-clause-note g c = note_after g.C.Chare.step g.C.Pup.pack _ _ _ _ _ (Resumption c.args.round) _ _ _ _ _ _ c.self.view_is (c.n.ensures.value ∙ ap (λ p. p.n) c.in_ok-log.ensures.ok)
-    (record { input_is = refl; state_is = c.in-Ok.ensures.state; effect_is = c.in-Ok.ensures.effect; work_is = c.charged-progress.ensures.value ∙ ap (λ p. charged p c.in-Ok.effect.units) c.resumed.ensures.value; end_is = c.ending-ending.ensures.value; note_is = c.owed-note.ensures.value })
+returns-clause-note g c = note_after g.C.Chare.step g.C.Pup.pack _ _ _ _ _ (Resumption c.args.round) _ _ _ _ _ _ c.self.view_is
+    (c.n.ensures.value ∙ ap (λ p. p.n) c.in_ok-log.ensures.ok)
+    (record {
+      input_is = refl;
+      state_is = c.in-Ok.ensures.state;
+      effect_is = c.in-Ok.ensures.effect;
+      work_is = c.charged-progress.ensures.value ∙ ap (λ p. charged p c.in-Ok.effect.units) c.resumed.ensures.value;
+      end_is = c.ending-ending.ensures.value;
+      note_is = c.owed-note.ensures.value;
+    })
 
 pub returns-clause-sends : goal.returns-clause-sends
 returns-clause-sends g c =
     let logged = c.in_ok-log.ensures.ok ∙ ap (λ (v : ElementView g.row.C.Denot). with_entry c.args.sends.now (Trace.Resumed v.index c.args.round)) c.self.view_is in
-    sends_after _ _ _ _ _ _ (Resumption c.args.round) (Trace.Resumed c.args.self.now.index c.args.round) c.self.view_is (c.n.ensures.value ∙ ap (λ p. p.n) c.in_ok-log.ensures.ok) logged g.C.Chare.step _ c.in-Ok.ensures.sends
+    sends_after _ _ _ _ _ _ (Resumption c.args.round) (Trace.Resumed c.args.self.now.index c.args.round) c.self.view_is
+    (c.n.ensures.value ∙ ap (λ p. p.n) c.in_ok-log.ensures.ok) logged g.C.Chare.step _ c.in-Ok.ensures.sends
 
 pub returns-clause-element : goal.returns-clause-element
 returns-clause-element g c =
     element_after g.C.Chare.step g.C.Pup.pack _ _ _ _ _ (Resumption c.args.round) _ _ _ _ _ _ c.self.view_is (c.n.ensures.value ∙ ap (λ p. p.n) c.in_ok-log.ensures.ok)
-    (record { input_is = refl; state_is = c.in-Ok.ensures.state; effect_is = c.in-Ok.ensures.effect; work_is = c.charged-progress.ensures.value ∙ ap (λ p. charged p c.in-Ok.effect.units) c.resumed.ensures.value; end_is = c.ending-ending.ensures.value; note_is = c.owed-note.ensures.value })
+    (record {
+      input_is = refl;
+      state_is = c.in-Ok.ensures.state;
+      effect_is = c.in-Ok.ensures.effect;
+      work_is = c.charged-progress.ensures.value ∙ ap (λ p. charged p c.in-Ok.effect.units) c.resumed.ensures.value;
+      end_is = c.ending-ending.ensures.value;
+      note_is = c.owed-note.ensures.value;
+    })
     _ _ _
     (c.push_resumption.ensures.entries ∙ ap (λ v. v ++ Resumption c.args.round ∷ []) c.reserve_resumption.ensures.entries)
     c.ended-self-inside.ensures.value
-    (c.mark.ensures ∙ ap (λ v. v ++ synced_mark c.owed-note.result) (c.in-Ok-push.ensures.items ∙ ap (λ v. v ++ c.resumed-kept.result ∷ []) c.reserve.ensures.items ∙ ap (λ m. c.self.inside.marks.items ++ m ∷ []) c.resumed-kept.ensures.value) ∙ append_assoc c.self.inside.marks.items (Resumed c.args.round c.args.pe ∷ []) (synced_mark c.owed-note.result))
+    (c.mark.ensures ∙ ap (λ v. v ++ synced_mark c.owed-note.result)
+    (c.in-Ok-push.ensures.items ∙ ap (λ v. v ++ c.resumed-kept.result ∷ []) c.reserve.ensures.items
+    ∙ ap (λ m. c.self.inside.marks.items ++ m ∷ []) c.resumed-kept.ensures.value)
+    ∙ append_assoc c.self.inside.marks.items (Resumed c.args.round c.args.pe ∷ []) (synced_mark c.owed-note.result))
 
 pub invariant_of-self-2 : goal.invariant_of-self-2
 invariant_of-self-2 g c =
     let round = ap (λ p. p.round) c.charged-progress.ensures.value ∙ ap (λ p. p.round) c.resumed.ensures.value in
-    ended_before c.ended-self-inside.result c.charged-progress.result c.ending-ending.result ROUND c.ended-self-inside.ensures.value (subst (λ (v : ℕ). v < ROUND) (sym round) c.requires.before_last_round)
+    ended_before c.ended-self-inside.result c.charged-progress.result c.ending-ending.result ROUND c.ended-self-inside.ensures.value
+    (subst (λ (v : ℕ). v < ROUND) (sym round) c.requires.before_last_round)

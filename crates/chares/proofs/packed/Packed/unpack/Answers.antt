@@ -8,7 +8,8 @@ returns-in-Ok-clause-history g c =
     let u = rw (c.as_slice.ensures.value, c.deref.ensures) at c.in-Ok.ensures.answer in
     let consistent = subst (λ (p : PackedView). IsPackedHistory g.C.Chare.step g.C.Pup.fits g.C.Pup.pack g.H.Openings.opened p) (sym c.self.view_is) c.requires.consistent in
     rw (← c.self.view_is)
-    (history_unpacked g.C.Chare.step g.C.Pup.fits g.C.Pup.counted g.C.Pup.pack g.C.Pup.unpack g.H.Openings.opened _ c.in-Ok.chare c.in-Ok.field-0-1 g.met.C.Pup.round_trip g.met.C.Chare.packs consistent u)
+    (history_unpacked g.C.Chare.step g.C.Pup.fits g.C.Pup.counted g.C.Pup.pack g.C.Pup.unpack g.H.Openings.opened _ c.in-Ok.chare
+    c.in-Ok.field-0-1 g.met.C.Pup.round_trip g.met.C.Chare.packs consistent u)
 
 pub returns-in-Ok-clause-unpacks : goal.returns-in-Ok-clause-unpacks
 returns-in-Ok-clause-unpacks g c =

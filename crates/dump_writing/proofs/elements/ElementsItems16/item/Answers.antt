@@ -12,4 +12,5 @@ returns c =
     let size = slice_index_or it.sizes.now c.args.i (0, 0) in
     c.long_and_words.ensures
     ∙ ap (λ (pair : ℕ × ℕ). load ++ (word pair.0 ++ word c.get.result)) (get_or_default it.sizes.now c.args.i c.index-self-i.result (0, 0) inside)
-    ∙ ap (λ (place : ℕ). load ++ (word size.0 ++ word place)) (c.get.ensures.value ∙ ap (λ (pair : ℕ × ℕ). pair.1) (get_or_default it.sizes.now c.args.i c.index-self-i-2.result (0, 0) inside))
+    ∙ ap (λ (place : ℕ). load ++ (word size.0 ++ word place))
+    (c.get.ensures.value ∙ ap (λ (pair : ℕ × ℕ). pair.1) (get_or_default it.sizes.now c.args.i c.index-self-i-2.result (0, 0) inside))

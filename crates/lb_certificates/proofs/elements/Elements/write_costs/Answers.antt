@@ -29,4 +29,7 @@ returns-in-Apart c =
     let places = c.in-Apart.places.now in
     let seen : zip bytes places ≡ c.args.self.now = subst (λ listed. sizes_of listed ≡ c.args.self.now) c.in-Apart.is c.self.view_is in
     let part = part_of_zip c.args.first (c.args.end - c.args.first) bytes places ∙ ap (λ sizes. slice_range sizes c.args.first c.args.end) seen in
-    record { costs = subst (λ sizes. (p : ℕ) → p < length c.write_listed_costs.new.costs → slice_index c.write_listed_costs.new.costs p ≡ sum_by (λ size. moved_bytes size p) sizes) part c.write_listed_costs.ensures }
+    record {
+      costs = subst (λ sizes. (p : ℕ) → p < length c.write_listed_costs.new.costs
+          → slice_index c.write_listed_costs.new.costs p ≡ sum_by (λ size. moved_bytes size p) sizes) part c.write_listed_costs.ensures;
+    }

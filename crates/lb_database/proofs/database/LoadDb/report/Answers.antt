@@ -34,7 +34,8 @@ pub invariant_of-self-2 : goal.invariant_of-self-2
 invariant_of-self-2 g c =
     let self = c.self.inside in
     let item = c.in-Some.ensures.item in (
-      measured_more (record { round = self.round; loads = self.loads.items; reports = self.reports.items }) c.args.i c.args.bytes c.args.pe c.if-bytes-gt-STATE_BYTES.false c.self.invariant.0,
+      measured_more (record { round = self.round; loads = self.loads.items; reports = self.reports.items }) c.args.i c.args.bytes c.args.pe
+          c.if-bytes-gt-STATE_BYTES.false c.self.invariant.0,
       missing_less self.reports.items c.args.i (c.args.bytes, c.args.pe) c.in-Some.report.now self.missing item.3.0 item.1 c.if-is_some.ensures c.self.invariant.1,
     )
 
@@ -46,7 +47,8 @@ returns-then-ne-clause-answer g c =
 pub returns-then-is_some-clause-answer : goal.returns-then-is_some-clause-answer
 returns-then-is_some-clause-answer g c =
     let item = c.in-Some.ensures.item in
-    let refused : RefusesReport c.args.self.now c.args.i c.args.round c.args.bytes Twice = twice_refused _ c.args.self.now c.args.i c.args.round c.args.bytes c.in-Some.report.now c.self.view_is c.self.invariant.0 item.3.0 item.1 c.if-ne.ensures c.if-is_some.ensures in
+    let refused : RefusesReport c.args.self.now c.args.i c.args.round c.args.bytes Twice = twice_refused _ c.args.self.now c.args.i
+    c.args.round c.args.bytes c.in-Some.report.now c.self.view_is c.self.invariant.0 item.3.0 item.1 c.if-ne.ensures c.if-is_some.ensures in
     refused
 
 pub returns-then-is_some-clause-ok : goal.returns-then-is_some-clause-ok
@@ -55,12 +57,14 @@ returns-then-is_some-clause-ok g c = tt
 pub returns-then-bytes-gt-STATE_BYTES-clause-answer : goal.returns-then-bytes-gt-STATE_BYTES-clause-answer
 returns-then-bytes-gt-STATE_BYTES-clause-answer g c =
     let item = c.in-Some.ensures.item in
-    too_large_refused _ c.args.self.now c.args.i c.args.round c.args.bytes c.in-Some.report.now c.self.view_is c.self.invariant.0 item.3.0 item.1 c.if-ne.ensures c.if-is_some.ensures c.if-bytes-gt-STATE_BYTES.true
+    too_large_refused _ c.args.self.now c.args.i c.args.round c.args.bytes c.in-Some.report.now c.self.view_is c.self.invariant.0 item.3.0
+    item.1 c.if-ne.ensures c.if-is_some.ensures c.if-bytes-gt-STATE_BYTES.true
 
 pub returns-clause-answer : goal.returns-clause-answer
 returns-clause-answer g c =
     let item = c.in-Some.ensures.item in
-    report_taken _ c.args.self.now c.args.i c.args.round c.args.bytes c.in-Some.report.now c.self.view_is c.self.invariant.0 item.3.0 item.1 c.if-ne.ensures c.if-is_some.ensures c.if-bytes-gt-STATE_BYTES.false
+    report_taken _ c.args.self.now c.args.i c.args.round c.args.bytes c.in-Some.report.now c.self.view_is c.self.invariant.0 item.3.0 item.1
+    c.if-ne.ensures c.if-is_some.ensures c.if-bytes-gt-STATE_BYTES.false
 
 pub returns-clause-ok : goal.returns-clause-ok
 returns-clause-ok g c = ap (λ m. with_report m c.args.i c.args.bytes c.args.pe) c.self.view_is

@@ -12,7 +12,8 @@ unwrap-requires g c =
     let kept : c.in_ok-loads.loads ≡ m.loads = c.in_ok-loads.ensures.items ∙ c.deref.ensures.value ∙ ap (λ m. m.loads) c.self.view_is in
     let same : map Some c.in_ok-sizes.sizes ≡ m.reports = c.in_ok-sizes.ensures.items ∙ c.deref-2.ensures.value ∙ ap (λ m. m.reports) c.self.view_is in
     let paired : length m.loads ≡ length m.reports = sym (ap (λ m. length m.loads) c.self.view_is) ∙ c.self.invariant.0.paired ∙ ap (λ m. length m.reports) c.self.view_is in
-    let taken : IsTaken c.args.pes c.in_ok-loads.loads c.in_ok-sizes.sizes = placed_there m c.args.pes c.in_ok-loads.loads c.in_ok-sizes.sizes kept same paired c.requires.some_pe c.requires.few_pes c.requires.placed in
+    let taken : IsTaken c.args.pes c.in_ok-loads.loads c.in_ok-sizes.sizes = placed_there m c.args.pes c.in_ok-loads.loads
+    c.in_ok-sizes.sizes kept same paired c.requires.some_pe c.requires.few_pes c.requires.placed in
     made_where c.new.result (IsTaken c.args.pes c.in_ok-loads.loads c.in_ok-sizes.sizes) _ c.new.ensures.made taken
 
 pub returns-in_err-loads-clause-refused : goal.returns-in_err-loads-clause-refused

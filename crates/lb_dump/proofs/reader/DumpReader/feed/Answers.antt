@@ -19,7 +19,8 @@ returns-in_default-taken-clause-fed g c =
     let before : c.args.self.now ≡ Ok (text_of held) = sym c.self.view_is ∙ ap (progress_of (text_of held)) c.in_default.is in
     let taken = c.in_default-taken.ensures.taken in
     let after : progress_of (text_of next) c.self.inside.fault ≡ Ok (text_of held ++ c.args.piece.now) = ap (progress_of (text_of next)) c.in_default.is ∙ ap Ok taken.0 in
-    let good : IsGood (text_of held ++ c.args.piece.now) = subst IsGood taken.0 (held_good g.row.A.Denot next.head next.loads.items next.sizes.items next.plan next.moves.items next.begun.items taken.1) in
+    let good : IsGood (text_of held ++ c.args.piece.now) = subst IsGood taken.0
+    (held_good g.row.A.Denot next.head next.loads.items next.sizes.items next.plan next.moves.items next.begun.items taken.1) in
     let result : Feeds (Ok (text_of held)) c.args.piece.now c.take_in-taken.result (progress_of (text_of next) c.self.inside.fault) =
     subst (λ (r : Result ⊤ DumpError). Feeds (Ok (text_of held)) c.args.piece.now r (progress_of (text_of next) c.self.inside.fault)) (sym c.in_default-taken.is) (good, after) in
     subst (λ (p : Progress). Feeds p c.args.piece.now c.take_in-taken.result (progress_of (text_of next) c.self.inside.fault)) (sym before) result

@@ -11,7 +11,15 @@ greatest_load-requires-clause-loads g c =
 pub greatest_load-requires-clause-placed : goal.greatest_load-requires-clause-placed
 greatest_load-requires-clause-placed g c =
     let s = c.args.snapshot.now in
-    rw (c.deref.ensures.value, c.in_ok-bytes.ensures, c.as_slice.ensures.value, c.sizes.ensures.value, c.deref-2.ensures.value, c.in_ok-present.ensures.value, c.procs.ensures.value)
+    rw (
+      c.deref.ensures.value,
+      c.in_ok-bytes.ensures,
+      c.as_slice.ensures.value,
+      c.sizes.ensures.value,
+      c.deref-2.ensures.value,
+      c.in_ok-present.ensures.value,
+      c.procs.ensures.value,
+    )
     (also_placed s.loads (moving s.sizes c.args.places.now) (present_places s.sizes) s.procs (present_placed s.procs s.loads s.sizes c.procs.ensures.consistent)
     (moving_len s.sizes c.args.places.now ∙ sym c.sizes.ensures.paired))
 

@@ -65,8 +65,11 @@ loop-k-preserved g c =
     record {
       tickets = length-set c.loop-k.tickets.items k c.drain.new.mine ∙ i.tickets;
       rooms = length-set c.loop-k.left.items k c.drain.new.room ∙ i.rooms;
-      done = below_more (λ j r. (e : TicketView _) → Balances (get_or ts j e).traffic.puts (get_or ts j e).traffic.takes r.items) c.loop-k.left.items k c.drain.new.room (omega arith) i.done (balance_here ts k c.index_mut.result.now c.drain.new.room.items (omega arith) at c.drain.ensures.balanced);
-      few = below_more (λ j r. length r.items ≤ c.args.self.capacity) c.loop-k.left.items k c.drain.new.room (omega arith) i.few (let f = c.drain.ensures.few in let s = ap (λ p. p.capacity) c.self.view_is in omega arith);
+      done = below_more (λ j r. (e : TicketView _) → Balances (get_or ts j e).traffic.puts (get_or ts j e).traffic.takes r.items)
+          c.loop-k.left.items k c.drain.new.room (omega arith) i.done
+          (balance_here ts k c.index_mut.result.now c.drain.new.room.items (omega arith) at c.drain.ensures.balanced);
+      few = below_more (λ j r. length r.items ≤ c.args.self.capacity) c.loop-k.left.items k c.drain.new.room (omega arith) i.few
+          (let f = c.drain.ensures.few in let s = ap (λ p. p.capacity) c.self.view_is in omega arith);
       still = λ j d from. get_or-set_other c.loop-k.tickets.items k j c.drain.new.mine d (λ e. absurd (omega arith)) ∙ i.still j d (omega arith);
       empty = λ j d from. get_or-set_other c.loop-k.left.items k j c.drain.new.room d (λ e. absurd (omega arith)) ∙ i.empty j d (omega arith);
     }
@@ -87,7 +90,8 @@ returns g c =
     record {
       left = record {
         one_each = omega arith;
-        balance = λ pe d lt. rw (← c.seat.view_is) (balance_there c.seat.inside.capacity c.seat.inside.seats ts pe (get_or c.loop-k.left.items pe d).items (omega arith) (i.done pe d (omega arith)));
+        balance = λ pe d lt. rw (← c.seat.view_is) (balance_there c.seat.inside.capacity c.seat.inside.seats ts pe
+            (get_or c.loop-k.left.items pe d).items (omega arith) (i.done pe d (omega arith)));
       };
       few = λ pe d lt. i.few pe d (omega arith);
     }

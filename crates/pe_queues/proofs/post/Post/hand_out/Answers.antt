@@ -38,9 +38,11 @@ loop-n-preserved g c =
       seats = omega arith;
       count = omega arith;
       wide = search rules;
-      fresh = rw c.push_reserved.ensures.items (All-push (λ s. s ≡ new_seat c.args.self.now s.seats) given c.in_ok-left.one i.fresh (one ∙ ap (new_seat c.args.self.now) (sym single)));
+      fresh = rw c.push_reserved.ensures.items (All-push (λ s. s ≡ new_seat c.args.self.now s.seats) given c.in_ok-left.one i.fresh
+          (one ∙ ap (new_seat c.args.self.now) (sym single)));
       shared = omega arith;
     }
 
 pub returns-clause-fresh : goal.returns-clause-fresh
-returns-clause-fresh g c = rw c.push_reserved-2.ensures.items (All-push (λ s. s ≡ new_seat c.args.self.now s.seats) c.loop-n.given.items c.loop-n.rest c.loop-n.invariant.fresh c.loop-n.invariant.rest)
+returns-clause-fresh g c = rw c.push_reserved-2.ensures.items
+    (All-push (λ s. s ≡ new_seat c.args.self.now s.seats) c.loop-n.given.items c.loop-n.rest c.loop-n.invariant.fresh c.loop-n.invariant.rest)

@@ -16,7 +16,8 @@ join-requires-clause-own g c =
     let m = same_count c.second.inside.tickets.items c.self.inside.queues.items (ap (λ s. s.post.queues) c.second.view_is ∙ ap (λ p. p.queues) c.requires.others ∙ ids) in
     let long = p.long in
     let short = i.short in
-    own_queue c.first.inside.tickets.items c.self.inside.queues.items c.len-k.result c.index_mut.result.now c.index.result.now first (omega arith) (c.index_mut.ensures.value ∙ i.still c.len-k.result _ (omega arith)) c.index.ensures
+    own_queue c.first.inside.tickets.items c.self.inside.queues.items c.len-k.result c.index_mut.result.now c.index.result.now first
+    (omega arith) (c.index_mut.ensures.value ∙ i.still c.len-k.result _ (omega arith)) c.index.ensures
 
 pub join-requires-clause-others : goal.join-requires-clause-others
 join-requires-clause-others g c =
@@ -64,9 +65,11 @@ loop-other-preserved g c =
       others = p.left;
       still = λ j d lt. get_or-set_other c.loop-other.tickets.items k j c.join.new.mine d (λ e. absurd (omega arith)) ∙ i.still j d (omega arith);
       done = λ j d from below.
-          above_more (λ j t. (e : TicketView _) → t ≡ both (get_or as' j e) (get_or bs j e)) c.loop-other.tickets.items k (length bs) c.join.new.mine here (λ j d from below. i.done j d (omega arith) below) new j d (omega arith) below;
+          above_more (λ j t. (e : TicketView _) → t ≡ both (get_or as' j e) (get_or bs j e)) c.loop-other.tickets.items k (length bs)
+          c.join.new.mine here (λ j d from below. i.done j d (omega arith) below) new j d (omega arith) below;
       share = λ j d from below.
-          above_more (λ j t. IsShare t.traffic) c.loop-other.tickets.items k (length bs) c.join.new.mine here (λ j d from below. i.share j d (omega arith) below) c.join.ensures.share j d (omega arith) below;
+          above_more (λ j t. IsShare t.traffic) c.loop-other.tickets.items k (length bs) c.join.new.mine here
+          (λ j d from below. i.share j d (omega arith) below) c.join.ensures.share j d (omega arith) below;
     }
 
 pub invariant_of-result : goal.invariant_of-result
@@ -80,8 +83,11 @@ invariant_of-result g c =
     let some = c.self.invariant.some in
     let count = i.count in
     let over : length c.loop-other.others.items ≡ 0 = search rules in
-    let room = ap (λ s. s.post.capacity) c.second.view_is ∙ ap (λ p. p.capacity) c.requires.others ∙ sym (ap (λ p. p.capacity) c.requires.own) ∙ sym (ap (λ s. s.post.capacity) c.first.view_is) in
-    rw c.or.ensures (seat_joined _ _ _ _ c.loop-other.tickets.items as' bs c.first.inside.rooms c.second.inside.rooms (omega arith) count (omega arith) room (λ j d e lt. i.done j d (omega arith) (omega arith) e) (λ j d lt. i.share j d (omega arith) (omega arith)) c.first.invariant c.second.invariant)
+    let room = ap (λ s. s.post.capacity) c.second.view_is ∙ ap (λ p. p.capacity) c.requires.others
+    ∙ sym (ap (λ p. p.capacity) c.requires.own) ∙ sym (ap (λ s. s.post.capacity) c.first.view_is) in
+    rw c.or.ensures (seat_joined _ _ _ _ c.loop-other.tickets.items as' bs c.first.inside.rooms c.second.inside.rooms (omega arith) count
+    (omega arith) room (λ j d e lt. i.done j d (omega arith) (omega arith) e) (λ j d lt. i.share j d (omega arith) (omega arith))
+    c.first.invariant c.second.invariant)
 
 pub returns : goal.returns
 returns g c =
@@ -95,5 +101,6 @@ returns g c =
     let a = c.first.view_is in
     let b = c.second.view_is in
     record {
-      both = seats_joined c.first.inside.capacity c.second.inside.capacity c.first.inside.seats c.second.inside.seats c.loop-other.tickets.items as' bs i.count (omega arith) (λ j d e lt. i.done j d (omega arith) (omega arith) e) ∙ (λ i. joined (a i) (b i));
+      both = seats_joined c.first.inside.capacity c.second.inside.capacity c.first.inside.seats c.second.inside.seats
+          c.loop-other.tickets.items as' bs i.count (omega arith) (λ j d e lt. i.done j d (omega arith) (omega arith) e) ∙ (λ i. joined (a i) (b i));
     }

@@ -12,12 +12,16 @@ loop-i-preserved g c =
     record {
       queues = search rules;
       rooms = search rules;
-      tickets = c.push_reserved-in-loop-i.ensures.items ∙ (λ j. i.tickets j ++ c.in_ok-queue.ensures.ticket j ∷ []) ∙ sym (map-append (λ q. ticket q.id all_traffic) c.loop-i.queues.items (c.in_ok-queue.queue ∷ [])) ∙ ap (map (λ q. ticket q.id all_traffic)) (sym c.push_reserved.ensures.items);
+      tickets = c.push_reserved-in-loop-i.ensures.items ∙ (λ j. i.tickets j ++ c.in_ok-queue.ensures.ticket j ∷ [])
+          ∙ sym (map-append (λ q. ticket q.id all_traffic) c.loop-i.queues.items (c.in_ok-queue.queue ∷ []))
+          ∙ ap (map (λ q. ticket q.id all_traffic)) (sym c.push_reserved.ensures.items);
       wide_queues = search rules;
       wide_tickets = search rules;
       wide_rooms = search rules;
       alike = rw c.push_reserved.ensures.items (All-push (λ q. q.capacity ≡ c.args.capacity) c.loop-i.queues.items c.in_ok-queue.queue i.alike c.in_ok-queue.ensures.capacity);
-      empty = rw c.push_reserved-in-loop-i-2.ensures.items (All-push (λ r. (r.items ≡ []) × (c.args.capacity ≤ vec_capacity r)) c.loop-i.rooms.items c.in_ok-room.room i.empty (c.in_ok-room.ensures.items, c.in_ok-room.ensures.capacity));
+      empty = rw c.push_reserved-in-loop-i-2.ensures.items
+          (All-push (λ r. (r.items ≡ []) × (c.args.capacity ≤ vec_capacity r)) c.loop-i.rooms.items c.in_ok-room.room i.empty
+          (c.in_ok-room.ensures.items, c.in_ok-room.ensures.capacity));
     }
 
 pub invariant_of-seat : goal.invariant_of-seat

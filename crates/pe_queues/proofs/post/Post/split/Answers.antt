@@ -48,9 +48,11 @@ loop-k-preserved g c =
       puts = map-set_same (λ t. t.traffic.puts) ts k new old (ap (λ t. t.traffic.puts) left ∙ ap (λ t. t.traffic.puts) at) ∙ i.puts;
       takes = map-set_same (λ t. t.traffic.takes) ts k new old (ap (λ t. t.traffic.takes) left ∙ ap (λ t. t.traffic.takes) at) ∙ i.takes;
       rooms = map-set_same (λ t. t.traffic.rooms) ts k new old (ap (λ t. t.traffic.rooms) left ∙ ap (λ t. t.traffic.rooms) at) ∙ i.rooms;
-      done = below_more (λ j t. t.traffic.seats ≡ c.seat.inside.seats - 1) ts k new here i.done (ap (λ t. t.traffic.seats) left ∙ ap (λ s. s - 1) (ap (λ t. t.traffic.seats) at ∙ i.still k old (omega arith) here));
+      done = below_more (λ j t. t.traffic.seats ≡ c.seat.inside.seats - 1) ts k new here i.done
+          (ap (λ t. t.traffic.seats) left ∙ ap (λ s. s - 1) (ap (λ t. t.traffic.seats) at ∙ i.still k old (omega arith) here));
       still = λ j d from below. ap (λ t. t.traffic.seats) (get_or-set_other ts k j new d (λ e. absurd (omega arith))) ∙ i.still j d (omega arith) (omega arith);
-      ones = c.push_reserved.ensures.items ∙ ticket_more c.args.self.now.queues k c.index.result.now.id c.loop-k.ones.items c.split.result of_one (omega arith) id i.ones c.split.ensures.right;
+      ones = c.push_reserved.ensures.items ∙ ticket_more c.args.self.now.queues k c.index.result.now.id c.loop-k.ones.items c.split.result
+          of_one (omega arith) id i.ones c.split.ensures.right;
       wide = search rules;
     }
 
@@ -68,7 +70,8 @@ invariant_of-left g c =
       some = omega arith;
       few = omega arith;
       each = λ j d lt. i.done j d (omega arith);
-      wide = rooms_kept c.seat.inside.capacity c.seat.inside.seats (c.seat.inside.seats - 1) c.seat.inside.tickets.items ts c.seat.inside.rooms i.rooms (same_counts ts c.seat.inside.tickets.items i.queues) (λ e. absurd (omega arith)) c.seat.invariant.wide;
+      wide = rooms_kept c.seat.inside.capacity c.seat.inside.seats (c.seat.inside.seats - 1) c.seat.inside.tickets.items ts
+          c.seat.inside.rooms i.rooms (same_counts ts c.seat.inside.tickets.items i.queues) (λ e. absurd (omega arith)) c.seat.invariant.wide;
     }
 
 pub invariant_of-one : goal.invariant_of-one
@@ -92,4 +95,5 @@ returns-clause-one g c =
     let m : length ids ≡ length qs = ap length (sym (ap (λ p. p.queues) c.self.view_is)) ∙ length-map qs (λ q. q.id) in
     let room = ap (λ s. s.post.capacity) c.seat.view_is ∙ ap (λ p. p.capacity) c.requires.own in
     let same = map-id ids in
-    rw i.ones (ap (λ l. seat_of capacity 1 (map (λ id. ticket id of_one) l)) (take_all c.loop-k.k ids (omega arith)) ∙ seat_fresh (λ id. id) capacity 1 of_one ids refl refl ∙ (λ j. new_seat (record { queues = same j; capacity = room j }) 1))
+    rw i.ones (ap (λ l. seat_of capacity 1 (map (λ id. ticket id of_one) l)) (take_all c.loop-k.k ids (omega arith))
+    ∙ seat_fresh (λ id. id) capacity 1 of_one ids refl refl ∙ (λ j. new_seat (record { queues = same j; capacity = room j }) 1))

@@ -19,13 +19,25 @@ returns-then-is_some-clause-traces g c =
 
 pub returns-in_default-clause-acts : goal.returns-in_default-clause-acts
 returns-in_default-clause-acts g c =
-    let none = sym (ap (λ p. found c.args.element.index p.room) c.self.view_is) ∙ sym (ap (λ r. found c.args.element.index r) c.room.ensures.value) ∙ sym (ap (λ e. found e c.room.result.now) c.index.ensures.value) ∙ lacking (λ x. x.now) c.element.result _ c.element.ensures.value (sym c.is_some.ensures ∙ c.if-is_some.false) in
-    record { answer = tt; ok = tt; err = c.hold-in_default.ensures.ok; enabled = may_install g.C.Chare.step g.C.Pup.pack g.C.Pup.unpack c.args.self.now c.args.element _ none c.unpack.ensures.whole }
+    let none = sym (ap (λ p. found c.args.element.index p.room) c.self.view_is)
+    ∙ sym (ap (λ r. found c.args.element.index r) c.room.ensures.value)
+    ∙ sym (ap (λ e. found e c.room.result.now) c.index.ensures.value)
+    ∙ lacking (λ x. x.now) c.element.result _ c.element.ensures.value (sym c.is_some.ensures ∙ c.if-is_some.false) in
+    record {
+      answer = tt;
+      ok = tt;
+      err = c.hold-in_default.ensures.ok;
+      enabled = may_install g.C.Chare.step g.C.Pup.pack g.C.Pup.unpack c.args.self.now c.args.element _ none c.unpack.ensures.whole;
+    }
 
 pub returns-in_err-install-clause-acts : goal.returns-in_err-install-clause-acts
 returns-in_err-install-clause-acts g c =
-    let none = sym (ap (λ p. found c.args.element.index p.room) c.self.view_is) ∙ sym (ap (λ r. found c.args.element.index r) c.room.ensures.value) ∙ sym (ap (λ e. found e c.room.result.now) c.index.ensures.value) ∙ lacking (λ x. x.now) c.element.result _ c.element.ensures.value (sym c.is_some.ensures ∙ c.if-is_some.false) in
-    did_not _ _ _ _ c.from_residual.ensures.0 (may_install g.C.Chare.step g.C.Pup.pack g.C.Pup.unpack c.args.self.now c.args.element _ none c.unpack.ensures.whole) c.in_err-install.ensures.err
+    let none = sym (ap (λ p. found c.args.element.index p.room) c.self.view_is)
+    ∙ sym (ap (λ r. found c.args.element.index r) c.room.ensures.value)
+    ∙ sym (ap (λ e. found e c.room.result.now) c.index.ensures.value)
+    ∙ lacking (λ x. x.now) c.element.result _ c.element.ensures.value (sym c.is_some.ensures ∙ c.if-is_some.false) in
+    did_not _ _ _ _ c.from_residual.ensures.0 (may_install g.C.Chare.step g.C.Pup.pack g.C.Pup.unpack c.args.self.now c.args.element _ none
+    c.unpack.ensures.whole) c.in_err-install.ensures.err
 
 pub returns-in_err-install-clause-traces : goal.returns-in_err-install-clause-traces
 returns-in_err-install-clause-traces g c = untraced _ _ _ _ _ c.from_residual.ensures.0 c.in_err-install.ensures.traces.err
@@ -34,10 +46,17 @@ returns-in_err-install-clause-traces g c = untraced _ _ _ _ _ c.from_residual.en
 
 pub returns-clause-acts : goal.returns-clause-acts
 returns-clause-acts g c =
-    let none = sym (ap (λ p. found c.args.element.index p.room) c.self.view_is) ∙ sym (ap (λ r. found c.args.element.index r) c.room.ensures.value) ∙ sym (ap (λ e. found e c.room.result.now) c.index.ensures.value) ∙ lacking (λ x. x.now) c.element.result _ c.element.ensures.value (sym c.is_some.ensures ∙ c.if-is_some.false) in
+    let none = sym (ap (λ p. found c.args.element.index p.room) c.self.view_is)
+    ∙ sym (ap (λ r. found c.args.element.index r) c.room.ensures.value)
+    ∙ sym (ap (λ e. found e c.room.result.now) c.index.ensures.value)
+    ∙ lacking (λ x. x.now) c.element.result _ c.element.ensures.value (sym c.is_some.ensures ∙ c.if-is_some.false) in
     did _ _ _ _ (installs g.C.Chare.step g.C.Pup.pack g.C.Pup.unpack c.args.self.now c.args.element _ c.in-Ok.chare _ none c.in-Ok.ensures.unpacks.1) c.in_ok-install.ensures.ok
 
 pub returns-clause-traces : goal.returns-clause-traces
 returns-clause-traces g c =
-    let none = sym (ap (λ p. found c.args.element.index p.room) c.self.view_is) ∙ sym (ap (λ r. found c.args.element.index r) c.room.ensures.value) ∙ sym (ap (λ e. found e c.room.result.now) c.index.ensures.value) ∙ lacking (λ x. x.now) c.element.result _ c.element.ensures.value (sym c.is_some.ensures ∙ c.if-is_some.false) in
-    traced_so _ _ _ _ _ _ (installs g.C.Chare.step g.C.Pup.pack g.C.Pup.unpack c.args.self.now c.args.element _ c.in-Ok.chare _ none c.in-Ok.ensures.unpacks.1) c.in_ok-install.ensures.traces.ok
+    let none = sym (ap (λ p. found c.args.element.index p.room) c.self.view_is)
+    ∙ sym (ap (λ r. found c.args.element.index r) c.room.ensures.value)
+    ∙ sym (ap (λ e. found e c.room.result.now) c.index.ensures.value)
+    ∙ lacking (λ x. x.now) c.element.result _ c.element.ensures.value (sym c.is_some.ensures ∙ c.if-is_some.false) in
+    traced_so _ _ _ _ _ _ (installs g.C.Chare.step g.C.Pup.pack g.C.Pup.unpack c.args.self.now c.args.element _ c.in-Ok.chare _ none
+    c.in-Ok.ensures.unpacks.1) c.in_ok-install.ensures.traces.ok

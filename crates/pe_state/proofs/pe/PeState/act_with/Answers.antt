@@ -9,7 +9,18 @@ use Rattle.pe_state.specs.Refusals.{RefusesAct}
 use Rattle.pe_state.proofs.Runs.{same_run}
 use Rattle.pe_state.proofs.pe.PeState.act_with.Goals as goal
 
-in_letter : (g : _) (c : goal.After-act_on_letter g) → Holds c.args.self.now (record { me = c.end.inside.me; n = c.end.inside.n; room = c.end.inside.room; hand = c.end.inside.hand; shelf = c.end.inside.shelf.items; outbox = c.end.inside.outbox.items; notes = c.end.inside.notes.items; count = c.end.inside.count; kept = c.end.inside.kept }) c.in-Some.field-0 (Letter c.in-Letter.letter) c.in-Some.field-0.address
+in_letter : (g : _) (c : goal.After-act_on_letter g)
+    → Holds c.args.self.now (record {
+      me = c.end.inside.me;
+      n = c.end.inside.n;
+      room = c.end.inside.room;
+      hand = c.end.inside.hand;
+      shelf = c.end.inside.shelf.items;
+      outbox = c.end.inside.outbox.items;
+      notes = c.end.inside.notes.items;
+      count = c.end.inside.count;
+      kept = c.end.inside.kept;
+    }) c.in-Some.field-0 (Letter c.in-Letter.letter) c.in-Some.field-0.address
 in_letter g c = record { view_is = sym (c.end.view_is ∙ c.self.view_is); in_hand = sym c.take.ensures.value ∙ c.in-Some.is; parcel_is = c.in-Letter.is; look_is = refl }
 
 pub returns-in-Letter-clause-acts : goal.returns-in-Letter-clause-acts
@@ -21,7 +32,18 @@ returns-in-Letter-clause-acts g c =
 pub returns-in-Letter-clause-traces : goal.returns-in-Letter-clause-traces
 returns-in-Letter-clause-traces g c = rw (acting_on_letter g.C.Chare.step g.C.Pup.pack g.C.Pup.unpack _ _ c.take.new.self _ _ _ (in_letter g c)) c.act_on_letter.ensures.traces
 
-in_element : (g : _) (c : goal.After-act_on_element g) → Holds c.args.self.now (record { me = c.end.inside.me; n = c.end.inside.n; room = c.end.inside.room; hand = c.end.inside.hand; shelf = c.end.inside.shelf.items; outbox = c.end.inside.outbox.items; notes = c.end.inside.notes.items; count = c.end.inside.count; kept = c.end.inside.kept }) c.in-Some.field-0 (Element c.in-Element.element) c.in-Some.field-0.address
+in_element : (g : _) (c : goal.After-act_on_element g)
+    → Holds c.args.self.now (record {
+      me = c.end.inside.me;
+      n = c.end.inside.n;
+      room = c.end.inside.room;
+      hand = c.end.inside.hand;
+      shelf = c.end.inside.shelf.items;
+      outbox = c.end.inside.outbox.items;
+      notes = c.end.inside.notes.items;
+      count = c.end.inside.count;
+      kept = c.end.inside.kept;
+    }) c.in-Some.field-0 (Element c.in-Element.element) c.in-Some.field-0.address
 in_element g c = record { view_is = sym (c.end.view_is ∙ c.self.view_is); in_hand = sym c.take.ensures.value ∙ c.in-Some.is; parcel_is = c.in-Element.is; look_is = refl }
 
 pub returns-in-Element-clause-acts : goal.returns-in-Element-clause-acts
@@ -44,8 +66,18 @@ invariant_of-end g c = (c.end.invariant.0, c.end.invariant.1)
 
 pub invariant_of-self : goal.invariant_of-self
 invariant_of-self g c =
-    let i = same_run c.end.view_is c.self.invariant.1 in
-    (c.self.invariant.0, record { histories = emptied_holds g.C.Chare.step g.C.Pup.fits g.C.Pup.pack g.H.Openings.opened _ _ c.in_default.ensures.after i.histories; few = i.few; me = i.me; hand = subst (λ h. IsHandBelow g.H.Openings.pes h) (sym c.in_default.ensures.after) tt; outbox = i.outbox; kept = i.kept })
+    let i = same_run c.end.view_is c.self.invariant.1 in (
+      c.self.invariant.0,
+      record {
+        histories = emptied_holds g.C.Chare.step g.C.Pup.fits g.C.Pup.pack g.H.Openings.opened _ _
+            c.in_default.ensures.after i.histories;
+        few = i.few;
+        me = i.me;
+        hand = subst (λ h. IsHandBelow g.H.Openings.pes h) (sym c.in_default.ensures.after) tt;
+        outbox = i.outbox;
+        kept = i.kept;
+      },
+    )
 
 pub returns-in_default-clause-acts : goal.returns-in_default-clause-acts
 returns-in_default-clause-acts g c =
@@ -53,17 +85,38 @@ returns-in_default-clause-acts g c =
     did_nothing _ _ _ nothing (same_hand c.args.self.now _ c.take.new.self (c.end.view_is ∙ c.self.view_is) c.in_default.ensures.after c.in_default.ensures.value)
 
 pub returns-in_default-clause-traces : goal.returns-in_default-clause-traces
-returns-in_default-clause-traces g c = traced_nothing _ _ _ _ _ (idle g.C.Chare.step g.C.Pup.pack g.C.Pup.unpack c.args.self.now _ (c.end.view_is ∙ c.self.view_is) c.in_default.ensures.value) refl
+returns-in_default-clause-traces g c = traced_nothing _ _ _ _ _
+    (idle g.C.Chare.step g.C.Pup.pack g.C.Pup.unpack c.args.self.now _ (c.end.view_is ∙ c.self.view_is) c.in_default.ensures.value) refl
 
 pub invariant_of-self-in-Letter : goal.invariant_of-self-in-Letter
 invariant_of-self-in-Letter g c =
-    let i = same_run c.end.view_is c.self.invariant.1 in
-    (c.self.invariant.0, record { histories = emptied_holds g.C.Chare.step g.C.Pup.fits g.C.Pup.pack g.H.Openings.opened _ _ c.in-Some.ensures.after i.histories; few = i.few; me = i.me; hand = subst (λ h. IsHandBelow g.H.Openings.pes h) (sym c.in-Some.ensures.after) tt; outbox = i.outbox; kept = i.kept })
+    let i = same_run c.end.view_is c.self.invariant.1 in (
+      c.self.invariant.0,
+      record {
+        histories = emptied_holds g.C.Chare.step g.C.Pup.fits g.C.Pup.pack g.H.Openings.opened _ _
+            c.in-Some.ensures.after i.histories;
+        few = i.few;
+        me = i.me;
+        hand = subst (λ h. IsHandBelow g.H.Openings.pes h) (sym c.in-Some.ensures.after) tt;
+        outbox = i.outbox;
+        kept = i.kept;
+      },
+    )
 
 pub invariant_of-self-in-Element : goal.invariant_of-self-in-Element
 invariant_of-self-in-Element g c =
-    let i = same_run c.end.view_is c.self.invariant.1 in
-    (c.self.invariant.0, record { histories = emptied_holds g.C.Chare.step g.C.Pup.fits g.C.Pup.pack g.H.Openings.opened _ _ c.in-Some.ensures.after i.histories; few = i.few; me = i.me; hand = subst (λ h. IsHandBelow g.H.Openings.pes h) (sym c.in-Some.ensures.after) tt; outbox = i.outbox; kept = i.kept })
+    let i = same_run c.end.view_is c.self.invariant.1 in (
+      c.self.invariant.0,
+      record {
+        histories = emptied_holds g.C.Chare.step g.C.Pup.fits g.C.Pup.pack g.H.Openings.opened _ _
+            c.in-Some.ensures.after i.histories;
+        few = i.few;
+        me = i.me;
+        hand = subst (λ h. IsHandBelow g.H.Openings.pes h) (sym c.in-Some.ensures.after) tt;
+        outbox = i.outbox;
+        kept = i.kept;
+      },
+    )
 
 pub act_on_letter-requires-clause-empty : goal.act_on_letter-requires-clause-empty
 act_on_letter-requires-clause-empty g c = c.in-Some.ensures.after
@@ -79,5 +132,7 @@ act_on_element-requires-clause-below g c = subst (λ h. IsHandBelow g.H.Openings
 
 pub act_on_element-requires-clause-consistent : goal.act_on_element-requires-clause-consistent
 act_on_element-requires-clause-consistent g c =
-    let taken : IsParcelHistory g.C.Chare.step g.C.Pup.fits g.C.Pup.pack g.H.Openings.opened c.in-Some.field-0.parcel = subst (λ (o : Option Item). IfSome o (λ x. IsParcelHistory g.C.Chare.step g.C.Pup.fits g.C.Pup.pack g.H.Openings.opened x.parcel)) (sym c.in-Some.ensures.value) (same_run c.end.view_is c.self.invariant.1).histories.hand in
+    let taken : IsParcelHistory g.C.Chare.step g.C.Pup.fits g.C.Pup.pack g.H.Openings.opened c.in-Some.field-0.parcel = subst
+    (λ (o : Option Item). IfSome o (λ x. IsParcelHistory g.C.Chare.step g.C.Pup.fits g.C.Pup.pack g.H.Openings.opened x.parcel))
+    (sym c.in-Some.ensures.value) (same_run c.end.view_is c.self.invariant.1).histories.hand in
     subst (λ (p : Parcel). IsParcelHistory g.C.Chare.step g.C.Pup.fits g.C.Pup.pack g.H.Openings.opened p) c.in-Element.is taken

@@ -16,8 +16,17 @@ invariant_of-end g c = (c.end.invariant.0, λ k. place_stays _ _ _ _ c.reserve.e
 
 pub invariant_of-self : goal.invariant_of-self
 invariant_of-self g c =
-    let i = same_run c.end.view_is c.self.invariant.1 in
-    (c.self.invariant.0, record { histories = still_holds i.histories refl refl refl c.reserve.ensures.items; few = i.few; me = i.me; hand = i.hand; outbox = outbox_below _ _ _ c.reserve.ensures.items i.outbox; kept = i.kept })
+    let i = same_run c.end.view_is c.self.invariant.1 in (
+      c.self.invariant.0,
+      record {
+        histories = still_holds i.histories refl refl refl c.reserve.ensures.items;
+        few = i.few;
+        me = i.me;
+        hand = i.hand;
+        outbox = outbox_below _ _ _ c.reserve.ensures.items i.outbox;
+        kept = i.kept;
+      },
+    )
 
 pub returns-in_err-reserve-clause-ok : goal.returns-in_err-reserve-clause-ok
 returns-in_err-reserve-clause-ok g c = no_answer _ _ c.from_residual.ensures.0
@@ -38,8 +47,17 @@ depart-requires g c = record { stands = stands_to_leave c.args.self.now _ c.args
 
 pub invariant_of-self-in_err-element : goal.invariant_of-self-in_err-element
 invariant_of-self-in_err-element g c =
-    let i = same_run c.end.view_is c.self.invariant.1 in
-    (c.self.invariant.0, record { histories = still_holds i.histories refl c.in_err-element.ensures.err refl c.reserve.ensures.items; few = i.few; me = i.me; hand = i.hand; outbox = outbox_below _ _ _ c.reserve.ensures.items i.outbox; kept = i.kept })
+    let i = same_run c.end.view_is c.self.invariant.1 in (
+      c.self.invariant.0,
+      record {
+        histories = still_holds i.histories refl c.in_err-element.ensures.err refl c.reserve.ensures.items;
+        few = i.few;
+        me = i.me;
+        hand = i.hand;
+        outbox = outbox_below _ _ _ c.reserve.ensures.items i.outbox;
+        kept = i.kept;
+      },
+    )
 
 pub returns-in_err-element-clause-ok : goal.returns-in_err-element-clause-ok
 returns-in_err-element-clause-ok g c = no_answer _ _ c.from_residual-in_err-element.ensures.0
@@ -62,13 +80,27 @@ pub invariant_of-self-2 : goal.invariant_of-self-2
 invariant_of-self-2 g c =
     let i = same_run c.end.view_is c.self.invariant.1 in
     let there = outbox_below _ _ _ c.reserve.ensures.items i.outbox in
-    let after = departed_is g.C.Pup.pack c.args.self.now _ c.args.index c.args.to c.in_ok-element.element _ _ _ (c.end.view_is ∙ c.self.view_is) c.in_ok-element.ensures.ok c.reserve.ensures.items c.in_ok-element.ensures.value c.push_back_reserved.ensures.items in
-    let fits = subst (λ (v : PeView g.row.C.Denot). IfSome (found c.args.index v.room) (λ el. g.C.Pup.fits el.chare)) (c.end.view_is ∙ c.self.view_is) c.in_ok-element.ensures.fits in
-    let left = departed_holds g.C.Chare.step g.C.Pup.fits g.C.Pup.pack g.H.Openings.opened c.args.self.now c.args.index c.args.to (holds_same (sym (c.end.view_is ∙ c.self.view_is)) i.histories) fits in
-    (c.self.invariant.0, record { histories = holds_same after left; few = i.few; me = i.me; hand = i.hand; outbox = outbox_below _ _ _ c.push_back_reserved.ensures.items (last_below _ _ _ there c.requires.known); kept = tt })
+    let after = departed_is g.C.Pup.pack c.args.self.now _ c.args.index c.args.to c.in_ok-element.element _ _ _
+    (c.end.view_is ∙ c.self.view_is) c.in_ok-element.ensures.ok c.reserve.ensures.items c.in_ok-element.ensures.value c.push_back_reserved.ensures.items in
+    let fits = subst (λ (v : PeView g.row.C.Denot). IfSome (found c.args.index v.room) (λ el. g.C.Pup.fits el.chare))
+    (c.end.view_is ∙ c.self.view_is) c.in_ok-element.ensures.fits in
+    let left = departed_holds g.C.Chare.step g.C.Pup.fits g.C.Pup.pack g.H.Openings.opened c.args.self.now c.args.index c.args.to
+    (holds_same (sym (c.end.view_is ∙ c.self.view_is)) i.histories) fits in (
+      c.self.invariant.0,
+      record {
+        histories = holds_same after left;
+        few = i.few;
+        me = i.me;
+        hand = i.hand;
+        outbox = outbox_below _ _ _ c.push_back_reserved.ensures.items (last_below _ _ _ there c.requires.known);
+        kept = tt;
+      },
+    )
 
 pub returns-clause-ok : goal.returns-clause-ok
-returns-clause-ok g c = departed_is g.C.Pup.pack c.args.self.now _ c.args.index c.args.to c.in_ok-element.element _ _ _ (c.end.view_is ∙ c.self.view_is) c.in_ok-element.ensures.ok c.reserve.ensures.items c.in_ok-element.ensures.value c.push_back_reserved.ensures.items
+returns-clause-ok g c = departed_is g.C.Pup.pack c.args.self.now _ c.args.index c.args.to c.in_ok-element.element _ _ _
+    (c.end.view_is ∙ c.self.view_is) c.in_ok-element.ensures.ok c.reserve.ensures.items c.in_ok-element.ensures.value c.push_back_reserved.ensures.items
 
 pub returns-clause-fits : goal.returns-clause-fits
-returns-clause-fits g c = subst (λ (v : PeView g.row.C.Denot). IfSome (found c.args.index v.room) (λ el. g.C.Pup.fits el.chare)) (c.end.view_is ∙ c.self.view_is) c.in_ok-element.ensures.fits
+returns-clause-fits g c = subst (λ (v : PeView g.row.C.Denot). IfSome (found c.args.index v.room) (λ el. g.C.Pup.fits el.chare))
+    (c.end.view_is ∙ c.self.view_is) c.in_ok-element.ensures.fits

@@ -19,22 +19,42 @@ invariant_of-end g c = (c.end.invariant.0, λ k. place_stays _ _ _ _ c.reserve.e
 
 pub invariant_of-self-in_default-reserve : goal.invariant_of-self-in_default-reserve
 invariant_of-self-in_default-reserve g c =
-    let i = same_run c.end.view_is c.self.invariant.1 in
-    (c.self.invariant.0, record { histories = still_holds i.histories refl refl refl c.reserve.ensures.items; few = i.few; me = i.me; hand = i.hand; outbox = outbox_below _ _ _ c.reserve.ensures.items i.outbox; kept = i.kept })
+    let i = same_run c.end.view_is c.self.invariant.1 in (
+      c.self.invariant.0,
+      record {
+        histories = still_holds i.histories refl refl refl c.reserve.ensures.items;
+        few = i.few;
+        me = i.me;
+        hand = i.hand;
+        outbox = outbox_below _ _ _ c.reserve.ensures.items i.outbox;
+        kept = i.kept;
+      },
+    )
 
 pub returns-in_default-reserve-clause-err : goal.returns-in_default-reserve-clause-err
-returns-in_default-reserve-clause-err g c = held_same _ _ _ _ _ c.hold-in_default-reserve.ensures.ok (same_view _ _ _ _ _ _ refl c.reserve.ensures.items refl refl (c.end.view_is ∙ c.self.view_is))
+returns-in_default-reserve-clause-err g c = held_same _ _ _ _ _ c.hold-in_default-reserve.ensures.ok
+    (same_view _ _ _ _ _ _ refl c.reserve.ensures.items refl refl (c.end.view_is ∙ c.self.view_is))
 
 pub invariant_of-end-in_default-with_capacity : goal.invariant_of-end-in_default-with_capacity
 invariant_of-end-in_default-with_capacity g c = (c.end.invariant.0, λ k. place_stays _ _ _ _ c.reserve.ensures.len c.reserve.ensures.capacity (c.end.invariant.1 k))
 
 pub invariant_of-self-in_default-with_capacity : goal.invariant_of-self-in_default-with_capacity
 invariant_of-self-in_default-with_capacity g c =
-    let i = same_run c.end.view_is c.self.invariant.1 in
-    (c.self.invariant.0, record { histories = still_holds i.histories refl refl refl c.reserve.ensures.items; few = i.few; me = i.me; hand = i.hand; outbox = outbox_below _ _ _ c.reserve.ensures.items i.outbox; kept = i.kept })
+    let i = same_run c.end.view_is c.self.invariant.1 in (
+      c.self.invariant.0,
+      record {
+        histories = still_holds i.histories refl refl refl c.reserve.ensures.items;
+        few = i.few;
+        me = i.me;
+        hand = i.hand;
+        outbox = outbox_below _ _ _ c.reserve.ensures.items i.outbox;
+        kept = i.kept;
+      },
+    )
 
 pub returns-in_default-with_capacity-clause-err : goal.returns-in_default-with_capacity-clause-err
-returns-in_default-with_capacity-clause-err g c = held_same _ _ _ _ _ c.hold-in_default-with_capacity.ensures.ok (same_view _ _ _ _ _ _ refl c.reserve.ensures.items refl refl (c.end.view_is ∙ c.self.view_is))
+returns-in_default-with_capacity-clause-err g c = held_same _ _ _ _ _ c.hold-in_default-with_capacity.ensures.ok
+    (same_view _ _ _ _ _ _ refl c.reserve.ensures.items refl refl (c.end.view_is ∙ c.self.view_is))
 
 -- none for the room
 
@@ -46,8 +66,17 @@ invariant_of-end-in-Err-install g c = (c.end.invariant.0, λ k. place_stays _ _ 
 
 pub invariant_of-self-in-Err-install : goal.invariant_of-self-in-Err-install
 invariant_of-self-in-Err-install g c =
-    let i = same_run c.end.view_is c.self.invariant.1 in
-    (c.self.invariant.0, record { histories = still_holds i.histories refl c.in-Err.ensures.err refl c.reserve.ensures.items; few = i.few; me = i.me; hand = i.hand; outbox = outbox_below _ _ _ c.reserve.ensures.items i.outbox; kept = i.kept })
+    let i = same_run c.end.view_is c.self.invariant.1 in (
+      c.self.invariant.0,
+      record {
+        histories = still_holds i.histories refl c.in-Err.ensures.err refl c.reserve.ensures.items;
+        few = i.few;
+        me = i.me;
+        hand = i.hand;
+        outbox = outbox_below _ _ _ c.reserve.ensures.items i.outbox;
+        kept = i.kept;
+      },
+    )
 
 pub returns-in-Err-clause-err : goal.returns-in-Err-clause-err
 returns-in-Err-clause-err g c =
@@ -64,12 +93,24 @@ invariant_of-self-2 g c =
     let i = same_run c.end.view_is c.self.invariant.1 in
     let after =
     installed_is _ _ c.args.element c.args.chare _ _ _ _ _ _
-    (c.end.view_is ∙ c.self.view_is) (ap (λ p. p.hand) (c.end.view_is ∙ c.self.view_is) ∙ c.requires.empty) c.index-index.ensures.value c.in_default-install.ensures.ok c.in-Ok-with_capacity.ensures.items c.unshelve.ensures.rest c.reserve.ensures.items c.unshelve.ensures.outbox
+    (c.end.view_is ∙ c.self.view_is) (ap (λ p. p.hand) (c.end.view_is ∙ c.self.view_is) ∙ c.requires.empty) c.index-index.ensures.value
+    c.in_default-install.ensures.ok c.in-Ok-with_capacity.ensures.items c.unshelve.ensures.rest c.reserve.ensures.items c.unshelve.ensures.outbox
     in
-    let stands = installed_holds g.C.Chare.step g.C.Pup.fits g.C.Pup.pack g.H.Openings.opened c.args.self.now c.args.element c.args.chare (holds_same (sym (c.end.view_is ∙ c.self.view_is)) i.histories) c.requires.history in
-    (c.self.invariant.0, record { histories = holds_same after stands; few = i.few; me = i.me; hand = i.hand; outbox = outbox_below _ _ _ c.unshelve.ensures.outbox (unshelved _ _ _ _ (outbox_below _ _ _ c.reserve.ensures.items i.outbox) i.me); kept = tt })
+    let stands = installed_holds g.C.Chare.step g.C.Pup.fits g.C.Pup.pack g.H.Openings.opened c.args.self.now c.args.element c.args.chare
+    (holds_same (sym (c.end.view_is ∙ c.self.view_is)) i.histories) c.requires.history in (
+      c.self.invariant.0,
+      record {
+        histories = holds_same after stands;
+        few = i.few;
+        me = i.me;
+        hand = i.hand;
+        outbox = outbox_below _ _ _ c.unshelve.ensures.outbox (unshelved _ _ _ _ (outbox_below _ _ _ c.reserve.ensures.items i.outbox) i.me);
+        kept = tt;
+      },
+    )
 
 pub returns-clause-ok : goal.returns-clause-ok
 returns-clause-ok g c =
     installed_is _ _ c.args.element c.args.chare _ _ _ _ _ _
-    (c.end.view_is ∙ c.self.view_is) (ap (λ p. p.hand) (c.end.view_is ∙ c.self.view_is) ∙ c.requires.empty) c.index-index.ensures.value c.in_default-install.ensures.ok c.in-Ok-with_capacity.ensures.items c.unshelve.ensures.rest c.reserve.ensures.items c.unshelve.ensures.outbox
+    (c.end.view_is ∙ c.self.view_is) (ap (λ p. p.hand) (c.end.view_is ∙ c.self.view_is) ∙ c.requires.empty) c.index-index.ensures.value
+    c.in_default-install.ensures.ok c.in-Ok-with_capacity.ensures.items c.unshelve.ensures.rest c.reserve.ensures.items c.unshelve.ensures.outbox

@@ -11,5 +11,16 @@ invariant_of-end-2 g c = (c.end.invariant.0, λ k. absurd (cc))
 
 pub invariant_of-self-2 : goal.invariant_of-self-2
 invariant_of-self-2 g c =
-    let i = same_run c.end.view_is c.self.invariant.1 in
-    (c.self.invariant.0, record { histories = still_holds (placed_holds g.C.Chare.step g.C.Pup.fits g.C.Pup.pack g.H.Openings.opened _ c.args.index c.args.chare i.histories c.requires.opening) refl c.in_ok-place.ensures.ok refl refl; few = i.few; me = i.me; hand = i.hand; outbox = i.outbox; kept = tt })
+    let i = same_run c.end.view_is c.self.invariant.1 in (
+      c.self.invariant.0,
+      record {
+        histories = still_holds
+            (placed_holds g.C.Chare.step g.C.Pup.fits g.C.Pup.pack g.H.Openings.opened _ c.args.index c.args.chare i.histories
+            c.requires.opening) refl c.in_ok-place.ensures.ok refl refl;
+        few = i.few;
+        me = i.me;
+        hand = i.hand;
+        outbox = i.outbox;
+        kept = tt;
+      },
+    )

@@ -14,5 +14,16 @@ invariant_of-end g c = (c.end.invariant.0, λ k. absurd (cc))
 pub invariant_of-self : goal.invariant_of-self
 invariant_of-self g c =
     let i = same_run c.end.view_is c.self.invariant.1 in
-    let history = subst (λ (p : Parcel). IsParcelHistory g.C.Chare.step g.C.Pup.fits g.C.Pup.pack g.H.Openings.opened p) (sym c.into_held.ensures.value) c.into_held.ensures.history in
-    (c.self.invariant.0, record { histories = received_holds g.C.Chare.step g.C.Pup.fits g.C.Pup.pack g.H.Openings.opened _ c.into_held.result i.histories history; few = i.few; me = i.me; hand = tt; outbox = i.outbox; kept = tt })
+    let history = subst (λ (p : Parcel). IsParcelHistory g.C.Chare.step g.C.Pup.fits g.C.Pup.pack g.H.Openings.opened p)
+    (sym c.into_held.ensures.value) c.into_held.ensures.history in (
+      c.self.invariant.0,
+      record {
+        histories = received_holds g.C.Chare.step g.C.Pup.fits g.C.Pup.pack g.H.Openings.opened _
+            c.into_held.result i.histories history;
+        few = i.few;
+        me = i.me;
+        hand = tt;
+        outbox = i.outbox;
+        kept = tt;
+      },
+    )

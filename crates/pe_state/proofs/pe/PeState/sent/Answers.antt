@@ -13,11 +13,26 @@ invariant_of-end-2 g c = (c.end.invariant.0, λ k. omega (arith, c.in-Some.ensur
 
 pub invariant_of-self-2 : goal.invariant_of-self-2
 invariant_of-self-2 g c =
-    let i = same_run c.end.view_is c.self.invariant.1 in
-    (c.self.invariant.0, record { histories = still_holds (gave_up_holds g.C.Chare.step g.C.Pup.fits g.C.Pup.pack g.H.Openings.opened _ i.histories) refl refl refl (sym (ap (drop 1) c.in-Some.ensures.items)); few = i.few; me = i.me; hand = i.hand; outbox = rest_below _ _ _ _ c.in-Some.ensures.items i.outbox; kept = first_below _ _ _ _ c.in-Some.ensures.items i.outbox })
+    let i = same_run c.end.view_is c.self.invariant.1 in (
+      c.self.invariant.0,
+      record {
+        histories = still_holds
+            (gave_up_holds g.C.Chare.step g.C.Pup.fits g.C.Pup.pack g.H.Openings.opened _ i.histories) refl refl refl
+            (sym (ap (drop 1) c.in-Some.ensures.items));
+        few = i.few;
+        me = i.me;
+        hand = i.hand;
+        outbox = rest_below _ _ _ _ c.in-Some.ensures.items i.outbox;
+        kept = first_below _ _ _ _ c.in-Some.ensures.items i.outbox;
+      },
+    )
 
 pub returns-clause-value : goal.returns-clause-value
-returns-clause-value g c = ap (λ (p : PeView g.row.C.Denot). front_parcel p.outbox) (sym (c.end.view_is ∙ c.self.view_is)) ∙ ap front_parcel c.in-Some.ensures.items ∙ ap Some (sym c.into_parcel.ensures.value)
+returns-clause-value g c = ap (λ (p : PeView g.row.C.Denot). front_parcel p.outbox) (sym (c.end.view_is ∙ c.self.view_is))
+    ∙ ap front_parcel c.in-Some.ensures.items ∙ ap Some (sym c.into_parcel.ensures.value)
 
 pub into_parcel-requires : goal.into_parcel-requires
-into_parcel-requires g c = record { history = first_holds g.C.Chare.step g.C.Pup.fits g.C.Pup.pack g.H.Openings.opened _ _ _ c.in-Some.ensures.items (same_run c.end.view_is c.self.invariant.1).histories.outbox }
+into_parcel-requires g c = record {
+  history = first_holds g.C.Chare.step g.C.Pup.fits g.C.Pup.pack g.H.Openings.opened _ _ _
+      c.in-Some.ensures.items (same_run c.end.view_is c.self.invariant.1).histories.outbox;
+}

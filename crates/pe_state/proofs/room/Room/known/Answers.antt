@@ -6,4 +6,7 @@ use Rattle.pe_state.proofs.Edits.{keyed_found}
 use Rattle.pe_state.proofs.room.Room.known.Goals as goal
 
 pub returns : goal.returns
-returns g c = record { keyed = subst (λ (r : List (ℕ × ElementView g.row.C.Denot)). IsKeyed r) c.self.view_is (keyed_found (entries_of c.self.inside.rows.items) c.self.invariant.keyed) }
+returns g c = record {
+  keyed = subst (λ (r : List (ℕ × ElementView g.row.C.Denot)). IsKeyed r) c.self.view_is
+      (keyed_found (entries_of c.self.inside.rows.items) c.self.invariant.keyed);
+}

@@ -31,7 +31,8 @@ overflow_add-len g c =
 pub returns-clause-value : goal.returns-clause-value
 returns-clause-value g c =
     let left = c.loop-row.invariant.left in
-    let none = ap (λ (rs : List (List (ℕ × ElementView g.row.C.Denot))). length (entries_of rs)) (drop_all c.loop-row.row-index c.deref-row-items.result.now c.loop-row-test.false) in
+    let none = ap (λ (rs : List (List (ℕ × ElementView g.row.C.Denot))). length (entries_of rs))
+    (drop_all c.loop-row.row-index c.deref-row-items.result.now c.loop-row-test.false) in
     omega (arith, left, none)
 
 pub returns-clause-keyed : goal.returns-clause-keyed

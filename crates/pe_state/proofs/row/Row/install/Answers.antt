@@ -20,11 +20,14 @@ pub invariant_of-self-2 : goal.invariant_of-self-2
 invariant_of-self-2 g c =
     let w : IsWithin 0 ELEMENTS c.args.self.now = subst (λ (r : List (ℕ × ElementView g.row.C.Denot)). IsWithin 0 ELEMENTS r) c.self.view_is c.self.invariant in
     let gap = subst (λ (e : ℕ). BelongsAt e c.args.self.now c.in-Err.place) c.index-index.ensures.value c.in-Err.ensures.gap in
-    let is = c.in-Ok-insert.ensures.items ∙ insert_is gap c.reserve.new.self.items (c.in-Ok.ensures.items ∙ c.self.view_is) c.get.result (c.get.ensures.value ∙ c.index-index.ensures.value) c.open.result (unpacked c.args.packed c.args.chare) c.open.ensures.value in
+    let is = c.in-Ok-insert.ensures.items ∙ insert_is gap c.reserve.new.self.items (c.in-Ok.ensures.items ∙ c.self.view_is) c.get.result
+    (c.get.ensures.value ∙ c.index-index.ensures.value) c.open.result (unpacked c.args.packed c.args.chare) c.open.ensures.value in
     let few : c.args.packed.index < ELEMENTS = subst (λ (e : ℕ). e < ELEMENTS) c.index-index.ensures.value c.get.ensures.in_range in
-    subst (λ (r : List (ℕ × ElementView g.row.C.Denot)). IsWithin 0 ELEMENTS r) (sym is) (within_joined 0 ELEMENTS c.args.packed.index (unpacked c.args.packed c.args.chare) c.args.self.now (omega arith) few w)
+    subst (λ (r : List (ℕ × ElementView g.row.C.Denot)). IsWithin 0 ELEMENTS r) (sym is)
+    (within_joined 0 ELEMENTS c.args.packed.index (unpacked c.args.packed c.args.chare) c.args.self.now (omega arith) few w)
 
 pub returns-clause-ok : goal.returns-clause-ok
 returns-clause-ok g c =
     let gap = subst (λ (e : ℕ). BelongsAt e c.args.self.now c.in-Err.place) c.index-index.ensures.value c.in-Err.ensures.gap in
-    c.in-Ok-insert.ensures.items ∙ insert_is gap c.reserve.new.self.items (c.in-Ok.ensures.items ∙ c.self.view_is) c.get.result (c.get.ensures.value ∙ c.index-index.ensures.value) c.open.result (unpacked c.args.packed c.args.chare) c.open.ensures.value
+    c.in-Ok-insert.ensures.items ∙ insert_is gap c.reserve.new.self.items (c.in-Ok.ensures.items ∙ c.self.view_is) c.get.result
+    (c.get.ensures.value ∙ c.index-index.ensures.value) c.open.result (unpacked c.args.packed c.args.chare) c.open.ensures.value

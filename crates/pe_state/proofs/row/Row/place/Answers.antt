@@ -14,8 +14,11 @@ insert-requires g c = let n = c.in-Err.ensures.gap.inside in let l = ap length c
 pub invariant_of-self-2 : goal.invariant_of-self-2
 invariant_of-self-2 g c =
     let w : IsWithin 0 ELEMENTS c.args.self.now = subst (λ (r : List (ℕ × ElementView g.row.C.Denot)). IsWithin 0 ELEMENTS r) c.self.view_is c.self.invariant in
-    let is = c.in-Ok.ensures.items ∙ insert_is c.in-Err.ensures.gap c.self.inside.items.items c.self.view_is c.get.result c.get.ensures.value c.new.result (opening_element c.args.index c.args.chare) c.new.ensures.value in
-    subst (λ (r : List (ℕ × ElementView g.row.C.Denot)). IsWithin 0 ELEMENTS r) (sym is) (within_joined 0 ELEMENTS c.args.index (opening_element c.args.index c.args.chare) c.args.self.now (omega arith) c.get.ensures.in_range w)
+    let is = c.in-Ok.ensures.items ∙ insert_is c.in-Err.ensures.gap c.self.inside.items.items c.self.view_is c.get.result
+    c.get.ensures.value c.new.result (opening_element c.args.index c.args.chare) c.new.ensures.value in
+    subst (λ (r : List (ℕ × ElementView g.row.C.Denot)). IsWithin 0 ELEMENTS r) (sym is)
+    (within_joined 0 ELEMENTS c.args.index (opening_element c.args.index c.args.chare) c.args.self.now (omega arith) c.get.ensures.in_range w)
 
 pub returns-clause-ok : goal.returns-clause-ok
-returns-clause-ok g c = c.in-Ok.ensures.items ∙ insert_is c.in-Err.ensures.gap c.self.inside.items.items c.self.view_is c.get.result c.get.ensures.value c.new.result (opening_element c.args.index c.args.chare) c.new.ensures.value
+returns-clause-ok g c = c.in-Ok.ensures.items ∙ insert_is c.in-Err.ensures.gap c.self.inside.items.items c.self.view_is c.get.result
+    c.get.ensures.value c.new.result (opening_element c.args.index c.args.chare) c.new.ensures.value

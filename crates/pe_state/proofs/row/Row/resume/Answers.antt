@@ -26,7 +26,9 @@ invariant_of-self g c =
     let w : IsWithin 0 ELEMENTS c.args.self.now = subst (λ (r : List (ℕ × ElementView g.row.C.Denot)). IsWithin 0 ELEMENTS r) c.self.view_is c.self.invariant in
     let at = c.in-Ok.ensures.hit in
     let read = c.index_mut.ensures.value ∙ ap (λ r. get_or r c.in-Ok.place c.index_mut.result.now) c.self.view_is in
-    subst (λ (r : List (ℕ × ElementView g.row.C.Denot)). IsWithin 0 ELEMENTS r) (sym (edit_is at read c.self.inside.items.items c.self.view_is c.resume.new.self)) (within_changed 0 ELEMENTS c.args.index c.resume.new.self c.args.self.now w)
+    subst (λ (r : List (ℕ × ElementView g.row.C.Denot)). IsWithin 0 ELEMENTS r)
+    (sym (edit_is at read c.self.inside.items.items c.self.view_is c.resume.new.self))
+    (within_changed 0 ELEMENTS c.args.index c.resume.new.self c.args.self.now w)
 
 pub returns-clause-room : goal.returns-clause-room
 returns-clause-room g c =

@@ -12,7 +12,8 @@ loop-low-preserved-then-key-index-2 g c =
     record {
       in_order = omega arith;
       inside = search rules;
-      below = before 0 ELEMENTS c.args.self.now w (c.loop-low.low + (c.loop-low.high - c.loop-low.low) / 2) c.args.index c.index.result.now (omega arith) (subst (λ (x : ℕ × ElementView g.row.C.Denot). x.0 < c.args.index) read c.if-key-index-2.true);
+      below = before 0 ELEMENTS c.args.self.now w (c.loop-low.low + (c.loop-low.high - c.loop-low.low) / 2) c.args.index c.index.result.now
+          (omega arith) (subst (λ (x : ℕ × ElementView g.row.C.Denot). x.0 < c.args.index) read c.if-key-index-2.true);
       above = search rules;
     }
 
@@ -25,5 +26,6 @@ loop-low-preserved g c =
       in_order = omega arith;
       inside = omega arith;
       below = search rules;
-      above = behind 0 ELEMENTS c.args.self.now w (c.loop-low.low + (c.loop-low.high - c.loop-low.low) / 2) c.args.index c.index.result.now (omega arith) (subst (λ (x : ℕ × ElementView g.row.C.Denot). c.args.index < x.0) read over);
+      above = behind 0 ELEMENTS c.args.self.now w (c.loop-low.low + (c.loop-low.high - c.loop-low.low) / 2) c.args.index c.index.result.now
+          (omega arith) (subst (λ (x : ℕ × ElementView g.row.C.Denot). c.args.index < x.0) read over);
     }

@@ -8,7 +8,8 @@ use Rattle.pup_pack.proofs.text.TextPup.unpack.Goals as goal
 pub returns-in-Ok-clause-answer : goal.returns-in-Ok-clause-answer
 returns-in-Ok-clause-answer g c =
     let same = ap (λ v. v.items) c.in-Ok.ensures.ok ∙ c.into_vec.ensures.value in
-    rw c.new.ensures.value (text_read (unpack_bytes c.args.bytes.now) c.in_ok-found.found c.in-Ok.text.bytes.items c.in_ok-found.len c.in_ok-found.ensures.answer same (IsUtf8-had _ c.in-Ok.text.ok))
+    rw c.new.ensures.value (text_read (unpack_bytes c.args.bytes.now) c.in_ok-found.found c.in-Ok.text.bytes.items c.in_ok-found.len
+    c.in_ok-found.ensures.answer same (IsUtf8-had _ c.in-Ok.text.ok))
 
 pub returns-clause-answer : goal.returns-clause-answer
 returns-clause-answer g c =

@@ -20,7 +20,8 @@ returns-clause-sends g c =
     let f = λ (chare : g.row.C.Denot). posted c.args.sends.now (letters (user_pack g.C.Message.Pup.pack) (step chare).sends) in
     let chare : c.self.inside.chare ≡ c.args.self.now.chare = ap (λ r. r.chare) c.self.view_is in
     let node : c.self.inside.node ≡ c.args.self.now.node = ap (λ r. r.node) c.self.view_is in
-    let advance = λ (node : NodeView g.row.C-Value.Denot) (value : Option g.row.C-Value.Denot). (contributed g.C.Value.Combines.combined n me (with_waits node c.args.waits) value).goes_on in
+    let advance = λ (node : NodeView g.row.C-Value.Denot)
+    (value : Option g.row.C-Value.Denot). (contributed g.C.Value.Combines.combined n me (with_waits node c.args.waits) value).goes_on in
     and_passed_on c.args.sends.now c.given.new.sends c.pass_on.new.sends g.C.Message.Pup.pack g.C.Value.Pup.pack (step c.args.self.now.chare).sends n me c.plan-goes_on.result
     (advance c.args.self.now.node (step c.args.self.now.chare).contribution)
     c.requires.same_array (c.in_ok-reacted.ensures.sends ∙ ap f chare) c.in_default.ensures.ok

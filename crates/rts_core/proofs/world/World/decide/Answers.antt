@@ -5,7 +5,8 @@ use Rattle.rts_core.proofs.world.World.decide.Goals as goal
 
 pub invariant_of-self : goal.invariant_of-self
 invariant_of-self g c =
-    let w : WorldView g.row.C.Denot g.row.A.Denot = record { pes = c.self.inside.pes.items; queues = c.self.inside.queues.items; words = c.self.inside.words.items; board = c.self.inside.board } in (
+    let w : WorldView g.row.C.Denot g.row.A.Denot = record
+    { pes = c.self.inside.pes.items; queues = c.self.inside.queues.items; words = c.self.inside.words.items; board = c.self.inside.board } in (
       world_board (length g.H.Openings.opened) g.H.Openings.pes w c.decide.new.board c.self.invariant.0 c.decide.ensures.counted c.decide.ensures.pes,
       histories_board g.C.Chare.step g.C.Pup.fits g.C.Pup.pack g.H.Openings.opened w c.decide.new.board c.self.invariant.1,
       c.self.invariant.2,
@@ -14,12 +15,14 @@ invariant_of-self g c =
 
 pub returns-clause-ok : goal.returns-clause-ok
 returns-clause-ok g c =
-    let w : WorldView g.row.C.Denot g.row.A.Denot = record { pes = c.self.inside.pes.items; queues = c.self.inside.queues.items; words = c.self.inside.words.items; board = c.self.inside.board } in
+    let w : WorldView g.row.C.Denot g.row.A.Denot = record
+    { pes = c.self.inside.pes.items; queues = c.self.inside.queues.items; words = c.self.inside.words.items; board = c.self.inside.board } in
     rw (← c.self.view_is) (decided_alone c.decide.result w c.decide.new.board c.decide.ensures.ok)
 
 pub returns-clause-err : goal.returns-clause-err
 returns-clause-err g c =
-    let w : WorldView g.row.C.Denot g.row.A.Denot = record { pes = c.self.inside.pes.items; queues = c.self.inside.queues.items; words = c.self.inside.words.items; board = c.self.inside.board } in
+    let w : WorldView g.row.C.Denot g.row.A.Denot = record
+    { pes = c.self.inside.pes.items; queues = c.self.inside.queues.items; words = c.self.inside.words.items; board = c.self.inside.board } in
     rw (← c.self.view_is) (board_same c.decide.result w c.decide.new.board c.decide.ensures.err)
 
 pub returns-clause-refused : goal.returns-clause-refused

@@ -11,10 +11,16 @@ invariant_of-result g c =
     let few : c.len-n.result ≤ ELEMENTS = omega (arith, c.requires.few) in
     let states = c.in_ok-states.states.items in
     rw (c.in_ok-queues.ensures.value, c.of-count.ensures.value, c.in_ok-board.ensures.made, ← c.requires.run) (
-      rw (← same) (opening_is_world c.len-n.result c.args.pes c.args.strategy states c.in_ok-words.words.items c.requires.some_pe c.requires.few_pes few (c.in_ok-states.ensures.counted ∙ c.of-count.ensures.value) (rw c.of-count.ensures.value at c.in_ok-words.ensures.value) (rw c.of-count.ensures.value at c.in_ok-words.ensures.named)),
+      rw (← same) (opening_is_world c.len-n.result c.args.pes c.args.strategy states c.in_ok-words.words.items c.requires.some_pe
+          c.requires.few_pes few (c.in_ok-states.ensures.counted ∙ c.of-count.ensures.value)
+          (rw c.of-count.ensures.value at c.in_ok-words.ensures.value) (rw c.of-count.ensures.value at c.in_ok-words.ensures.named)),
       opening_run g.C.Chare.step g.C.Pup.fits g.C.Pup.pack g.H.Openings.opened c.args.pes states c.in_ok-words.words.items _ c.in_ok-states.ensures.histories,
-      sent_open {A = g.row.A.Denot} g.C.Chare.step c.args.pes c.args.chares.items g.H.Openings.opened c.args.strategy states c.in_ok-words.words.items (new_board c.len-n.result c.args.pes c.args.strategy) c.requires.some_pe (rw c.of-count.ensures.value at c.in_ok-states.ensures.value) c.requires.opened,
-      counted_open {A = g.row.A.Denot} g.C.Chare.step c.args.pes c.args.chares.items g.H.Openings.opened c.args.strategy states c.in_ok-words.words.items (new_board c.len-n.result c.args.pes c.args.strategy) c.requires.some_pe (rw c.of-count.ensures.value at c.in_ok-states.ensures.value),
+      sent_open {A = g.row.A.Denot} g.C.Chare.step c.args.pes c.args.chares.items g.H.Openings.opened c.args.strategy states
+          c.in_ok-words.words.items (new_board c.len-n.result c.args.pes c.args.strategy) c.requires.some_pe
+          (rw c.of-count.ensures.value at c.in_ok-states.ensures.value) c.requires.opened,
+      counted_open {A = g.row.A.Denot} g.C.Chare.step c.args.pes c.args.chares.items g.H.Openings.opened c.args.strategy states
+          c.in_ok-words.words.items (new_board c.len-n.result c.args.pes c.args.strategy) c.requires.some_pe
+          (rw c.of-count.ensures.value at c.in_ok-states.ensures.value),
     )
 
 pub returns-clause-made : goal.returns-clause-made

@@ -8,7 +8,14 @@ pub open_workers-requires-clause-in_order : goal.open_workers-requires-clause-in
 open_workers-requires-clause-in_order g c = rw c.from_vec-states.ensures.items c.self.invariant.0.in_order
 
 pub open_workers-requires-clause-as_many : goal.open_workers-requires-clause-as_many
-open_workers-requires-clause-as_many g c = omega (arith, ap length c.from_vec-states.ensures.items, ap length c.from_vec-seats.ensures.items, c.self.invariant.0.counted, c.self.invariant.0.shared, length-map c.self.inside.seats.items (λ s. s.seats))
+open_workers-requires-clause-as_many g c = omega (
+  arith,
+  ap length c.from_vec-states.ensures.items,
+  ap length c.from_vec-seats.ensures.items,
+  c.self.invariant.0.counted,
+  c.self.invariant.0.shared,
+  length-map c.self.inside.seats.items (λ s. s.seats),
+)
 
 pub open_workers-requires-clause-new : goal.open_workers-requires-clause-new
 open_workers-requires-clause-new g c =

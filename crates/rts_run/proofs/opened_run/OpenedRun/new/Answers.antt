@@ -11,7 +11,8 @@ use Rattle.rts_run.proofs.opened_run.OpenedRun.new.Goals as goal
 pub invariant_of-result : goal.invariant_of-result
 invariant_of-result g c =
     let n = c.element_count-n.result in
-    let opens : c.in_ok-states.states.items ≡ opening_pes g.H.Openings.pes g.H.Openings.opened = c.in_ok-states.ensures.value ∙ (ap (λ v. opening_pes v c.args.chares.items) (c.of-pes.ensures.value ∙ c.requires.run) ∙ ap (opening_pes g.H.Openings.pes) c.requires.opened) in
+    let opens : c.in_ok-states.states.items ≡ opening_pes g.H.Openings.pes g.H.Openings.opened = c.in_ok-states.ensures.value
+    ∙ (ap (λ v. opening_pes v c.args.chares.items) (c.of-pes.ensures.value ∙ c.requires.run) ∙ ap (opening_pes g.H.Openings.pes) c.requires.opened) in
     let some : 1 ≤ g.H.Openings.pes = omega (arith, c.requires.run, c.requires.within.some_pe) in
     let counts = c.element_count-n.ensures.value ∙ ap length c.deref.ensures.value in
     let all : n ≡ length g.H.Openings.opened = counts ∙ ap length c.requires.opened in

@@ -11,11 +11,14 @@ use Rattle.at_sync.specs.declared.strategy.Strategy.TheVariants.{Least}
 
 pub unreachable-requires : goal.unreachable-requires
 unreachable-requires g c =
-    c.in_default.ensures.answer.0 (all_seats g.C.Chare.step g.C.Pup.fits g.C.Pup.pack g.H.Openings.opened g.J.RunBeginning.beginning c.self.inside.ends.items c.self.inside.seat c.self.invariant (search rules) c.requires.all_seats)
+    c.in_default.ensures.answer.0 (all_seats g.C.Chare.step g.C.Pup.fits g.C.Pup.pack g.H.Openings.opened g.J.RunBeginning.beginning
+    c.self.inside.ends.items c.self.inside.seat c.self.invariant (search rules) c.requires.all_seats)
 
 pub returns-clause-account : goal.returns-clause-account
 returns-clause-account g c =
-    rw c.release.ensures.parcels (accounted {B = Unit {0}} g.C.Chare.step g.C.Pup.fits g.C.Pup.pack g.H.Openings.opened g.J.RunBeginning.beginning c.self.inside.ends.items c.self.inside.seat c.in-Ok.left.items [] (new_board 0 0 Least) c.self.invariant c.in-Ok.ensures.left c.requires.beginning c.requires.in_order (search rules))
+    rw c.release.ensures.parcels (accounted {B = Unit {0}} g.C.Chare.step g.C.Pup.fits g.C.Pup.pack g.H.Openings.opened
+    g.J.RunBeginning.beginning c.self.inside.ends.items c.self.inside.seat c.in-Ok.left.items [] (new_board 0 0 Least) c.self.invariant
+    c.in-Ok.ensures.left c.requires.beginning c.requires.in_order (search rules))
 
 pub returns-clause-counted : goal.returns-clause-counted
 returns-clause-counted g c =

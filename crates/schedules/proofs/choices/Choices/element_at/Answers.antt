@@ -20,7 +20,8 @@ returns-in_err-at g c =
     let number : c.unwrap-element.result ≡ c.in_ok-number.number = search rules in
     record {
       value = some_element_is c.args.world.now c.args.self.now c.requires.knows flags c.args.place c.in_ok-number.number c.from_residual-in_err-at.result at
-          (c.from_residual-in_err-at.ensures ∙ ap (option_and_then (element_event c.args.world.now c.in_ok-number.number)) (c.in_err-at.ensures.value ∙ ap (slice_get c.args.self.now.places) number));
+          (c.from_residual-in_err-at.ensures ∙ ap (option_and_then (element_event c.args.world.now c.in_ok-number.number))
+          (c.in_err-at.ensures.value ∙ ap (slice_get c.args.self.now.places) number));
     }
 
 pub returns : goal.returns
@@ -37,5 +38,10 @@ returns g c =
 pub unwrap-element-requires : goal.unwrap-element-requires
 unwrap-element-requires g c =
     let below : c.in_ok-number.number < 65536 =
-    omega (arith, member_below c.self.inside.elements c.args.place c.in_ok-number.number (sym c.in_ok-number.ensures.value), c.self.invariant.elements, c.self.invariant.few_elements) in
+    omega (
+      arith,
+      member_below c.self.inside.elements c.args.place c.in_ok-number.number (sym c.in_ok-number.ensures.value),
+      c.self.invariant.elements,
+      c.self.invariant.few_elements,
+    ) in
     search rules

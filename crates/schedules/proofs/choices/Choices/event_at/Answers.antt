@@ -31,7 +31,8 @@ returns-in_err-pe_in-in-Flush g c =
     let at = c.in_err-pe_in-in-Flush.ensures.value ∙ ap (λ (v : ChoicesView). slice_get (members v.flushes) c.args.place) c.self.view_is in
     record {
       value = none_is c.args.world.now c.args.self.now c.requires.knows flags c.args.kind Flush Happening.Flush c.args.self.now.flushes c.args.place
-          (flush_is c.args.world.now c.args.self.now c.requires.knows flags) c.in-Flush.is at c.from_residual-in_err-pe_in-in-Flush.result c.from_residual-in_err-pe_in-in-Flush.ensures;
+          (flush_is c.args.world.now c.args.self.now c.requires.knows flags) c.in-Flush.is at c.from_residual-in_err-pe_in-in-Flush.result
+          c.from_residual-in_err-pe_in-in-Flush.ensures;
     }
 
 pub returns-in_ok-pe_in-in-Flush : goal.returns-in_ok-pe_in-in-Flush
@@ -49,7 +50,8 @@ returns-in_err-pe_in-in-Deliver g c =
     let at = c.in_err-pe_in-in-Deliver.ensures.value ∙ ap (λ (v : ChoicesView). slice_get (members v.delivers) c.args.place) c.self.view_is in
     record {
       value = none_is c.args.world.now c.args.self.now c.requires.knows flags c.args.kind Deliver Happening.Deliver c.args.self.now.delivers c.args.place
-          (deliver_is c.args.world.now c.args.self.now c.requires.knows flags) c.in-Deliver.is at c.from_residual-in_err-pe_in-in-Deliver.result c.from_residual-in_err-pe_in-in-Deliver.ensures;
+          (deliver_is c.args.world.now c.args.self.now c.requires.knows flags) c.in-Deliver.is at
+          c.from_residual-in_err-pe_in-in-Deliver.result c.from_residual-in_err-pe_in-in-Deliver.ensures;
     }
 
 pub returns-in_ok-pe_in-in-Deliver : goal.returns-in_ok-pe_in-in-Deliver
@@ -57,7 +59,8 @@ returns-in_ok-pe_in-in-Deliver g c =
     let flags : AreFlags c.args.self.now = subst (λ (v : ChoicesView). AreFlags v) c.self.view_is c.self.invariant in
     let at = c.in_ok-pe_in-in-Deliver.ensures.value ∙ ap (λ (v : ChoicesView). slice_get (members v.delivers) c.args.place) c.self.view_is in
     record {
-      value = some_is c.args.world.now c.args.self.now c.requires.knows flags c.args.kind Deliver Happening.Deliver c.args.self.now.delivers c.args.place c.in_ok-pe_in-in-Deliver.field-0
+      value = some_is c.args.world.now c.args.self.now c.requires.knows flags c.args.kind Deliver Happening.Deliver c.args.self.now.delivers
+          c.args.place c.in_ok-pe_in-in-Deliver.field-0
           (deliver_is c.args.world.now c.args.self.now c.requires.knows flags) c.in-Deliver.is at;
     }
 
@@ -85,7 +88,8 @@ returns-in_err-pe_in-in-Report g c =
     let at = c.in_err-pe_in-in-Report.ensures.value ∙ ap (λ (v : ChoicesView). slice_get (members v.reports) c.args.place) c.self.view_is in
     record {
       value = none_is c.args.world.now c.args.self.now c.requires.knows flags c.args.kind Report Happening.Report c.args.self.now.reports c.args.place
-          (report_is c.args.world.now c.args.self.now c.requires.knows flags) c.in-Report.is at c.from_residual-in_err-pe_in-in-Report.result c.from_residual-in_err-pe_in-in-Report.ensures;
+          (report_is c.args.world.now c.args.self.now c.requires.knows flags) c.in-Report.is at
+          c.from_residual-in_err-pe_in-in-Report.result c.from_residual-in_err-pe_in-in-Report.ensures;
     }
 
 pub returns-in_ok-pe_in-in-Report : goal.returns-in_ok-pe_in-in-Report
@@ -93,6 +97,7 @@ returns-in_ok-pe_in-in-Report g c =
     let flags : AreFlags c.args.self.now = subst (λ (v : ChoicesView). AreFlags v) c.self.view_is c.self.invariant in
     let at = c.in_ok-pe_in-in-Report.ensures.value ∙ ap (λ (v : ChoicesView). slice_get (members v.reports) c.args.place) c.self.view_is in
     record {
-      value = some_is c.args.world.now c.args.self.now c.requires.knows flags c.args.kind Report Happening.Report c.args.self.now.reports c.args.place c.in_ok-pe_in-in-Report.field-0
+      value = some_is c.args.world.now c.args.self.now c.requires.knows flags c.args.kind Report Happening.Report c.args.self.now.reports
+          c.args.place c.in_ok-pe_in-in-Report.field-0
           (report_is c.args.world.now c.args.self.now c.requires.knows flags) c.in-Report.is at;
     }

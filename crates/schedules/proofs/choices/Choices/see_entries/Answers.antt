@@ -13,5 +13,6 @@ loop-entry-preserved g c =
           c.loop-entry-test.true c.entry-item.is at.invariant.only c.settle_one.ensures.only c.see_entry.ensures.only;
       silent = step_silent c.args.world.now at.self c.settle_one.new.self c.see_entry.new.self c.args.p entry (drop (at.entry-index + 1) c.args.entries.now)
           c.settle_one.ensures.only c.see_entry.ensures.only c.see_entry.ensures.here c.see_entry.ensures.others
-          (subst (λ (xs : List TraceEntry). (e : ℕ) → AreSilent e xs → KnowsElement c.args.world.now at.self e) (drop_here c.args.entries.now at.entry-index entry c.loop-entry-test.true c.entry-item.is) at.invariant.silent);
+          (subst (λ (xs : List TraceEntry). (e : ℕ) → AreSilent e xs → KnowsElement c.args.world.now at.self e)
+          (drop_here c.args.entries.now at.entry-index entry c.loop-entry-test.true c.entry-item.is) at.invariant.silent);
     }

@@ -13,4 +13,5 @@ loop-number-preserved g c =
     }
 
 pub returns-clause-moves : goal.returns-clause-moves
-returns-clause-moves g c = all_moves c.args.world.now c.loop-number.self c.loop-number.number c.known-2.ensures.flags c.loop-number.invariant.counted (omega (arith, c.loop-number-test.false, c.pes-number-end.ensures.value)) c.loop-number.invariant.moves
+returns-clause-moves g c = all_moves c.args.world.now c.loop-number.self c.loop-number.number c.known-2.ensures.flags
+    c.loop-number.invariant.counted (omega (arith, c.loop-number-test.false, c.pes-number-end.ensures.value)) c.loop-number.invariant.moves

@@ -9,7 +9,10 @@ returns-then-left-eq0 g c =
     let view : c.self.inside.flags.items ≡ c.args.self.now = c.self.view_is in
     let is = c.index.ensures ∙ ap (λ (xs : List Bool). get_or xs c.loop-at.at c.index.result.now) view in
     let within : c.loop-at.at < length c.args.self.now = omega (arith, c.loop-at-test.true, c.len-at-end.ensures, ap length view) in
-    record { value = reached c.args.self.now c.loop-at.at (below c.args.self.now c.args.first + c.args.place) c.index.result.now c.if-index.true is within (omega (arith, c.loop-at.invariant, c.if-left-eq0.true)) }
+    record {
+      value = reached c.args.self.now c.loop-at.at (below c.args.self.now c.args.first + c.args.place) c.index.result.now
+          c.if-index.true is within (omega (arith, c.loop-at.invariant, c.if-left-eq0.true));
+    }
 
 pub loop-at-preserved : goal.loop-at-preserved
 loop-at-preserved g c =

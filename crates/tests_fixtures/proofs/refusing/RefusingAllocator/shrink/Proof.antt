@@ -68,7 +68,13 @@ module _ (Z : Al) (X : RattleType) where
   ended = F.ended Z.row X Z.g Z.d Z.drops
 
   abbrev stayed : Stays ended.signature.params ended.kept
-  stayed = (stay_dropped self yes, (stay_dropped (plain (λ _. RawPtr)) yes, (stay_dropped (plain (λ _. usize)) yes, (stay_dropped (plain (λ _. usize)) yes, (stay_dropped (plain (λ _. usize)) yes, tt)))))
+  stayed = (
+    stay_dropped self yes,
+    (
+      stay_dropped (plain (λ _. RawPtr)) yes,
+      (stay_dropped (plain (λ _. usize)) yes, (stay_dropped (plain (λ _. usize)) yes, (stay_dropped (plain (λ _. usize)) yes, tt))),
+    ),
+  )
 
 module _ (Z : Al) (X : RattleType) {M : Type 1} {𝓤 : Ura M} (𝓛 : Logic 𝓤) (at_mem : Memory → SProp 𝓤) (run : Routine → Fun 𝓤) (𝓣 : Tables 𝓤 𝓛.H)
     (re : Triple 𝓤 (𝓣.C (resize_key Z X 3)) (Resizes Z X (Shrinks X) 𝓛 at_mem run)) where
@@ -82,7 +88,16 @@ module _ (Z : Al) (X : RattleType) {M : Type 1} {𝓤 : Ura M} (𝓛 : Logic �
 
   module _ (κ ρ κT : Lft) (q s qT : Share) (out : κ ⊑ ρ) (r : Bor (wrapper.the_row Z.row).Denot) (len old new : ℕ) (xs : List X.Denot) where
     abbrev bound : Ptr → (walk_of 𝓛 (ended Z X) (stayed Z X) clauses).Ghost
-    bound x = (((κ, (ρ, (κT, tt))), (q, (s, (qT, tt))), (out, tt), (r, (x, (len, (old, (new, tt))))), (shr_vals r, (rawptr_vals x, (vint w64 len ∷ [], (vint w64 old ∷ [], (vint w64 new ∷ [], tt)))))), xs)
+    bound x = (
+      (
+        (κ, (ρ, (κT, tt))),
+        (q, (s, (qT, tt))),
+        (out, tt),
+        (r, (x, (len, (old, (new, tt))))),
+        (shr_vals r, (rawptr_vals x, (vint w64 len ∷ [], (vint w64 old ∷ [], (vint w64 new ∷ [], tt))))),
+      ),
+      xs,
+    )
 
     abbrev vs : Ptr → List Val
     vs x = vptr r.ref_ptr.0 r.ref_ptr.1 ∷ ptr_val x ∷ vint w64 len ∷ vint w64 old ∷ vint w64 new ∷ []
@@ -110,11 +125,13 @@ module _ (Z : Al) (X : RattleType) {M : Type 1} {𝓤 : Ura M} (𝓛 : Logic �
         heard_all ! (ρ ⊑ Z.row.lives) (κT ⊑ X.lives) (Shrinks X len old new) (block x) (λ le leT said. move ! (1 ∷ []) $ split ! $ split3 ! $ move ! (2 ∷ []) $ split ! $
         move ! (4 ∷ []) $ fsplit ! $ fsplit ! $ move ! (1 ∷ []) $ unhide ! $ fsplit ! $ fsplit ! $ use1 𝓛 (‵ (seen Z κ p h)) (id⊢ 𝓤 _) $ keep ! (0 ∷ 7 ∷ 9 ∷ 5 ∷ 8 ∷ []) $
         -- [the `&`; κ's token; the block; κT's and ρ's]
-        enter ! 𝓣.C 𝓣.Λ (here Z X) (vs x) _ $ alloc_all ! (λ l. pass_all ! refl ((tt, tt), ((tt, tt), ((tt, record { fits = fl }), ((tt, record { fits = fo }), ((tt, record { fits = fn }), tt))))) $
+        enter ! 𝓣.C 𝓣.Λ (here Z X) (vs x) _ $ alloc_all ! (λ l. pass_all ! refl
+        ((tt, tt), ((tt, tt), ((tt, record { fits = fl }), ((tt, record { fits = fo }), ((tt, record { fits = fn }), tt))))) $
         sets ! (addr ! (through ! refl (fld ! refl (stop !)))) refl (tt, tt) $
         move ! (1 ∷ 3 ∷ []) $ join ! $ move ! (1 ∷ 0 ∷ []) $ join ! $ move ! (1 ∷ 0 ∷ []) $ join ! $
         use1 𝓛 (raw (Called.pre y)) (Resizes-goes Z X (Shrinks X) 𝓛 at_mem run κ κT q qT p h b o len old new xs (⊑_trans κ ρ Z.row.lives out le) leT said fl fo fn) $
-        calls_at ! (fm_of 𝓤 H 𝓛.laws 𝓣) Called re y (and_then ! (get ! refl) (and_then ! (get ! refl) (and_then ! (get ! refl) (and_then ! (get ! refl) (and_then ! (get ! refl) (no_more !)))))) (λ v.
+        calls_at ! (fm_of 𝓤 H 𝓛.laws 𝓣) Called re y (and_then ! (get ! refl)
+        (and_then ! (get ! refl) (and_then ! (get ! refl) (and_then ! (get ! refl) (and_then ! (get ! refl) (no_more !)))))) (λ v.
         use1 𝓛 (later (some (λ (c : Bool × (ℕ × ℕ)). given (v ≡ answer_val c.0 c.1.0 c.1.1) (‵ (left (result_of c.0 c.1.0 c.1.1)))) ⊛ ‵ (flft κ q) ⊛ ‵ (flft κT qT)))
         (Resizes-gives Z X (Shrinks X) 𝓛 at_mem run κ κT q qT p h b o len old new xs v) $ await ! tt $ split3 ! $ pick ! (λ c. learn ! (λ e.
         let res : Answer.Denot = result_of c.0 c.1.0 c.1.1 in
@@ -134,7 +151,13 @@ shrink_spec 𝓤 𝓛 𝓜 𝓡 wired Y X LY LX g d d' met _ =
     let c = F.clauses Y X g d d' 𝓛 𝓜.mem 𝓡.returns in
     let gone = λ (V : RattleType). Goes-dropped 𝓛 3 (plain (λ _. V)) yes in
     entered 𝓤 𝓛.H (triple_of 𝓛 (F.signature Y X) (F.spec Y X g d d' 𝓛 𝓜.mem 𝓡.returns)) 𝓣.C 𝓣.Λ (key.name (args Z X)) (here Z X) (code.unfolded 𝓤 𝓛.H 𝓜 𝓡 wired (Y, (X, tt)) d d')
-    (walk_Meets 𝓛 (ended Z X) (stayed Z X) (Goes-dropped 𝓛 3 (self Z X) yes (λ κs x f. refl), (gone RawPtr (λ κs x f. refl), (gone usize (λ κs x f. refl), (gone usize (λ κs x f. refl), (gone usize (λ κs x f. refl), tt))))) c (WpFn 𝓤 𝓛.H 𝓣.C 𝓣.Λ (here Z X)) (WpFn-mono 𝓤 𝓛.H 𝓛.laws 𝓣 (here Z X))
-    (walked 𝓛 (ended Z X) (stayed Z X) c (WpFn 𝓤 𝓛.H 𝓣.C 𝓣.Λ (here Z X)) (λ κs. (shr_vals, (rawptr_vals, (uint_vals w64, (uint_vals w64, (uint_vals w64, tt)))))) (λ κs. ((λ r vs s. s.0), (rawptr_Tells, (uint_Tells w64, (uint_Tells w64, (uint_Tells w64, tt))))))
+    (walk_Meets 𝓛 (ended Z X) (stayed Z X) (
+      Goes-dropped 𝓛 3 (self Z X) yes (λ κs x f. refl),
+      (gone RawPtr (λ κs x f. refl), (gone usize (λ κs x f. refl), (gone usize (λ κs x f. refl), (gone usize (λ κs x f. refl), tt)))),
+    ) c
+    (WpFn 𝓤 𝓛.H 𝓣.C 𝓣.Λ (here Z X)) (WpFn-mono 𝓤 𝓛.H 𝓛.laws 𝓣 (here Z X))
+    (walked 𝓛 (ended Z X) (stayed Z X) c (WpFn 𝓤 𝓛.H 𝓣.C 𝓣.Λ (here Z X))
+    (λ κs. (shr_vals, (rawptr_vals, (uint_vals w64, (uint_vals w64, (uint_vals w64, tt))))))
+    (λ κs. ((λ r vs s. s.0), (rawptr_Tells, (uint_Tells w64, (uint_Tells w64, (uint_Tells w64, tt))))))
     (λ κs qs bounds a xs are. walk Z X 𝓛 𝓜.mem 𝓡.returns 𝓣 (met.shrink d' X LX)
     κs.0 κs.1.0 κs.1.1.0 qs.0 qs.1.0 qs.1.1.0 bounds.0 a.0 a.1.1.0 a.1.1.1.0 a.1.1.1.1.0 xs are.1.1.0.1 are.1.1.1.0.1 are.1.1.1.1.0.1 a.1.0)))
