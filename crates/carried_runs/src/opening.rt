@@ -14,7 +14,7 @@ ghost use Rattle.rts_run.specs.Outcomes.{IsOutcome};
 use crate::reopening::{places_of, reopen_all};
 use at_sync::Board;
 use barrier::RunStrategy;
-use chare_index::Limits;
+use chare_index::{Limits, Pes};
 use chares::{Chare, Openings};
 use pe_queues::{Locations, Post, Seat};
 use pe_state::{HeldParcel, Parcel, PeEnd, PeState};
@@ -87,7 +87,7 @@ fn words_of<C: Chare<A>, H: Openings<C> + RunStrategy, A: Allocator + Copy>(
     ensures pes { IfOk result (λ words. words.pes ≡ H.pes) }
     ensures elements { IfOk result (λ words. words.elements ≡ n) }
 {
-    let places = places_of::<C, H, A>(alloc, n, config.pes, states)?;
+    let places = places_of::<C, H, A>(alloc, n, Pes::of(config.pes), states)?;
     let words = Locations::new(alloc, &places, config.pes)?;
     Ok(words)
 }

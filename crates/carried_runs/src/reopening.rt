@@ -59,11 +59,9 @@ pub(crate) fn places_of<C: Chare<A>, H: Openings<C>, A: Allocator + Copy>(
 fn homes_of<C, H: Openings<C>, A: Allocator>(
     alloc: A,
     n: u32,
-    pes: u32,
+    pes: Pes,
 ) -> Result<Vec<Pe, A>, AllocError>
     requires few { n ≤ Limits.ELEMENTS }
-    requires some_pe { 1 ≤ pes }
-    requires few_pes { pes ≤ Limits.PES }
     requires run { pes ≡ H.pes }
     ensures counted { IfOk result (λ places. length places.items ≡ n) }
     ensures named { IfOk result (λ places. All (λ q. q < H.pes) places.items) }
