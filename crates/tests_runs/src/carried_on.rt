@@ -1,20 +1,23 @@
 //! Runs that are stopped at one moment or another and carried on: they end as one that was never stopped.
 
-use crate::fixtures::{assert_for, expect_text, patient};
+use crate::errand::Errand;
+use crate::fixtures::{account, assert_for, expect_text, patient};
 use crate::found::compare;
-use crate::stopped::Patience;
+use crate::stopped::{Patience, that_wait};
 use crate::tallies::{EXAMPLE, EXAMPLE_TEXT, tallies, text_of};
 use carried_runs::carry_on;
 use chare_index::NoGate;
 use chares::Chare;
-use pe_worker::NoWatch;
-use rts_run::{Config, History, Outcome, run_watched};
+use pe_worker::{Fault, NoWatch};
+use rts_run::{Config, History, Outcome, RunError, run_watched};
 use std::alloc::Global;
 use std::process::Abort;
 use std::snapshot::Snapshot;
 use std::sync::Wait;
 use std::thread::Threads;
+use tally::Tally;
 use tests_chares::Relay;
+use tests_fixtures::Refusing;
 
 // Stops a run of these chares after so many questions, carries it on for as many, and then to its end.
 fn run_in_parts<C: Chare<Global> + Send, R: Threads + Wait + Sync + Abort + AllocGlobal>(
@@ -108,4 +111,110 @@ fn letters_that_are_handed_on_in_parts(rt: HostRuntime) {
     for questions in 0..60u64 {
         expect_relays(&rt, questions);
     }
+}
+
+// Runs two elements that wait for letters which nobody sends, and carries that on.
+fn run_twice<R: Threads + Wait + Sync + Abort + AllocGlobal>(rt: &R) -> Outcome<Errand> {
+    let errands = that_wait(rt, 2);
+    let config = patient(2, 4);
+    let opening = Snapshot::of(&errands);
+    let outcome = run_watched(rt, rt.alloc(), &config, &NoGate, &NoWatch, errands);
+    let outcome = outcome.expect(rt, "the run did not begin");
+    let outcome = carry_on(
+        rt,
+        rt.alloc(),
+        &config,
+        &NoGate,
+        &NoWatch,
+        &opening,
+        outcome,
+    );
+    outcome.expect(rt, "the run was not carried on")
+}
+
+#[test]
+fn a_run_with_nothing_left_to_do_has_nothing_to_carry_on(rt: HostRuntime) {
+    let outcome = run_twice(&rt);
+    compare(&rt, &outcome, 2);
+    let found = (outcome.fault(), outcome.account());
+    drop(outcome);
+    assert_for(&rt, found == (Some(Fault::Quiet), account(4, 4, 0)), found);
+}
+
+// A tally, and what a run of tallies leaves, with this allocator.
+type Lent<'a> = &'a Refusing<Global>;
+
+// How often a request was refused as a run was carried on, so that it did not begin, or ended early; and how often the run ended well
+// although a request was refused before.
+#[derive(Default, Drop)]
+struct Counts {
+    refused: u64,
+    early: u64,
+    well: u64,
+}
+
+fn expect_whole<'a>(
+    rt: &(impl Abort + AllocGlobal),
+    counts: &mut Counts,
+    outcome: &Outcome<Tally<Lent<'a>>, Lent<'a>>,
+    turn: u64,
+) {
+    compare(rt, outcome, 4);
+    if outcome.fault() == None {
+        counts.well = counts.well.saturating_add(1);
+        let text = text_of(rt, outcome);
+        assert_for(rt, text.as_str() == EXAMPLE_TEXT, turn);
+    } else {
+        counts.early = counts.early.saturating_add(1);
+        let memory = outcome.fault() == Some(Fault::OutOfMemory);
+        assert_for(rt, memory, turn);
+    }
+}
+
+// What both parts of a run leave, or `None` where the first did not begin. Says whether the second was refused.
+fn parts_of<'a, R: Threads + Wait + Sync + Abort + AllocGlobal>(
+    rt: &R,
+    alloc: Lent<'a>,
+    chares: Vec<Tally<Lent<'a>>, Lent<'a>>,
+) -> Option<Result<Outcome<Tally<Lent<'a>>, Lent<'a>>, RunError>> {
+    let opening = Snapshot::of(&chares);
+    let config = patient(2, 1_024);
+    let watch = Patience::of(12);
+    match run_watched(rt, alloc, &config, &NoGate, &watch, chares) {
+        Ok(outcome) => Some(carry_on(rt, alloc, &config, &NoGate, &NoWatch, &opening, outcome)),
+        Err(_) => None,
+    }
+}
+
+// A run in which this request is refused, before or after it is carried on, and whether it was made.
+fn refuses<R: Threads + Wait + Sync + Abort + AllocGlobal>(
+    rt: &R,
+    counts: &mut Counts,
+    turn: u64,
+) -> bool {
+    let alloc = Refusing::new(rt.alloc(), turn);
+    let Ok(chares) = tallies(&alloc, &EXAMPLE) else {
+        return true;
+    };
+    match parts_of(rt, &alloc, chares) {
+        Some(Ok(outcome)) => {
+            expect_whole(rt, counts, &outcome, turn);
+            drop(outcome);
+        }
+        Some(Err(_)) => counts.refused = counts.refused.saturating_add(1),
+        None => {}
+    }
+    alloc.has_refused()
+}
+
+#[test]
+fn each_request_of_a_run_in_two_parts(rt: HostRuntime) {
+    let mut counts = Counts::default();
+    for turn in 1..2_000u64 {
+        if !refuses(&rt, &mut counts, turn) {
+            break;
+        }
+    }
+    let found = (counts.refused, counts.early, counts.well);
+    assert_for(&rt, found.0 > 10 && found.1 > 3 && found.2 > 10, found);
 }
