@@ -39,22 +39,22 @@ impl<A: Allocator> Levels<A> {
 /// the lists of steps.
 #[derive(Drop)]
 #[derive_where(Debug)]
-pub struct Bounds<A: Allocator = Global> {
+pub struct ByteBounds<A: Allocator = Global> {
     rows: Vec<Levels<A>, A>,
 }
 
-impl<A: Allocator> Model for Bounds<A> {
+impl<A: Allocator> Model for ByteBounds<A> {
     ghost Value = { List (List (ℕ × ℕ)) };
 
     ghost view = { λ b. b.rows.items };
 }
 
-impl<A: Allocator> Bounds<A> {
+impl<A: Allocator> ByteBounds<A> {
     /// These rows.
     pub fn new(rows: Vec<Levels<A>, A>) -> Self
         ensures value { result ≡ rows.items }
     {
-        Bounds { rows }
+        ByteBounds { rows }
     }
 
     /// The rows, in order of the number of blocks.

@@ -1,4 +1,4 @@
-use crate::levels::Bounds;
+use crate::levels::ByteBounds;
 use chain_refinement::Tolerance;
 use lb_certificates::{Cuts, Division, Naming};
 use std::alloc::{Allocator, Global};
@@ -18,7 +18,7 @@ pub struct Reordered<A: Allocator = Global> {
     pub names: Naming<A>,
     /// For 0 to as many blocks as there are PEs: at each place a lower bound on the bytes that this number of blocks move which
     /// end there.
-    pub any: Bounds<A>,
+    pub any: ByteBounds<A>,
     /// The same where none of these blocks runs on the PE of the element behind them.
-    pub free: Bounds<A>,
+    pub free: ByteBounds<A>,
 }

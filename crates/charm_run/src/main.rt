@@ -9,7 +9,7 @@
 //!   the status; `write_beside`: the list of events and the trace, where they are asked for and there was a run.
 //! - `one_thread`: the runs on one thread, by the crate `schedule_run`. `traces`: the trace of a run, by `run_trace`. `files`: the
 //!   files of the system.
-//! - `progress_line::Progress`: what is written to the standard error meanwhile; `streams::Advice`: what is printed about a
+//! - `progress_line::ShownProgress`: what is written to the standard error meanwhile; `streams::Advice`: what is printed about a
 //!   file with a fault.
 #![tactic(auto)]
 
@@ -23,7 +23,7 @@ use crate::traces::{Onlookers, keep_recorded, lose_trace};
 use at_sync::Strategy;
 use chain_refinement::Tolerance;
 use program_words::{BAD_FILE, on_words, refused};
-use progress_line::Progress;
+use progress_line::ShownProgress;
 use rts_run::History;
 use run_command_line::{Asked, Task, asked, refuse};
 use run_trace::Tracing;
@@ -77,7 +77,7 @@ fn run_on_threads<
     R: Threads + Wait + Sync + Files + Clock + Print + Eprint + AllocGlobal,
     E: Write,
 >(rt: &R, asked: &Asked<'_>, progress: bool, errors: &mut E) -> u8 {
-    let progress = Progress::new(rt, progress).unwrap_or(Progress::Off);
+    let progress = ShownProgress::new(rt, progress).unwrap_or(ShownProgress::Off);
     match Tracing::new(rt, rt.alloc(), asked.trace.is_some()) {
         Ok(tracing) => run_watched(rt, asked, Onlookers { progress, tracing }, errors),
         Err(error) => lose_trace(rt, asked, error, &mut io::writer(rt)),

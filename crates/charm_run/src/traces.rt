@@ -3,7 +3,7 @@
 use crate::files::keep_file;
 use chare_index::{Pe, Round};
 use pe_worker::{PeStep, Watch};
-use progress_line::Progress;
+use progress_line::ShownProgress;
 use rts_run::Outcome;
 use run_command_line::Asked;
 use run_trace::{Timeline, TraceError, Tracing, write_trace};
@@ -18,7 +18,7 @@ use workload_run::{Beside, BesideText, Driven, Onlooker, report_lost, status_bes
 /// The watches of a run over threads: the progress line, and the recorder of a trace.
 #[derive(Drop)]
 pub(crate) struct Onlookers<'a, R> {
-    pub(crate) progress: Progress<'a, R>,
+    pub(crate) progress: ShownProgress<'a, R>,
     pub(crate) tracing: Tracing<'a, R>,
 }
 

@@ -13,7 +13,7 @@ use crate::words::{RunOptions, read_options};
 use at_sync::Strategy;
 use chain_refinement::Tolerance;
 use hot_spot_run::{ending_of, run_chain_watched, text_of};
-use hot_spot_strip::{Chain, ChainError, Mode, Strip};
+use hot_spot_strip::{Mode, Strip, StripChain, StripChainError};
 use pe_worker::Watch;
 use program_words::{NO_OUTPUT, RUN_FAULT, on_words, refused};
 use rts_run::{Config, History, Outcome};
@@ -45,7 +45,7 @@ fn run_asked<R: Threads + Wait + Sync + Files + Clock + Print + Eprint + AllocGl
     let Ok(cells) = cells_of(rt, options.elements) else {
         return NO_OUTPUT;
     };
-    let chain = Chain {
+    let chain = StripChain {
         mode: if options.is_static {
             Mode::Static
         } else {
@@ -74,7 +74,7 @@ fn cells_of<R: AllocGlobal>(rt: &R, strips: u32) -> Result<Vec<u32>, AllocError>
 // Runs a chain, prints what it left, and writes its trace, if one is asked for.
 fn run_traced<R: Threads + Wait + Sync + Files + Clock + Print + Eprint + AllocGlobal>(
     rt: &R,
-    chain: &Chain<'_>,
+    chain: &StripChain<'_>,
     options: &RunOptions<'_>,
 ) -> Result<u8, TraceError> {
     let tracing = Tracing::new(rt, rt.alloc(), options.trace.is_some())?;
@@ -125,10 +125,10 @@ fn keep_trace<R: Files + Eprint + AllocGlobal>(
 // Runs a chain and prints what it left. Returns the outcome, with the status for the case that nothing fails later.
 fn run_and_print<V: Watch + Sync, R: Threads + Wait + Sync + Clock + Print + Eprint + AllocGlobal>(
     rt: &R,
-    chain: &Chain<'_>,
+    chain: &StripChain<'_>,
     options: &RunOptions<'_>,
     watch: &V,
-) -> Result<(Outcome<Strip>, u8), ChainError> {
+) -> Result<(Outcome<Strip>, u8), StripChainError> {
     let config = Config {
         strategy: Strategy::within(options.tolerance.and_then(Tolerance::new)),
         history: if options.no_journal {

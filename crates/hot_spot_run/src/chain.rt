@@ -6,7 +6,7 @@ ghost use Rattle.hot_spot_strip.specs.Strips.{StripRefuses, strip_step};
 ghost use Rattle.rts_run.specs.Outcomes.{IsOutcome};
 
 use chare_index::NoGate;
-use hot_spot_strip::{Chain, ChainError, Strip};
+use hot_spot_strip::{Strip, StripChain, StripChainError};
 use pe_worker::{NoWatch, Watch};
 use pup_pack::Pup;
 use rts_run::{Config, Outcome, RunError, run_watched};
@@ -18,14 +18,14 @@ use std::thread::Threads;
 ///
 /// # Errors
 ///
-/// [`Limit`](ChainError::Limit) where a number of the chain or of the config is out of its limits, or there are more strips
-/// than an array may have, and [`OutOfMemory`](ChainError::OutOfMemory). No thread was started then.
+/// [`Limit`](StripChainError::Limit) where a number of the chain or of the config is out of its limits, or there are more strips
+/// than an array may have, and [`OutOfMemory`](StripChainError::OutOfMemory). No thread was started then.
 pub fn run_chain<R: Threads + Wait + Sync, A: Allocator + Copy + Send + Sync>(
     rt: &R,
     alloc: A,
     config: &Config,
-    chain: &Chain<'_>,
-) -> Result<Outcome<Strip<A>, A>, ChainError>
+    chain: &StripChain<'_>,
+) -> Result<Outcome<Strip<A>, A>, StripChainError>
     ensures outcome { IfOk result (IsOutcome strip_step ⟦<Strip<A> as Pup<A>>⟧.fits ⟦<Strip<A> as Pup<A>>⟧.pack StripRefuses
         (opening_strips chain.now.mode chain.now.rounds chain.now.work 0 chain.now.cells.now) config.now.pes config.now.strategy) }
 {
@@ -46,15 +46,15 @@ pub fn run_chain_watched<
     alloc: A,
     config: &Config,
     watch: &V,
-    chain: &Chain<'_>,
-) -> Result<Outcome<Strip<A>, A>, ChainError>
+    chain: &StripChain<'_>,
+) -> Result<Outcome<Strip<A>, A>, StripChainError>
     ensures outcome { IfOk result (IsOutcome strip_step ⟦<Strip<A> as Pup<A>>⟧.fits ⟦<Strip<A> as Pup<A>>⟧.pack StripRefuses
         (opening_strips chain.now.mode chain.now.rounds chain.now.work 0 chain.now.cells.now) config.now.pes config.now.strategy) }
 {
     let strips = chain.strips(alloc)?;
     match run_watched(rt, alloc, config, &NoGate, watch, strips) {
         Ok(outcome) => Ok(outcome),
-        Err(RunError::Config(_)) => Err(ChainError::Limit),
-        Err(RunError::OutOfMemory) => Err(ChainError::OutOfMemory),
+        Err(RunError::Config(_)) => Err(StripChainError::Limit),
+        Err(RunError::OutOfMemory) => Err(StripChainError::OutOfMemory),
     }
 }

@@ -1,15 +1,15 @@
 //! Runs a chain of strips over threads, and reports the loads of each round and the checksum of all cells.
 //!
-//! - [`run_chain`]: the run of a [`Chain`]; [`run_chain_watched`]: the same, observed by a watch.
+//! - [`run_chain`]: the run of a [`StripChain`]; [`run_chain_watched`]: the same, observed by a watch.
 //! - [`text_of`]: a line for each round, and the checksum of all cells; [`ending_of`]: its last line; [`checksum`] alone.
 //!
 //! ```
 //! use hot_spot_run::{run_chain, text_of};
-//! use hot_spot_strip::{Chain, Mode};
+//! use hot_spot_strip::{StripChain, Mode};
 //! use rts_run::Config;
 //!
 //! // Three strips of two cells on two PEs, not balanced. Each cell takes one unit of work in the one round.
-//! let chain = Chain {
+//! let chain = StripChain {
 //!     mode: Mode::Static,
 //!     rounds: 1,
 //!     work: 0,

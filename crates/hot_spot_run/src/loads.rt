@@ -1,7 +1,7 @@
 //! The loads of the PEs in a round.
 
 use chare_index::{Index, Limits, opening_pe};
-use hot_spot_strip::{Chain, cell_work};
+use hot_spot_strip::{StripChain, cell_work};
 use lb_snapshot::Snapshot;
 use std::alloc::Allocator;
 
@@ -52,7 +52,7 @@ fn measured_on<A: Allocator>(snapshot: &Snapshot<A>, pe: u32) -> u64 {
 }
 
 /// The loads of a round, counted from 0, of a chain whose strips stay where they opened.
-pub(crate) fn expected(chain: &Chain<'_>, pes: u32, round: u32) -> Spread {
+pub(crate) fn expected(chain: &StripChain<'_>, pes: u32, round: u32) -> Spread {
     let mut spread = Spread::none();
     for pe in 0..pes {
         spread = spread.with(expected_on(chain, pes, pe, round));
@@ -61,7 +61,7 @@ pub(crate) fn expected(chain: &Chain<'_>, pes: u32, round: u32) -> Spread {
 }
 
 // The load of a PE in that round.
-fn expected_on(chain: &Chain<'_>, pes: u32, pe: u32, round: u32) -> u64 {
+fn expected_on(chain: &StripChain<'_>, pes: u32, pe: u32, round: u32) -> u64 {
     let mut load = 0u64;
     for (place, count) in chain.cells.iter().enumerate() {
         if home(place, chain.cells.len(), pes) == Some(pe) {
@@ -82,7 +82,7 @@ fn home(place: usize, n: usize, pes: u32) -> Option<u32> {
 }
 
 // The work of a strip with this number of cells in that round.
-fn units(chain: &Chain<'_>, place: usize, count: u32, round: u32) -> u64 {
+fn units(chain: &StripChain<'_>, place: usize, count: u32, round: u32) -> u64 {
     let n = chain.cells.len();
     if place >= n || n > Limits::ELEMENTS as usize || round >= chain.rounds {
         return 0;

@@ -2,7 +2,7 @@
 
 use crate::loads::{Spread, expected, measured};
 use crate::sums::checksum;
-use hot_spot_strip::{Chain, Strip};
+use hot_spot_strip::{Strip, StripChain};
 use rts_run::Outcome;
 use run_text::fault_word;
 use std::alloc::{AllocError, Allocator};
@@ -19,7 +19,7 @@ use std::alloc::{AllocError, Allocator};
 /// Memory was refused.
 pub fn text_of<A: Allocator + Copy>(
     alloc: A,
-    chain: &Chain<'_>,
+    chain: &StripChain<'_>,
     pes: u32,
     outcome: &Outcome<Strip<A>, A>,
 ) -> Result<String<A>, AllocError> {
@@ -40,7 +40,7 @@ pub fn text_of<A: Allocator + Copy>(
 /// Memory was refused.
 pub fn ending_of<A: Allocator + Copy>(
     alloc: A,
-    chain: &Chain<'_>,
+    chain: &StripChain<'_>,
     outcome: &Outcome<Strip<A>, A>,
 ) -> Result<String<A>, AllocError> {
     let mut text = String::new(alloc);
@@ -61,7 +61,7 @@ fn push_measured<A: Allocator + Copy>(
 
 fn push_expected<A: Allocator>(
     text: &mut String<A>,
-    chain: &Chain<'_>,
+    chain: &StripChain<'_>,
     pes: u32,
 ) -> Result<(), AllocError> {
     for round in 0..chain.rounds {
@@ -93,7 +93,7 @@ fn push_round<A: Allocator>(
 
 fn push_ending<A: Allocator + Copy>(
     text: &mut String<A>,
-    chain: &Chain<'_>,
+    chain: &StripChain<'_>,
     outcome: &Outcome<Strip<A>, A>,
 ) -> Result<(), AllocError> {
     if let Some(fault) = outcome.fault() {

@@ -4,7 +4,7 @@ ghost use Rattle.std.specs.Prelude.{◌≡◌, ◌-◌, ◌≤◌, IfOk};
 ghost use Rattle.hot_spot_strip.specs.Openings.{opening_cells, opening_strips};
 ghost use Rattle.hot_spot_strip.specs.Strips.{opening_strip};
 
-use crate::error::ChainError;
+use crate::error::StripChainError;
 use crate::mixing::mix;
 use crate::mode::Mode;
 use crate::strip::Strip;
@@ -13,7 +13,7 @@ use std::alloc::{AllocError, Allocator};
 
 /// A chain of strips. The cell with number `k`, counted from 0 over all strips, begins as `mix(k)`.
 #[derive(Clone, Copy, Debug)]
-pub struct Chain<'a> {
+pub struct StripChain<'a> {
     /// Whether it is balanced.
     pub mode: Mode,
     /// How many rounds it has.
@@ -24,21 +24,21 @@ pub struct Chain<'a> {
     pub cells: &'a [u32],
 }
 
-impl Chain<'_> {
+impl StripChain<'_> {
     /// Its strips, as they open.
     ///
     /// # Errors
     ///
-    /// The first that is met: [`Limit`](ChainError::Limit) where a number is past its limit, or
-    /// [`OutOfMemory`](ChainError::OutOfMemory).
-    pub fn strips<A: Allocator + Copy>(&self, alloc: A) -> Result<Vec<Strip<A>, A>, ChainError>
+    /// The first that is met: [`Limit`](StripChainError::Limit) where a number is past its limit, or
+    /// [`OutOfMemory`](StripChainError::OutOfMemory).
+    pub fn strips<A: Allocator + Copy>(&self, alloc: A) -> Result<Vec<Strip<A>, A>, StripChainError>
         ensures opened { IfOk result (λ strips. strips.items ≡ opening_strips self.now.mode self.now.rounds self.now.work 0 self.now.cells.now) }
     {
         let mut strips = Vec::new(alloc);
         let mut first = 0u64;
         for count in self.cells {
             let Some(end) = first.checked_add(u64::from(*count)) else {
-                return Err(ChainError::Limit);
+                return Err(StripChainError::Limit);
             };
             let strip = self.strip(alloc, first, end)?;
             strips.push(strip)?;
@@ -53,14 +53,14 @@ impl Chain<'_> {
         alloc: A,
         first: u64,
         end: u64,
-    ) -> Result<Strip<A>, ChainError>
+    ) -> Result<Strip<A>, StripChainError>
         requires ordered { first ≤ end }
         ensures opened { IfOk result (λ strip. strip ≡ opening_strip self.now.mode self.now.rounds self.now.work (opening_cells first (end - first))) }
     {
         let cells = cells(alloc, first, end)?;
         match Strip::new(alloc, self.mode, self.rounds, self.work, cells) {
             Some(strip) => Ok(strip),
-            None => Err(ChainError::Limit),
+            None => Err(StripChainError::Limit),
         }
     }
 }

@@ -3,7 +3,7 @@ use thiserror::Error;
 
 /// Why there is no chain, or no run of it.
 #[derive(Clone, Copy, Debug, PartialEq, Eq, Error)]
-pub enum ChainError {
+pub enum StripChainError {
     /// A number is out of its limits, or there are more strips than an array may have.
     #[error("a number is out of its limits")]
     Limit = 1,
@@ -12,24 +12,24 @@ pub enum ChainError {
     OutOfMemory = 2,
 }
 
-impl From<AllocError> for ChainError {
+impl From<AllocError> for StripChainError {
     ghost use Rattle.std.specs.Prelude.{◌≡◌};
-    ghost use Rattle.hot_spot_strip.specs.declared.error.ChainError.TheVariants.{OutOfMemory};
+    ghost use Rattle.hot_spot_strip.specs.declared.error.StripChainError.TheVariants.{OutOfMemory};
 
     ghost from_gives = { λ _ error. error ≡ OutOfMemory };
 
-    fn from(_: AllocError) -> ChainError {
-        ChainError::OutOfMemory
+    fn from(_: AllocError) -> StripChainError {
+        StripChainError::OutOfMemory
     }
 }
 
-impl<T: Drop> From<AllocFailed<T>> for ChainError {
+impl<T: Drop> From<AllocFailed<T>> for StripChainError {
     ghost use Rattle.std.specs.Prelude.{◌≡◌};
-    ghost use Rattle.hot_spot_strip.specs.declared.error.ChainError.TheVariants.{OutOfMemory};
+    ghost use Rattle.hot_spot_strip.specs.declared.error.StripChainError.TheVariants.{OutOfMemory};
 
     ghost from_gives = { λ _ error. error ≡ OutOfMemory };
 
-    fn from(_: AllocFailed<T>) -> ChainError {
-        ChainError::OutOfMemory
+    fn from(_: AllocFailed<T>) -> StripChainError {
+        StripChainError::OutOfMemory
     }
 }

@@ -3,7 +3,7 @@
 //! hot spot, which goes from one end of the chain to the other as the rounds pass, so no placement is right for long.
 //!
 //! - [`Strip`]: the chare. [`Mode`]: whether it is balanced. [`StripLimits`]: how many rounds and cells it may have.
-//! - [`Chain`]: the strips of a chain, as they open.
+//! - [`StripChain`]: the strips of a chain, as they open.
 //! - [`mix`] and [`mixed`]: the computation: a 64-bit mixing function, and any number of rounds of it.
 //! - [`cell_work`]: the profile, how many rounds of mixing a cell takes.
 //! - [`compute`]: a round of a whole strip; [`first_value`] and [`last_value`]: what its neighbors see of it.
@@ -23,8 +23,8 @@ mod slot;
 mod strip;
 
 pub use cells::{compute, first_value, last_value};
-pub use chain::Chain;
-pub use error::ChainError;
+pub use chain::StripChain;
+pub use error::StripChainError;
 pub use limits::StripLimits;
 pub use mixing::{mix, mixed};
 pub use mode::Mode;

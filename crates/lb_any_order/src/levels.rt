@@ -6,7 +6,7 @@
 
 use crate::chain::{Chain, begin_of, bytes_of, run_at, run_bytes, start_of};
 use crate::row::{NONE, Row, any_at, free_at};
-use any_order::{Bounds, Levels};
+use any_order::{ByteBounds, Levels};
 use std::alloc::{AllocError, Allocator};
 
 // Two bounds, and the greatest run inside of the blocks seen so far, with the run where they begin.
@@ -206,7 +206,7 @@ pub(crate) fn bounds_of<A: Allocator + Copy>(
     spans: &[(u32, u32)],
     ahead: &[Row<A>],
     least: u64,
-) -> Result<(Bounds<A>, Bounds<A>), AllocError> {
+) -> Result<(ByteBounds<A>, ByteBounds<A>), AllocError> {
     let mut low = start_row(alloc)?;
     let mut both = Both {
         any: Vec::new(alloc),
@@ -222,7 +222,7 @@ pub(crate) fn bounds_of<A: Allocator + Copy>(
         low = bounds_between(alloc, chain, &caps, costs, spans[b], least)?;
         both = with_row(alloc, both, &low, chain.end, least)?;
     }
-    Ok((Bounds::new(both.any), Bounds::new(both.free)))
+    Ok((ByteBounds::new(both.any), ByteBounds::new(both.free)))
 }
 
 // The bounds for no blocks.

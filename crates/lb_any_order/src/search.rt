@@ -8,7 +8,7 @@ use crate::levels::bounds_of;
 use crate::plan::plan_of;
 use crate::row::{NONE, free_at};
 use crate::sized::is_small;
-use any_order::{Bounds, Reordered, check_reordered};
+use any_order::{ByteBounds, Reordered, check_reordered};
 use chain_refinement::{PresentOrder, Tolerance};
 use chare_index::Pes;
 use lb_certificates::{Cuts, Division, Naming};
@@ -77,8 +77,8 @@ fn accepted<A: Allocator, B: Allocator>(
 struct Found<A: Allocator> {
     cuts: Cuts<A>,
     names: Naming<A>,
-    any: Bounds<A>,
-    free: Bounds<A>,
+    any: ByteBounds<A>,
+    free: ByteBounds<A>,
 }
 
 // A plan within this limit, with bounds.

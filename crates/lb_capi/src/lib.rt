@@ -39,9 +39,9 @@ mod refusals;
 mod reordering;
 
 use lb_lists::{
-    Claim, RefineError, RefinedClaim, Room, Run, RunError, ScaleError, StandingRoom, check_claim,
-    check_refined, decide_into, number_of, number_of_refined, place_of_refined, plan_into,
-    refine_into, scale_loads,
+    Buffers, Claim, RefineError, RefinedClaim, Run, RunError, ScaleError, StandingBuffers,
+    check_claim, check_refined, decide_into, number_of, number_of_refined, place_of_refined,
+    plan_into, refine_into, scale_loads,
 };
 use std::alloc::Global;
 
@@ -158,7 +158,7 @@ pub extern "C" fn tezgumi_decide(
         places,
         procs,
     };
-    let mut room = Room {
+    let mut room = Buffers {
         new_places,
         cuts,
         stops,
@@ -353,7 +353,7 @@ pub extern "C" fn tezgumi_refine(
         places,
         procs,
     };
-    let mut room = Room {
+    let mut room = Buffers {
         new_places,
         cuts,
         stops,
@@ -361,7 +361,7 @@ pub extern "C" fn tezgumi_refine(
         block_prices,
         pe_prices,
     };
-    let mut standing = StandingRoom {
+    let mut standing = StandingBuffers {
         least_cuts,
         order,
         present,

@@ -18,7 +18,7 @@ ghost use Rattle.lb_capi.specs.Calls.{claim_of, level_room_of, reordered_claim_o
 
 use crate::{flag_of, refine_status_of};
 use lb_lists::{
-    BoundsRoom, Claim, ReorderedClaim, Room, Run, StandingRoom, check_reordered_claim,
+    BoundsBuffers, Buffers, Claim, ReorderedClaim, Run, StandingBuffers, check_reordered_claim,
     number_of_reordered, place_of_reordered, reorder_into,
 };
 use std::alloc::Global;
@@ -129,7 +129,7 @@ pub extern "C" fn tezgumi_reorder(
         places,
         procs,
     };
-    let mut room = Room {
+    let mut room = Buffers {
         new_places,
         cuts,
         stops,
@@ -137,7 +137,7 @@ pub extern "C" fn tezgumi_reorder(
         block_prices,
         pe_prices,
     };
-    let mut standing = StandingRoom {
+    let mut standing = StandingBuffers {
         least_cuts,
         order,
         present,
@@ -145,7 +145,7 @@ pub extern "C" fn tezgumi_reorder(
         step_places,
         step_rises,
     };
-    let mut bounds = BoundsRoom {
+    let mut bounds = BoundsBuffers {
         level_starts,
         level_places,
         level_bytes,

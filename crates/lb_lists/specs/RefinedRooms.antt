@@ -6,7 +6,7 @@ use Rattle.lb_lists.specs.Plans.{stops_in}
 use Rattle.lb_lists.specs.Refinings.{Standing, Told}
 use Rattle.lb_lists.specs.Rooms.{HasRoom, Lists}
 use Rattle.lb_lists.specs.Steps.{all_steps, first_steps, places_of, rises_of}
-use Rattle.lb_lists.specs.declared.refining.StandingRoom.{StandingRoom}
+use Rattle.lb_lists.specs.declared.refining.StandingBuffers.{StandingBuffers}
 
 -- the contents of the lists of the order, the present cuts, the least cuts and the steps
 pub record StandingLists : Type 0 where
@@ -17,7 +17,7 @@ pub record StandingLists : Type 0 where
   pub step_places : List ℕ
   pub step_rises : List ℕ
 
-abbrev pub standing_lists_in : StandingRoom → StandingLists
+abbrev pub standing_lists_in : StandingBuffers → StandingLists
 standing_lists_in room =
     record {
       least_cuts = room.least_cuts.now;
@@ -29,7 +29,7 @@ standing_lists_in room =
     }
 
 -- the lists of one room are those of the other, whatever they hold
-pub record HasStandingListsOf (other room : StandingRoom) : Type 0 where
+pub record HasStandingListsOf (other room : StandingBuffers) : Type 0 where
   pub least_cuts : room.least_cuts.ghost_name ≡ other.least_cuts.ghost_name
   pub order : room.order.ghost_name ≡ other.order.ghost_name
   pub present : room.present.ghost_name ≡ other.present.ghost_name

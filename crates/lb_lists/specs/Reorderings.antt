@@ -12,7 +12,7 @@ use Rattle.lb_lists.specs.Refinings.{IsRefinedRun, Standing, Told}
 use Rattle.lb_lists.specs.Rooms.{Lists}
 use Rattle.lb_lists.specs.Runs.{sizes_of, Listed}
 use Rattle.lb_lists.specs.Steps.{all_steps, first_steps, places_of, rises_of}
-use Rattle.lb_lists.specs.declared.bounds.BoundsRoom.{BoundsRoom}
+use Rattle.lb_lists.specs.declared.bounds.BoundsBuffers.{BoundsBuffers}
 
 -- The bounds for each number of blocks, from 0 on, as steps: `any` whatever the PEs of these blocks are, and `free` where none of
 -- them is that of the element behind them.
@@ -69,7 +69,7 @@ pub record LevelLists : Type 0 where
   pub level_places : List ℕ
   pub level_bytes : List ℕ
 
-abbrev pub level_lists_in : BoundsRoom → LevelLists
+abbrev pub level_lists_in : BoundsBuffers → LevelLists
 level_lists_in room =
     record {
       level_starts = room.level_starts.now;
@@ -78,7 +78,7 @@ level_lists_in room =
     }
 
 -- the lists of one room are those of the other, whatever they hold
-pub record HasLevelListsOf (other room : BoundsRoom) : Type 0 where
+pub record HasLevelListsOf (other room : BoundsBuffers) : Type 0 where
   pub level_starts : room.level_starts.ghost_name ≡ other.level_starts.ghost_name
   pub level_places : room.level_places.ghost_name ≡ other.level_places.ghost_name
   pub level_bytes : room.level_bytes.ghost_name ≡ other.level_bytes.ghost_name

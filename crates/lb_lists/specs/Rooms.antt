@@ -1,7 +1,7 @@
 -- The lists that a decision is written to.
 use Rattle.std.specs.Prelude.{◌≡◌, ℕ, ◌+◌, List, length, take, ℤ}
 use Rattle.lb_lists.specs.Claims.{Claimed}
-use Rattle.lb_lists.specs.declared.deciding.Room.{Room}
+use Rattle.lb_lists.specs.declared.deciding.Buffers.{Buffers}
 
 -- the contents of these lists
 pub record Lists : Type 0 where
@@ -13,7 +13,7 @@ pub record Lists : Type 0 where
   pub pe_prices : List ℤ
 
 -- the contents of the lists of a room
-abbrev pub lists_in : Room → Lists
+abbrev pub lists_in : Buffers → Lists
 lists_in room =
     record {
       new_places = room.new_places.now;
@@ -25,7 +25,7 @@ lists_in room =
     }
 
 -- the lists of one room are those of the other, whatever they hold
-pub record HasListsOf (other room : Room) : Type 0 where
+pub record HasListsOf (other room : Buffers) : Type 0 where
   pub new_places : room.new_places.ghost_name ≡ other.new_places.ghost_name
   pub cuts : room.cuts.ghost_name ≡ other.cuts.ghost_name
   pub stops : room.stops.ghost_name ≡ other.stops.ghost_name

@@ -13,7 +13,7 @@ use std::alloc::{AllocError, Allocator};
 /// There are two bounds for each number of blocks from 0 to `pes`, and each is a row of levels: first the rows of those whatever
 /// the PEs of the blocks are, and then the rows of those where none is the PE of the element behind them.
 #[derive(Drop)]
-pub struct BoundsRoom<'a> {
+pub struct BoundsBuffers<'a> {
     /// `2 * pes + 3`: for each row the number of its first level, and behind them the number of all levels.
     pub level_starts: &'a mut [usize],
     /// Capacity for the place of each level, from which on it holds.
@@ -23,7 +23,7 @@ pub struct BoundsRoom<'a> {
 }
 
 /// Whether these lists have the lengths that `pes` PEs need.
-pub(crate) fn has_level_room(room: &BoundsRoom<'_>, pes: u32) -> bool
+pub(crate) fn has_level_room(room: &BoundsBuffers<'_>, pes: u32) -> bool
     ensures { IsTrue result ↔ HasLevelRoom pes (level_lists_in room.now) }
 {
     room.level_starts.len() as u64 == 2 * u64::from(pes) + 3
@@ -75,7 +75,10 @@ fn push_levels<A: Allocator>(
 }
 
 /// Writes the levels where the lists have the capacity for all of them, and returns their number.
-pub(crate) fn write_levels<A: Allocator>(levels: &FlatSteps<A>, room: &mut BoundsRoom<'_>) -> usize
+pub(crate) fn write_levels<A: Allocator>(
+    levels: &FlatSteps<A>,
+    room: &mut BoundsBuffers<'_>,
+) -> usize
     requires starts { length room.old.level_starts.now ≡ length levels.now.starts.items }
     requires pairs { length levels.now.rises.items ≡ length levels.now.places.items }
     requires level_bytes { length room.old.level_bytes.now ≡ length room.old.level_places.now }

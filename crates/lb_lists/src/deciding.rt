@@ -18,7 +18,7 @@ use std::alloc::Allocator;
 
 /// Buffers of the caller for a decision on `pes` PEs.
 #[derive(Drop)]
-pub struct Room<'a> {
+pub struct Buffers<'a> {
     /// The PE on which each element is to run.
     pub new_places: &'a mut [u32],
     /// `pes + 1`: where the blocks begin and end.
@@ -63,7 +63,7 @@ fn write_stops<A: Allocator>(floor: &Floor<A>, stops: &mut [u32]) -> usize
 }
 
 /// Whether the lists of the room have the lengths that a decision on this number of elements needs.
-pub(crate) fn has_room(room: &Room<'_>, elements: usize, pes: u32) -> bool
+pub(crate) fn has_room(room: &Buffers<'_>, elements: usize, pes: u32) -> bool
     ensures { IsTrue result ↔ HasRoom elements pes (lists_in room.now) }
 {
     let blocks = u64::from(pes);
@@ -76,7 +76,7 @@ pub(crate) fn has_room(room: &Room<'_>, elements: usize, pes: u32) -> bool
 }
 
 /// Writes a decision, and returns its numbers.
-pub(crate) fn write_decision<A: Allocator>(plan: &Plan<A>, room: &mut Room<'_>) -> Decided
+pub(crate) fn write_decision<A: Allocator>(plan: &Plan<A>, room: &mut Buffers<'_>) -> Decided
     requires divides { IsDivision 0 (length room.old.new_places.now) (blocks_between plan.now.division.cuts) plan.now.division.cuts }
     requires some_block { 0 < blocks_between plan.now.division.cuts }
     requires cuts { length room.old.cuts.now ≡ length plan.now.division.cuts }
@@ -120,7 +120,7 @@ pub fn decide_into<A: Allocator + Copy>(
     alloc: A,
     run: &Run<'_>,
     pes: u32,
-    room: &mut Room<'_>,
+    room: &mut Buffers<'_>,
 ) -> Result<Decided, RunError>
     ensures same_lists { HasListsOf room.old room.new }
     ensures planned { IfOk result (λ d. IsPlan run.now pes room.new.new_places.now d.bottleneck d.moved) }

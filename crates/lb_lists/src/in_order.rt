@@ -15,10 +15,10 @@ ghost use Rattle.lb_lists.specs.Rooms.{lists_in, HasListsOf};
 ghost use Rattle.lb_lists.specs.Refinings.{IsInOrderRun};
 ghost use Rattle.lb_lists.specs.Runs.{sizes_of, AreSmall, FitsSnapshot, IsAsked, IsSnapshotRefusal};
 
-use crate::deciding::Room;
+use crate::deciding::Buffers;
 use crate::error::{RefineError, RunError};
 use crate::refined_writing::{priced, write_near, write_planned};
-use crate::refining::{RefinedNumbers, StandingRoom};
+use crate::refining::{RefinedNumbers, StandingBuffers};
 use crate::run::Run;
 use crate::snapshot::snapshot_of;
 use crate::steps::flat_steps;
@@ -79,8 +79,8 @@ pub(crate) fn in_order_into<A: Allocator + Copy>(
     run: &Run<'_>,
     pes: u32,
     tolerance: Tolerance,
-    room: &mut Room<'_>,
-    standing: &mut StandingRoom<'_>,
+    room: &mut Buffers<'_>,
+    standing: &mut StandingBuffers<'_>,
 ) -> Result<RefinedNumbers, RefineError>
     requires room { HasRefinedRoom (length run.now.loads) pes (lists_in room.old) (standing_lists_in standing.old) }
     ensures same_lists { HasListsOf room.old room.new }

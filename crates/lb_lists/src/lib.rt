@@ -4,12 +4,12 @@
 //! - [`Run`]: the elements of a run, as lists, within the [`RunLimits`]. The lists are read where they are: none is copied, but
 //!   for a tolerance.
 //! - [`plan_run`]: decides, as a [`Plan`]; [`plan_into`] writes the place of each element, and [`decide_into`] the whole
-//!   decision, into a [`Room`] of the caller.
+//!   decision, into [`Buffers`] of the caller.
 //! - [`refine_run`]: decides within a tolerance, for a run within the limits of a snapshot; [`refine_into`] writes the decision
-//!   into a [`Room`] and a [`StandingRoom`], or returns a [`RefineError`].
+//!   into [`Buffers`] and [`StandingBuffers`], or returns a [`RefineError`].
 //! - [`refine_run_in_order`]: decides so that the PEs keep their order, which [`refine_into`] does where that is asked for.
 //! - [`reorder_run`]: decides where the PEs may change their order, as a [`ReorderedRun`]; [`reorder_into`] writes the decision
-//!   into these and a [`BoundsRoom`].
+//!   into these and [`BoundsBuffers`].
 //! - [`check_claim`]: whether a [`Claim`] is right, whoever made it, or its first flaw; [`number_of`]: the number of a flaw.
 //! - [`check_refined`]: whether a [`RefinedClaim`] of a decision within a tolerance is right, or its first [`RefinedFlaw`],
 //!   with its [number](number_of_refined) and its [place](place_of_refined).
@@ -61,10 +61,10 @@ mod scaling;
 mod snapshot;
 mod steps;
 
-pub use bounds::BoundsRoom;
+pub use bounds::BoundsBuffers;
 pub use checking::{check_claim, number_of};
 pub use claim::Claim;
-pub use deciding::{Decided, Room, decide_into};
+pub use deciding::{Buffers, Decided, decide_into};
 pub use error::{RefineError, RunError};
 pub use in_order::refine_run_in_order;
 pub use laws::{near_least, one_plan, one_refined_run};
@@ -73,7 +73,7 @@ pub use plan::{Plan, plan_run};
 pub use planning::{Planned, plan_into};
 pub use refined_checking::{RefinedFlaw, check_refined, number_of_refined, place_of_refined};
 pub use refined_claim::RefinedClaim;
-pub use refining::{RefinedNumbers, StandingRoom, refine_into, refine_run};
+pub use refining::{RefinedNumbers, StandingBuffers, refine_into, refine_run};
 pub use reordered_checking::{
     ReorderedClaimFlaw, check_reordered_claim, number_of_reordered, place_of_reordered,
 };

@@ -9,9 +9,9 @@ ghost use Rattle.lb_lists.specs.RefinedRooms.{standing_lists_in, told_in, told_o
 ghost use Rattle.lb_lists.specs.Rooms.{lists_in, HasListsOf};
 ghost use Rattle.lb_lists.specs.Steps.{all_steps, first_steps, places_of, rises_of};
 
-use crate::deciding::{Decided, Room, write_decision};
+use crate::deciding::{Buffers, Decided, write_decision};
 use crate::plan::Plan;
-use crate::refining::{RefinedNumbers, StandingRoom};
+use crate::refining::{RefinedNumbers, StandingBuffers};
 use crate::steps::FlatSteps;
 use chain_refinement::Refinement;
 use lb_certificates::{Division, PriceList, Prices};
@@ -22,8 +22,8 @@ use std::alloc::{AllocError, Allocator};
 /// Writes the decision of a plan.
 pub(crate) fn write_planned<A: Allocator>(
     decision: Decision<A>,
-    room: &mut Room<'_>,
-    standing: &mut StandingRoom<'_>,
+    room: &mut Buffers<'_>,
+    standing: &mut StandingBuffers<'_>,
 ) -> RefinedNumbers
     requires divides { IsDivision 0 (length room.old.new_places.now) (blocks_between decision.division.cuts) decision.division.cuts }
     requires some_block { 0 < blocks_between decision.division.cuts }
@@ -129,8 +129,8 @@ pub(crate) fn priced<A: Allocator + Copy>(
 pub(crate) fn write_near<A: Allocator>(
     kept: Kept<A>,
     steps: FlatSteps<A>,
-    room: &mut Room<'_>,
-    standing: &mut StandingRoom<'_>,
+    room: &mut Buffers<'_>,
+    standing: &mut StandingBuffers<'_>,
 ) -> RefinedNumbers
     requires divides { IsDivision 0 (length room.old.new_places.now) (blocks_between kept.refinement.cuts) kept.refinement.cuts }
     requires some_block { 0 < blocks_between kept.refinement.cuts }
@@ -217,7 +217,7 @@ pub(crate) fn write_front<T: Copy>(list: &mut [T], front: &[T])
 }
 
 // Writes the steps where the lists have the capacity for all of them, and returns their number.
-fn write_steps<A: Allocator>(steps: &FlatSteps<A>, room: &mut StandingRoom<'_>) -> usize
+fn write_steps<A: Allocator>(steps: &FlatSteps<A>, room: &mut StandingBuffers<'_>) -> usize
     requires starts { length room.old.step_starts.now ≡ length steps.now.starts.items }
     requires pairs { length steps.now.rises.items ≡ length steps.now.places.items }
     requires step_rises { length room.old.step_rises.now ≡ length room.old.step_places.now }

@@ -14,7 +14,7 @@ ghost use Rattle.lb_lists.specs.Rooms.{lists_in, HasListsOf};
 ghost use Rattle.lb_lists.specs.Refinings.{IsDecidedRun};
 ghost use Rattle.lb_lists.specs.Runs.{sizes_of, AreSmall, FitsSnapshot, IsAsked, IsRefineRefusal, IsSnapshotRefusal};
 
-use crate::deciding::{Room, has_room};
+use crate::deciding::{Buffers, has_room};
 use crate::error::{RefineError, RunError};
 use crate::in_order::in_order_into;
 use crate::refined_writing::{write_near, write_planned};
@@ -29,7 +29,7 @@ use std::alloc::Allocator;
 /// Buffers of the caller for the order of the PEs and the present cuts, and for the heights that prove that no cuts within a
 /// tolerance move fewer bytes, for `pes` PEs.
 #[derive(Drop)]
-pub struct StandingRoom<'a> {
+pub struct StandingBuffers<'a> {
     /// `pes + 1`: where the blocks of the least division begin and end.
     pub least_cuts: &'a mut [u32],
     /// `pes`: the PEs, in the present order of their elements.
@@ -93,7 +93,7 @@ pub fn refine_run<A: Allocator + Copy>(
 }
 
 // Whether the lists for the order, the present cuts and the heights have the lengths that `pes` PEs need.
-fn has_standing_room(room: &StandingRoom<'_>, pes: u32) -> bool
+fn has_standing_room(room: &StandingBuffers<'_>, pes: u32) -> bool
     ensures { IsTrue result ↔ HasStandingRoom pes (standing_lists_in room.now) }
 {
     let blocks = u64::from(pes);
@@ -106,8 +106,8 @@ fn has_standing_room(room: &StandingRoom<'_>, pes: u32) -> bool
 
 /// Whether they do, and those of the decision have the lengths that this number of elements needs.
 pub(crate) fn has_refined_room(
-    room: &Room<'_>,
-    standing: &StandingRoom<'_>,
+    room: &Buffers<'_>,
+    standing: &StandingBuffers<'_>,
     elements: usize,
     pes: u32,
 ) -> bool
@@ -135,8 +135,8 @@ pub fn refine_into<A: Allocator + Copy>(
     pes: u32,
     thousandths: u32,
     keep_order: bool,
-    room: &mut Room<'_>,
-    standing: &mut StandingRoom<'_>,
+    room: &mut Buffers<'_>,
+    standing: &mut StandingBuffers<'_>,
 ) -> Result<RefinedNumbers, RefineError>
     ensures same_lists { HasListsOf room.old room.new }
     ensures same_standing { HasStandingListsOf standing.old standing.new }

@@ -16,7 +16,7 @@ use crate::reordered_claim::ReorderedClaim;
 use crate::run::Run;
 use crate::snapshot::snapshot_of;
 use crate::steps::pairs_between;
-use any_order::{Bounds, Levels, Reordered, ReorderedFlaw, check_reordered, moved_by};
+use any_order::{ByteBounds, Levels, Reordered, ReorderedFlaw, check_reordered, moved_by};
 use chain_refinement::Tolerance;
 use lb_certificates::{Cuts, Division, Flaw, Naming};
 use lb_refinement::greatest_load;
@@ -40,7 +40,7 @@ fn rows_from<A: Allocator + Copy>(
     starts: &[usize],
     places: &[u32],
     bytes: &[u64],
-) -> Result<Bounds<A>, AllocError>
+) -> Result<ByteBounds<A>, AllocError>
     ensures { IfOk result (λ bounds. bounds ≡ heights_in starts.now places.now bytes.now) }
 {
     let mut rows = Vec::new(alloc);
@@ -48,7 +48,7 @@ fn rows_from<A: Allocator + Copy>(
         let levels = pairs_between(alloc, places, bytes, starts[b - 1], starts[b])?;
         rows.push(Levels::new(levels))?;
     }
-    Ok(Bounds::new(rows))
+    Ok(ByteBounds::new(rows))
 }
 
 // The division that is claimed to be least.

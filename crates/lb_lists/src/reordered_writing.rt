@@ -10,11 +10,11 @@ ghost use Rattle.lb_lists.specs.Reorderings.{level_lists_in, told_of_fewest, Are
 ghost use Rattle.lb_lists.specs.Rooms.{lists_in, HasListsOf};
 ghost use Rattle.lb_lists.specs.Steps.{all_steps, first_steps, places_of, rises_of};
 
-use crate::bounds::{BoundsRoom, write_levels};
-use crate::deciding::{Room, write_decision};
+use crate::bounds::{BoundsBuffers, write_levels};
+use crate::deciding::{Buffers, write_decision};
 use crate::plan::Plan;
 use crate::refined_writing::numbers;
-use crate::refining::StandingRoom;
+use crate::refining::StandingBuffers;
 use crate::reordering::ReorderedNumbers;
 use crate::steps::FlatSteps;
 use any_order::Reordered;
@@ -47,9 +47,9 @@ pub(crate) fn write_fewest<A: Allocator>(
     bottleneck: u64,
     prices: Prices<A>,
     levels: FlatSteps<A>,
-    room: &mut Room<'_>,
-    standing: &mut StandingRoom<'_>,
-    bounds: &mut BoundsRoom<'_>,
+    room: &mut Buffers<'_>,
+    standing: &mut StandingBuffers<'_>,
+    bounds: &mut BoundsBuffers<'_>,
 ) -> ReorderedNumbers
     requires divides { IsDivision 0 (length room.old.new_places.now) (blocks_between fewest.reordered.cuts) fewest.reordered.cuts }
     requires some_block { 0 < blocks_between fewest.reordered.cuts }

@@ -18,11 +18,11 @@ ghost use Rattle.lb_lists.specs.Reorderings.{level_lists_in, AreBoundsIn, BoundR
 ghost use Rattle.lb_lists.specs.Rooms.{lists_in, HasListsOf};
 ghost use Rattle.lb_lists.specs.Runs.{sizes_of, AreSmall, FitsSnapshot, IsAsked, IsRefineRefusal, IsSnapshotRefusal};
 
-use crate::bounds::{BoundsRoom, flat_levels, has_level_room};
-use crate::deciding::Room;
+use crate::bounds::{BoundsBuffers, flat_levels, has_level_room};
+use crate::deciding::Buffers;
 use crate::error::{RefineError, RunError};
 use crate::refined_writing::{write_near, write_planned};
-use crate::refining::{RefinedNumbers, StandingRoom, has_refined_room};
+use crate::refining::{RefinedNumbers, StandingBuffers, has_refined_room};
 use crate::reordered_writing::{no_prices, write_fewest};
 use crate::run::Run;
 use crate::snapshot::snapshot_of;
@@ -104,9 +104,9 @@ pub fn reorder_run<A: Allocator + Copy>(
 
 // Whether the lists of all three rooms have the lengths that this number of elements and `pes` PEs need.
 fn has_reordered_room(
-    room: &Room<'_>,
-    standing: &StandingRoom<'_>,
-    bounds: &BoundsRoom<'_>,
+    room: &Buffers<'_>,
+    standing: &StandingBuffers<'_>,
+    bounds: &BoundsBuffers<'_>,
     elements: usize,
     pes: u32,
 ) -> bool
@@ -142,9 +142,9 @@ pub fn reorder_into<A: Allocator + Copy>(
     run: &Run<'_>,
     pes: u32,
     thousandths: u32,
-    room: &mut Room<'_>,
-    standing: &mut StandingRoom<'_>,
-    bounds: &mut BoundsRoom<'_>,
+    room: &mut Buffers<'_>,
+    standing: &mut StandingBuffers<'_>,
+    bounds: &mut BoundsBuffers<'_>,
 ) -> Result<ReorderedNumbers, RefineError>
     ensures same_lists { HasListsOf room.old room.new }
     ensures same_standing { HasStandingListsOf standing.old standing.new }

@@ -1,7 +1,7 @@
 //! A line on the standard error for a person who watches a run. It is overwritten again and again, at most ten times a
 //! second.
 //!
-//! - [`Progress`]: a line for a person who watches, or none, so that one call of a run serves both.
+//! - [`ShownProgress`]: a line for a person who watches, or none, so that one call of a run serves both.
 //! - [`ProgressLine`]: the line.
 //! - [`Standing`]: what it says.
 //!
@@ -11,14 +11,14 @@
 //!
 //! ```
 //! use chare_index::NoGate;
-//! use progress_line::Progress;
+//! use progress_line::ShownProgress;
 //! use rts_run::{Config, run_watched};
 //! use std::io::IsTerminal;
 //! use tally::Tally;
 //!
 //! // One tally on one PE, for one round.
 //! let chares = vec![in alloc; Tally::with_amounts(alloc, &[7], 0)?]?;
-//! let progress = Progress::new(&rt, rt.stderr().is_terminal()).unwrap_or(Progress::Off);
+//! let progress = ShownProgress::new(&rt, rt.stderr().is_terminal()).unwrap_or(ShownProgress::Off);
 //! progress.expect(1);
 //! let outcome = run_watched(&rt, alloc, &Config::usual(1), &NoGate, &progress, chares)?;
 //! progress.finish();
@@ -32,7 +32,7 @@ mod watcher;
 
 pub use teller::ProgressLine;
 pub use text::Standing;
-pub use watcher::Progress;
+pub use watcher::ShownProgress;
 
 #[cfg(test)]
 mod tests;

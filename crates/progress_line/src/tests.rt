@@ -1,6 +1,6 @@
 //! What a person sees, on a clock and a screen that the test controls.
 
-use super::{Progress, ProgressLine, Standing};
+use super::{ProgressLine, ShownProgress, Standing};
 use chare_index::Round;
 use pe_worker::Watch;
 use std::cell::Cell;
@@ -128,7 +128,7 @@ fn a_line_in_a_tenth_of_a_second(rt: HostRuntime) {
 #[test]
 fn nothing_is_told_where_nothing_was_decided(rt: HostRuntime) {
     let desk = Desk::new();
-    let progress = Progress::new(&desk, true).expect(&rt, "no clock");
+    let progress = ShownProgress::new(&desk, true).expect(&rt, "no clock");
     progress.expect(3);
     progress.finish();
     assert!(rt; desk.lines.get() == 0);
@@ -137,7 +137,7 @@ fn nothing_is_told_where_nothing_was_decided(rt: HostRuntime) {
 }
 
 // A whole run, as far as it is reported.
-fn tell_a_run(progress: &Progress<'_, Desk>, round: Round) {
+fn tell_a_run(progress: &ShownProgress<'_, Desk>, round: Round) {
     progress.expect(3);
     progress.decided(round, 7);
     progress.finish();
@@ -147,10 +147,10 @@ fn tell_a_run(progress: &Progress<'_, Desk>, round: Round) {
 fn nobody_looks_on(rt: HostRuntime) {
     let desk = Desk::new();
     let round = Round::new(1).expect(&rt, "no round");
-    let nobody = Progress::new(&desk, false).expect(&rt, "asked for a clock");
+    let nobody = ShownProgress::new(&desk, false).expect(&rt, "asked for a clock");
     tell_a_run(&nobody, round);
     desk.milliseconds.set(None);
-    let no_clock = Progress::new(&desk, true).unwrap_or(Progress::Off);
+    let no_clock = ShownProgress::new(&desk, true).unwrap_or(ShownProgress::Off);
     tell_a_run(&no_clock, round);
     assert!(rt; desk.lines.get() == 0);
     drop(nobody);
@@ -161,7 +161,7 @@ fn nobody_looks_on(rt: HostRuntime) {
 #[test]
 fn a_clock_that_fails_tells_nothing_more(rt: HostRuntime) {
     let desk = Desk::new();
-    let progress = Progress::new(&desk, true).expect(&rt, "no clock");
+    let progress = ShownProgress::new(&desk, true).expect(&rt, "no clock");
     progress.decided(Round::new(1).expect(&rt, "no round"), 7);
     desk.milliseconds.set(None);
     progress.decided(Round::new(2).expect(&rt, "no round"), 9);

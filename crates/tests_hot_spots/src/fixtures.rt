@@ -5,7 +5,7 @@ ghost use Rattle.std.specs.Prelude.{◌≡◌, true};
 use at_sync::Strategy;
 use chares::{BodyLimit, History};
 use hot_spot_run::run_chain;
-use hot_spot_strip::{Chain, ChainError, Mode, Strip};
+use hot_spot_strip::{Mode, Strip, StripChain, StripChainError};
 use rts_run::{Config, Outcome};
 use std::alloc::Allocator;
 use std::fmt::Debug;
@@ -21,8 +21,8 @@ pub(crate) fn assert_for<R: Debug + Copy>(rt: &impl Abort, holds: bool, row: R)
 }
 
 /// A chain of strips with these numbers of cells.
-pub(crate) fn chain<'a>(mode: Mode, rounds: u32, work: u32, cells: &'a [u32]) -> Chain<'a> {
-    Chain {
+pub(crate) fn chain<'a>(mode: Mode, rounds: u32, work: u32, cells: &'a [u32]) -> StripChain<'a> {
+    StripChain {
         mode,
         rounds,
         work,
@@ -36,8 +36,8 @@ pub(crate) fn run_on<R: Threads + Wait + Sync, A: Allocator + Copy + Send + Sync
     alloc: A,
     pes: u32,
     capacity: u32,
-    chain: &Chain<'_>,
-) -> Result<Outcome<Strip<A>, A>, ChainError> {
+    chain: &StripChain<'_>,
+) -> Result<Outcome<Strip<A>, A>, StripChainError> {
     let config = Config {
         pes,
         capacity,

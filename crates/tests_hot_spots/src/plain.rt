@@ -1,13 +1,13 @@
 //! The cells of a chain by a plain loop, and mixing against numbers from outside.
 
 use crate::fixtures::assert_for;
-use hot_spot_strip::{Chain, cell_work, mix, mixed};
+use hot_spot_strip::{StripChain, cell_work, mix, mixed};
 use std::alloc::AllocError;
 use std::process::Abort;
 
 /// The checksum of a chain after its rounds: all cells in one list, computed one after another. Each cell is kept with the
 /// number of its strip.
-pub(crate) fn plain_checksum(rt: &(impl Abort + AllocGlobal), chain: &Chain<'_>) -> u64 {
+pub(crate) fn plain_checksum(rt: &(impl Abort + AllocGlobal), chain: &StripChain<'_>) -> u64 {
     let Ok(mut cells) = opening_cells(rt, chain) else {
         return 0;
     };
@@ -27,7 +27,7 @@ pub(crate) fn plain_checksum(rt: &(impl Abort + AllocGlobal), chain: &Chain<'_>)
 // Each cell with the number of its strip.
 fn opening_cells(
     rt: &impl AllocGlobal,
-    chain: &Chain<'_>,
+    chain: &StripChain<'_>,
 ) -> Result<Vec<(usize, u64)>, AllocError> {
     let mut cells = Vec::new(rt.alloc());
     for (place, count) in chain.cells.iter().enumerate() {
@@ -42,7 +42,7 @@ fn opening_cells(
 // The cells after one more round.
 fn next_cells(
     rt: &(impl Abort + AllocGlobal),
-    chain: &Chain<'_>,
+    chain: &StripChain<'_>,
     round: u32,
     cells: &[(usize, u64)],
 ) -> Result<Vec<(usize, u64)>, AllocError> {

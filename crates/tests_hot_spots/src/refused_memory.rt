@@ -2,7 +2,7 @@
 
 use crate::fixtures::{assert_for, chain, run_on};
 use hot_spot_run::checksum;
-use hot_spot_strip::{ChainError, Mode, Strip};
+use hot_spot_strip::{Mode, Strip, StripChainError};
 use pe_worker::Fault;
 use rts_run::Outcome;
 use std::alloc::Global;
@@ -42,7 +42,7 @@ fn refuses<R: Threads + Wait + Sync + Abort + AllocGlobal>(
             }
             drop(outcome);
         }
-        Err(error) => assert_for(rt, error == ChainError::OutOfMemory, turn),
+        Err(error) => assert_for(rt, error == StripChainError::OutOfMemory, turn),
     }
     alloc.has_refused()
 }

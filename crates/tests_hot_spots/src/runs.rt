@@ -3,7 +3,7 @@
 use crate::fixtures::{assert_for, chain, run_on};
 use crate::plain::plain_checksum;
 use hot_spot_run::{checksum, text_of};
-use hot_spot_strip::{Chain, Mode};
+use hot_spot_strip::{Mode, StripChain};
 use std::process::Abort;
 use std::sync::Wait;
 use std::thread::Threads;
@@ -13,7 +13,7 @@ fn ran<R: Threads + Wait + Sync + Abort + AllocGlobal>(
     rt: &R,
     pes: u32,
     capacity: u32,
-    chain: &Chain<'_>,
+    chain: &StripChain<'_>,
 ) -> Option<u64> {
     let outcome = run_on(rt, rt.alloc(), pes, capacity, chain).expect(rt, "it did not begin");
     assert_for(rt, outcome.fault() == None, (pes, capacity));

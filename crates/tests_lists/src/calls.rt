@@ -3,8 +3,8 @@
 use crate::fixtures::{assert_for, example, right_claim, same};
 use lb_certificates::Flaw;
 use lb_lists::{
-    Claim, Decided, Planned, Room, Run, RunError, RunLimits, check_claim, decide_into, number_of,
-    plan_into, plan_run,
+    Buffers, Claim, Decided, Planned, Run, RunError, RunLimits, check_claim, decide_into,
+    number_of, plan_into, plan_run,
 };
 use std::alloc::Global;
 
@@ -41,7 +41,7 @@ fn the_example_is_planned(rt: HostRuntime) {
 fn the_decision_is_written(rt: HostRuntime) {
     let (mut new_places, mut cuts, mut stops, mut names) = ([7; 3], [7; 3], [7; 3], [7; 2]);
     let (mut block_prices, mut pe_prices) = ([7; 2], [7; 2]);
-    let mut room = Room {
+    let mut room = Buffers {
         new_places: &mut new_places,
         cuts: &mut cuts,
         stops: &mut stops,

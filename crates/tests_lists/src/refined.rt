@@ -5,8 +5,8 @@ use crate::fixtures::{assert_for, same};
 use chain_refinement::{RefinementFlaw, Tolerance};
 use lb_certificates::Flaw;
 use lb_lists::{
-    Claim, RefineError, RefinedClaim, RefinedFlaw, RefinedNumbers, Room, Run, RunError,
-    StandingRoom, check_refined, number_of_refined, place_of_refined, refine_into, refine_run,
+    Buffers, Claim, RefineError, RefinedClaim, RefinedFlaw, RefinedNumbers, Run, RunError,
+    StandingBuffers, check_refined, number_of_refined, place_of_refined, refine_into, refine_run,
 };
 use std::alloc::{Allocator, Global};
 use tests_fixtures::{Outcome, Refusing, each_refusal};
@@ -79,7 +79,7 @@ fn written_by<A: Allocator + Copy>(
     steps: usize,
     lists: &mut Lists,
 ) -> Result<RefinedNumbers, RefineError> {
-    let mut room = Room {
+    let mut room = Buffers {
         new_places: &mut lists.new_places,
         cuts: &mut lists.cuts,
         stops: &mut lists.stops,
@@ -87,7 +87,7 @@ fn written_by<A: Allocator + Copy>(
         block_prices: &mut lists.block_prices,
         pe_prices: &mut lists.pe_prices,
     };
-    let mut standing = StandingRoom {
+    let mut standing = StandingBuffers {
         least_cuts: &mut lists.least_cuts,
         order: &mut lists.order,
         present: &mut lists.present,
@@ -175,7 +175,7 @@ fn four_decided(
     new_places: &mut [u32],
     lists: &mut Lists,
 ) -> Option<RefinedNumbers> {
-    let mut room = Room {
+    let mut room = Buffers {
         new_places,
         cuts: &mut lists.cuts,
         stops: &mut lists.stops,
@@ -183,7 +183,7 @@ fn four_decided(
         block_prices: &mut lists.block_prices,
         pe_prices: &mut lists.pe_prices,
     };
-    let mut standing = StandingRoom {
+    let mut standing = StandingBuffers {
         least_cuts: &mut lists.least_cuts,
         order: &mut lists.order,
         present: &mut lists.present,

@@ -7,9 +7,9 @@ use chain_refinement::Tolerance;
 use lb_any_order::Reordering;
 use lb_certificates::Flaw;
 use lb_lists::{
-    BoundsRoom, Claim, RefineError, ReorderedClaim, ReorderedClaimFlaw, ReorderedNumbers, Room,
-    Run, RunError, StandingRoom, check_reordered_claim, number_of_reordered, place_of_reordered,
-    reorder_into, reorder_run,
+    BoundsBuffers, Buffers, Claim, RefineError, ReorderedClaim, ReorderedClaimFlaw,
+    ReorderedNumbers, Run, RunError, StandingBuffers, check_reordered_claim, number_of_reordered,
+    place_of_reordered, reorder_into, reorder_run,
 };
 use std::alloc::{Allocator, Global};
 use tests_fixtures::{Outcome, Refusing, each_refusal};
@@ -79,7 +79,7 @@ fn written_with<A: Allocator + Copy>(
     (starts, levels): (usize, usize),
     lists: &mut Lists,
 ) -> Result<ReorderedNumbers, RefineError> {
-    let mut room = Room {
+    let mut room = Buffers {
         new_places: &mut lists.new_places,
         cuts: &mut lists.cuts,
         stops: &mut lists.stops,
@@ -87,7 +87,7 @@ fn written_with<A: Allocator + Copy>(
         block_prices: &mut lists.block_prices,
         pe_prices: &mut lists.pe_prices,
     };
-    let mut standing = StandingRoom {
+    let mut standing = StandingBuffers {
         least_cuts: &mut lists.least_cuts,
         order: &mut lists.order,
         present: &mut lists.present,
@@ -95,7 +95,7 @@ fn written_with<A: Allocator + Copy>(
         step_places: &mut lists.step_places,
         step_rises: &mut lists.step_rises,
     };
-    let mut bounds = BoundsRoom {
+    let mut bounds = BoundsBuffers {
         level_starts: lists.level_starts.get_mut(..starts).unwrap_or(&mut []),
         level_places: lists.level_places.get_mut(..levels).unwrap_or(&mut []),
         level_bytes: lists.level_bytes.get_mut(..levels).unwrap_or(&mut []),

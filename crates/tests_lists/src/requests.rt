@@ -1,7 +1,9 @@
 //! Each request for memory, refused in turn: the call is out of memory, has written nothing, and is right the next time.
 
 use crate::fixtures::{assert_for, example, right_claim, same};
-use lb_lists::{Decided, Planned, Room, RunError, check_claim, decide_into, plan_into, plan_run};
+use lb_lists::{
+    Buffers, Decided, Planned, RunError, check_claim, decide_into, plan_into, plan_run,
+};
 use std::alloc::Global;
 use std::process::Abort;
 use tests_fixtures::{Outcome, Refusing, each_refusal};
@@ -66,7 +68,7 @@ fn plans(alloc: Lent<'_>) -> Outcome {
 fn writes(alloc: Lent<'_>) -> Outcome {
     let (mut new_places, mut cuts, mut stops, mut names) = ([7; 3], [7; 3], [7; 3], [7; 2]);
     let (mut block_prices, mut pe_prices) = ([7; 2], [7; 2]);
-    let mut room = Room {
+    let mut room = Buffers {
         new_places: &mut new_places,
         cuts: &mut cuts,
         stops: &mut stops,

@@ -4,7 +4,7 @@ use crate::fixtures::{assert_for, push, same};
 use chain_refinement::Tolerance;
 use lb_certificates::Flaw;
 use lb_lists::{
-    Claim, Decided, Planned, RefineError, Room, Run, RunError, ScaleError, check_claim,
+    Buffers, Claim, Decided, Planned, RefineError, Run, RunError, ScaleError, check_claim,
     decide_into, plan_into, plan_run, refine_run, scale_loads,
 };
 use std::alloc::Global;
@@ -141,7 +141,7 @@ struct Told {
 fn decided(rt: &(impl Abort + AllocGlobal), run: &Run<'_>, new_places: &mut [u32]) -> Told {
     let (mut cuts, mut stops, mut names) = ([7; 8], [7; 8], [7; 7]);
     let (mut block_prices, mut pe_prices) = ([7; 7], [7; 7]);
-    let mut room = Room {
+    let mut room = Buffers {
         new_places,
         cuts: &mut cuts,
         stops: &mut stops,
@@ -308,7 +308,7 @@ type Lent<'a> = &'a Refusing<Global>;
 fn decides(alloc: Lent<'_>) -> Outcome {
     let (mut new_places, mut cuts, mut stops) = ([7; PES], [7; PES + 1], [7; PES + 1]);
     let (mut names, mut block_prices, mut pe_prices) = ([7; PES], [7; PES], [7; PES]);
-    let mut room = Room {
+    let mut room = Buffers {
         new_places: &mut new_places,
         cuts: &mut cuts,
         stops: &mut stops,

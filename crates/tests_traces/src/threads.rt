@@ -2,7 +2,7 @@
 
 use crate::counting::{Expected, assert_for, events_in, expect_trace, moves_in, read_back};
 use hot_spot_run::run_chain_watched;
-use hot_spot_strip::{Chain, Mode};
+use hot_spot_strip::{Mode, StripChain};
 use pe_worker::Watch;
 use rts_run::Config;
 use run_trace::Tracing;
@@ -13,7 +13,7 @@ use std::time::Clock;
 
 // A run of a chain of strips that moves, on this number of PEs. Its trace has what it has to have.
 fn expect_run<R: Threads + Wait + Sync + Clock + Abort + AllocGlobal>(rt: &R, pes: u32) {
-    let chain = Chain {
+    let chain = StripChain {
         mode: Mode::Balanced,
         rounds: 4,
         work: 50,

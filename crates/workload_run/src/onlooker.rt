@@ -1,5 +1,5 @@
 use pe_worker::{NoWatch, Watch};
-use progress_line::Progress;
+use progress_line::ShownProgress;
 use std::time::Clock;
 
 /// A watch of the run of a workload. What is written does not depend on it, unless it asks the run to stop.
@@ -12,7 +12,7 @@ impl Onlooker for NoWatch {
     fn expects(&self, _rounds: u32) {}
 }
 
-impl<R: Clock + Eprint> Onlooker for Progress<'_, R> {
+impl<R: Clock + Eprint> Onlooker for ShownProgress<'_, R> {
     fn expects(&self, rounds: u32) {
         self.expect(rounds);
     }

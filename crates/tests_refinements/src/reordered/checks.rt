@@ -3,7 +3,7 @@
 use super::fixtures::{list, push, snapshot, tolerance};
 use super::rows::{Claim, HOT, TEN};
 use crate::fixtures::assert_for;
-use any_order::{Bounds, Levels, Reordered, ReorderedFlaw, check_reordered};
+use any_order::{ByteBounds, Levels, Reordered, ReorderedFlaw, check_reordered};
 use lb_certificates::{Cuts, Division, Flaw, Floor, Naming, Stops};
 use std::process::Abort;
 
@@ -51,13 +51,13 @@ fn steps(rt: &(impl Abort + AllocGlobal), numbers: &mut Numbers, count: u32) -> 
 }
 
 // The next rows, with these numbers of steps.
-fn bounds(rt: &(impl Abort + AllocGlobal), numbers: &mut Numbers, counts: &[u32]) -> Bounds {
+fn bounds(rt: &(impl Abort + AllocGlobal), numbers: &mut Numbers, counts: &[u32]) -> ByteBounds {
     let mut rows = Vec::new(rt.alloc());
     for &count in counts {
         rows.push(steps(rt, numbers, count))
             .expect(rt, "out of memory");
     }
-    Bounds::new(rows)
+    ByteBounds::new(rows)
 }
 
 // The claim with these numbers.

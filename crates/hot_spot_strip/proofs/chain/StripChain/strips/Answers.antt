@@ -1,7 +1,7 @@
 use Rattle.std.proofs.Common.{◌≡◌, ◌+◌, ◌∙◌, get_or, arith}
 use Rattle.std.proofs.lemmas.Grind.{common_steps}
 use Rattle.hot_spot_strip.proofs.OpeningStrips.{opened_next}
-use Rattle.hot_spot_strip.proofs.chain.Chain.strips.Goals as goal
+use Rattle.hot_spot_strip.proofs.chain.StripChain.strips.Goals as goal
 
 pub loop-count-preserved : goal.loop-count-preserved
 loop-count-preserved g c =

@@ -1,6 +1,6 @@
 use Rattle.std.proofs.Common.{◌≡◌, ◌++◌, drop}
 use Rattle.hot_spot_strip.specs.Openings.{opening_strips}
-use Rattle.hot_spot_strip.proofs.chain.Chain.strips.Given as goal
+use Rattle.hot_spot_strip.proofs.chain.StripChain.strips.Given as goal
 
 -- the strips that were made, and what the others will be, are all
 abbrev pub invariant-loop-count : goal.invariant-loop-count
