@@ -1,4 +1,4 @@
-//! Tests of a rod on fire: it ends with the numbers of `examples/heat.c`, a plain loop over all cells, on every number of PEs and under
+//! Tests of a rod on fire: it ends with the numbers of `examples/heat.c`, a plain loop over all cells, on 1, 2, 3, 5 and 8 PEs and under
 //! a hundred schedules; and a run whose requests for memory are refused in turn.
 #![tactic(auto)]
 

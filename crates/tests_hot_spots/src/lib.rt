@@ -1,4 +1,4 @@
-//! Tests of a chain of strips: its checksum is that of a plain loop over all cells, for every number of PEs, with balancing
+//! Tests of a chain of strips: its checksum is that of a plain loop over all cells, for several numbers of PEs, with balancing
 //! and without; and a run whose requests for memory are refused in turn.
 #![tactic(auto)]
 

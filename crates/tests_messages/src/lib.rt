@@ -1,4 +1,4 @@
-//! Tests of messages: what is posted as a value is handled as that value, on every number of PEs and in every order of events; bodies
+//! Tests of messages: what is posted as a value is handled as that value, on 1 to 8 PEs and in many orders of events; bodies
 //! that are no message; refusals at each limit; and letters as long as a run allows.
 #![tactic(auto)]
 

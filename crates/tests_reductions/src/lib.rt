@@ -1,5 +1,5 @@
 //! Tests of reductions: sums whose bits depend on the order of the operands, an operation that shows this order, and arrays of many shapes,
-//! on every number of PEs, in every order of events and while elements move; and what is refused, with what that leaves.
+//! on 1 to 8 PEs, under fifty seeds and while elements move; and what is refused, with what that leaves.
 #![tactic(auto)]
 
 #[cfg(test)]
