@@ -21,7 +21,6 @@ use crate::files::write_dumps;
 use crate::one_thread::{run_by_list, run_by_seed, run_by_seeds};
 use crate::traces::{Onlookers, keep_recorded, lose_trace};
 use at_sync::Strategy;
-use chain_refinement::Tolerance;
 use program_words::{BAD_FILE, on_words, refused};
 use progress_line::Progress;
 use rts_run::History;
@@ -92,7 +91,7 @@ fn run_watched<R: Threads + Wait + Sync + Files + Clock + Print + Eprint + Alloc
     onlookers: Onlookers<'_, R>,
     errors: &mut E,
 ) -> u8 {
-    let strategy = Strategy::within(asked.tolerance.and_then(Tolerance::new));
+    let strategy = Strategy::within(asked.tolerance);
     let file = File::open(rt, asked.file);
     let mut writer = io::writer(rt);
     let (driven, reason) = drive_file(

@@ -7,7 +7,6 @@ use crate::ADVICE;
 use crate::files::{keep_file, write_dumps};
 use crate::traces::{keep_trace, tell_lost_trace};
 use at_sync::Strategy;
-use chain_refinement::Tolerance;
 use program_words::BAD_FILE;
 use run_command_line::Asked;
 use run_trace::{Timeline, TraceError};
@@ -125,7 +124,7 @@ fn open_workload<R: Files + AllocGlobal, E: Write, W: Write>(
 }
 
 fn strategy_of(asked: &Asked<'_>) -> Strategy {
-    Strategy::within(asked.tolerance.and_then(Tolerance::new))
+    Strategy::within(asked.tolerance)
 }
 
 // Writes the list of events, the trace and the dumps that are asked for, and returns the status.

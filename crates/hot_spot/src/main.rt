@@ -11,7 +11,6 @@ mod words;
 
 use crate::words::{RunOptions, read_options};
 use at_sync::Strategy;
-use chain_refinement::Tolerance;
 use hot_spot_run::{ending_of, run_chain_watched, text_of};
 use hot_spot_strip::{Chain, ChainError, Mode, Strip};
 use pe_worker::Watch;
@@ -130,7 +129,7 @@ fn run_and_print<V: Watch + Sync, R: Threads + Wait + Sync + Clock + Print + Epr
     watch: &V,
 ) -> Result<(Outcome<Strip>, u8), ChainError> {
     let config = Config {
-        strategy: Strategy::within(options.tolerance.and_then(Tolerance::new)),
+        strategy: Strategy::within(options.tolerance),
         history: if options.no_journal {
             History::Dropped
         } else {
