@@ -6,9 +6,9 @@
 //!   ask for; `Asked::task`: how the chares are run, if the options go together; `program_words::refused`: the status where the
 //!   arguments ask for no run.
 //! - `workload_run::drive_file`: the run of a workload, from a file to its text; `write_asked`: the dumps of its rounds, and
-//!   the status; `write_beside`: the list of events and the trace, where they are asked for and there was a run.
-//! - `one_thread`: the runs on one thread, by the crate `schedule_run`. `traces`: the trace of a run, by `run_trace`. `files`: the
-//!   files of the system.
+//!   the status; `write_beside`: the list of events, where it is asked for and there was a run.
+//! - `one_thread`: the runs on one thread, by the crate `schedule_run`. `traces`: the trace of a run, by `run_trace::keep_trace`.
+//!   `files`: the files of the system.
 //! - `progress_line::Progress`: what is written to the standard error meanwhile; `streams::Advice`: what is printed about a
 //!   file with a fault.
 #![tactic(auto)]

@@ -9,7 +9,7 @@ use crate::traces::{keep_trace, tell_lost_trace};
 use at_sync::Strategy;
 use program_words::BAD_FILE;
 use run_command_line::Asked;
-use run_trace::{Timeline, TraceError};
+use run_trace::{LostTrace, Timeline};
 use schedule_run::{
     DrivenOnOne, ListFault, drive_events, drive_seed, drive_seeds, read_list, read_workload,
     report_list, write_list,
@@ -153,7 +153,7 @@ fn keep_steps<R: Files + Eprint + AllocGlobal, W: Write>(
     match Timeline::of_steps(rt.alloc(), explored.steps()) {
         Ok(timeline) => keep_trace(rt, asked.trace, explored.outcome(), &timeline, writer),
         Err(error) => {
-            tell_lost_trace(rt, asked.trace, TraceError::from(error), writer);
+            tell_lost_trace(rt, asked.trace, LostTrace::from(error), writer);
             true
         }
     }
