@@ -6,9 +6,9 @@
 //!   ask for; `Asked::task`: how the chares are run, if the options go together; `program_words::refused`: the status where the
 //!   arguments ask for no run.
 //! - `workload_run::drive_file`: the run of a workload, from a file to its text; `write_asked`: the dumps of its rounds, and
-//!   the status; `write_beside`: the list of events and the trace, where they are asked for and there was a run.
-//! - `one_thread`: the runs on one thread, by the crate `schedule_run`. `traces`: the trace of a run, by `run_trace`. `files`: the
-//!   files of the system.
+//!   the status; `write_beside`: the list of events, where it is asked for and there was a run.
+//! - `one_thread`: the runs on one thread, by the crate `schedule_run`. `traces`: the trace of a run, by `run_trace::keep_trace`.
+//!   `files`: the files of the system.
 //! - `progress_line::ShownProgress`: what is written to the standard error meanwhile; `streams::Advice`: what is printed about a
 //!   file with a fault.
 #![tactic(auto)]
@@ -21,7 +21,6 @@ use crate::files::write_dumps;
 use crate::one_thread::{run_by_list, run_by_seed, run_by_seeds};
 use crate::traces::{Onlookers, keep_recorded, lose_trace};
 use at_sync::Strategy;
-use chain_refinement::Tolerance;
 use program_words::{BAD_FILE, on_words, refused};
 use progress_line::ShownProgress;
 use rts_run::History;
@@ -92,7 +91,7 @@ fn run_watched<R: Threads + Wait + Sync + Files + Clock + Print + Eprint + Alloc
     onlookers: Onlookers<'_, R>,
     errors: &mut E,
 ) -> u8 {
-    let strategy = Strategy::within(asked.tolerance.and_then(Tolerance::new));
+    let strategy = Strategy::within(asked.tolerance);
     let file = File::open(rt, asked.file);
     let mut writer = io::writer(rt);
     let (driven, reason) = drive_file(

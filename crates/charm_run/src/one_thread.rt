@@ -7,10 +7,9 @@ use crate::ADVICE;
 use crate::files::{keep_file, write_dumps};
 use crate::traces::{keep_trace, tell_lost_trace};
 use at_sync::Strategy;
-use chain_refinement::Tolerance;
 use program_words::BAD_FILE;
 use run_command_line::Asked;
-use run_trace::{Timeline, TraceError};
+use run_trace::{LostTrace, Timeline};
 use schedule_run::{
     DrivenOnOne, ListFault, drive_events, drive_seed, drive_seeds, read_list, read_workload,
     report_list, write_list,
@@ -125,7 +124,7 @@ fn open_workload<R: Files + AllocGlobal, E: Write, W: Write>(
 }
 
 fn strategy_of(asked: &Asked<'_>) -> Strategy {
-    Strategy::within(asked.tolerance.and_then(Tolerance::new))
+    Strategy::within(asked.tolerance)
 }
 
 // Writes the list of events, the trace and the dumps that are asked for, and returns the status.
@@ -154,7 +153,7 @@ fn keep_steps<R: Files + Eprint + AllocGlobal, W: Write>(
     match Timeline::of_steps(rt.alloc(), explored.steps()) {
         Ok(timeline) => keep_trace(rt, asked.trace, explored.outcome(), &timeline, writer),
         Err(error) => {
-            tell_lost_trace(rt, asked.trace, TraceError::from(error), writer);
+            tell_lost_trace(rt, asked.trace, LostTrace::from(error), writer);
             true
         }
     }

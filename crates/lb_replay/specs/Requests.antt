@@ -1,7 +1,6 @@
 -- What the arguments of a command line ask for.
 use Rattle.std.specs.Prelude.{ℕ, ◌≤◌, Option, Some, None, List, Bool, true, false, Result, Ok, Err}
 use Rattle.std.specs.Option.{ForSome}
-use Rattle.chain_refinement.specs.declared.tolerance.TheConstants.Tolerance.{MOST}
 use Rattle.chare_index.specs.declared.limits.TheConstants.Limits.{PES}
 use Rattle.lb_replay.specs.Simulation.{EndsReplay}
 use Rattle.lb_replay.specs.Verifying.{EndsCheck}
@@ -36,15 +35,12 @@ abbrev pub task_of : Option ℕ → Option ℕ → Bool → Bool → Bool → Re
 task_of procs tolerance keep_order any_order false = replay_of procs tolerance keep_order any_order
 task_of procs tolerance keep_order any_order true = check_of procs tolerance keep_order any_order
 
--- a number of PEs that a replay is asked for is 1 to 256, and a tolerance is at most 1,000
+-- a number of PEs that a replay is asked for is 1 to 256
 abbrev pub MayRun : Task → Type 0
 MayRun (Replay procs) = ForSome procs (λ p. 1 ≤ p) × ForSome procs (λ p. p ≤ PES)
-MayRun (Refine procs tolerance) =
-    ForSome procs (λ p. 1 ≤ p) × ForSome procs (λ p. p ≤ PES) × (tolerance ≤ MOST)
-MayRun (RefineInOrder procs tolerance) =
-    ForSome procs (λ p. 1 ≤ p) × ForSome procs (λ p. p ≤ PES) × (tolerance ≤ MOST)
-MayRun (RefineInAnyOrder procs tolerance) =
-    ForSome procs (λ p. 1 ≤ p) × ForSome procs (λ p. p ≤ PES) × (tolerance ≤ MOST)
+MayRun (Refine procs tolerance) = ForSome procs (λ p. 1 ≤ p) × ForSome procs (λ p. p ≤ PES)
+MayRun (RefineInOrder procs tolerance) = ForSome procs (λ p. 1 ≤ p) × ForSome procs (λ p. p ≤ PES)
+MayRun (RefineInAnyOrder procs tolerance) = ForSome procs (λ p. 1 ≤ p) × ForSome procs (λ p. p ≤ PES)
 MayRun Check = Unit {0}
 
 -- how each task ends

@@ -82,13 +82,12 @@ fn print_one(
     rt: &HostRuntime,
     name: &str,
     procs: &[u32],
-    thousandths: Option<u32>,
+    tolerance: Option<Tolerance>,
     style: Style,
 ) -> Ended
     requires { All IsNumber procs.now }
 {
     let alloc = rt.alloc();
-    let tolerance = thousandths.and_then(Tolerance::new);
     let mut output = Noted::new(io::writer(rt));
     let (ended, reason) = if name == "-" {
         let mut input = Noted::new(rt.stdin());

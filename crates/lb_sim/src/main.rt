@@ -16,7 +16,6 @@ ghost use Rattle.lb_replay.specs.Requests.{MayRun};
 ghost use Rattle.std.specs.Prelude.{◌≤◌};
 ghost use Rattle.std.specs.Option.{ForSome};
 
-use chain_refinement::Tolerance;
 use chare_index::Limits;
 use lb_replay::{Asked, Ended, Task, dump_advice, run};
 use program_words::{BAD_FILE, on_words, refused};
@@ -35,16 +34,15 @@ const ADVICE: Advice<'static> = Advice {
 
 fn main(rt: HostRuntime) -> ExitCode {
     on_words(&rt, |words| match asked(rt.alloc(), words) {
-        Ok(asked) => do_task(&rt, asked),
+        Ok(asked) => do_task(&rt, &asked),
         Err(error) => refused(&rt, &error),
     })
 }
 
 // Does what is asked for, and returns the status. Where that is not a task no file is opened.
-fn do_task(rt: &HostRuntime, asked: Asked<'_>) -> u8
-    requires some_pe { ForSome asked.procs (λ p. 1 ≤ p) }
-    requires few_pes { ForSome asked.procs (λ p. p ≤ Limits.PES) }
-    requires most { ForSome asked.tolerance (λ t. t ≤ Tolerance.MOST) }
+fn do_task(rt: &HostRuntime, asked: &Asked<'_>) -> u8
+    requires some_pe { ForSome asked.now.procs (λ p. 1 ≤ p) }
+    requires few_pes { ForSome asked.now.procs (λ p. p ≤ Limits.PES) }
 {
     match asked.task() {
         Ok(task) => run_task(rt, asked.file, task),

@@ -58,7 +58,6 @@ pub fn asked<'a>(alloc: Global, words: &'a [&'a str]) -> Result<Asked<'a>, Error
     ensures lbd1 { IfOk result (λ asked. IsTrue asked.lbd1 ↔ AsksLbd1 (texts words.now)) }
     ensures progress { IfOk result (λ asked. IsTrue asked.progress ↔ TellsProgress (texts words.now)) }
     ensures tolerance { IfOk result (λ asked. (n : ℕ) → (asked.tolerance ≡ Some n) ↔ SpellsTolerance (tolerance_in (texts words.now)) n) }
-    ensures range { IfOk result (λ asked. ForSome asked.tolerance (λ t. t ≤ 1000)) }
     ensures seed { IfOk result (λ asked. (n : ℕ) → (asked.seed ≡ Some n) ↔ SpellsSeed (seed_in (texts words.now)) n) }
     ensures seeds { IfOk result (λ asked. (n : ℕ) → (asked.seeds ≡ Some n) ↔ SpellsSeeds (seeds_in (texts words.now)) n) }
     ensures some_seed { IfOk result (λ asked. ForSome asked.seeds (λ n. 1 ≤ n)) }
@@ -243,7 +242,6 @@ fn found<'a>(matches: &ArgMatches<'a>) -> Asked<'a>
     ensures lbd1 { IsTrue result.lbd1 ↔ (one_text (found_of matches.now) (codes "lbd1") ≡ Some (codes "true")) }
     ensures progress { IsTrue result.progress ↔ (one_text (found_of matches.now) (codes "progress") ≡ Some (codes "true")) }
     ensures tolerance { (n : ℕ) → (result.tolerance ≡ Some n) ↔ SpellsTolerance (one_text (found_of matches.now) (codes "tolerance")) n }
-    ensures range { ForSome result.tolerance (λ t. t ≤ 1000) }
     ensures seed { (n : ℕ) → (result.seed ≡ Some n) ↔ SpellsSeed (one_text (found_of matches.now) (codes "seed")) n }
     ensures seeds { (n : ℕ) → (result.seeds ≡ Some n) ↔ SpellsSeeds (one_text (found_of matches.now) (codes "seeds")) n }
     ensures some_seed { ForSome result.seeds (λ n. 1 ≤ n) }

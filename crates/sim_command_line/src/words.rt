@@ -10,7 +10,6 @@ ghost use Rattle.sim_command_line.specs.CommandLine.{AsksAnyOrder, AsksCheck, As
 ghost use Rattle.sim_command_line.specs.CommandLine.{program, tolerance_in};
 
 use crate::help::{ABOUT, HOW_TO};
-use chain_refinement::Tolerance;
 use chare_index::Limits;
 use clap::builder::ValueParser;
 use clap::{Arg, ArgMatches, Command, Error, value_parser};
@@ -84,7 +83,6 @@ pub fn asked<'a>(alloc: Global, words: &'a [&'a str]) -> Result<Asked<'a>, Error
     ensures check { IfOk result (λ asked. IsTrue asked.check ↔ AsksCheck (texts words.now)) }
     ensures some_pe { IfOk result (λ asked. ForSome asked.procs (λ p. 1 ≤ p)) }
     ensures few_pes { IfOk result (λ asked. ForSome asked.procs (λ p. p ≤ Limits.PES)) }
-    ensures most { IfOk result (λ asked. ForSome asked.tolerance (λ t. t ≤ Tolerance.MOST)) }
 {
     match command(alloc)?.try_get_matches_from(words) {
         Ok(matches) => Ok(found(&matches)),
@@ -189,7 +187,6 @@ fn found<'a>(matches: &ArgMatches<'a>) -> Asked<'a>
     ensures check { IsTrue result.check ↔ (one_text (found_of matches.now) (codes "check") ≡ Some (codes "true")) }
     ensures some_pe { ForSome result.procs (λ p. 1 ≤ p) }
     ensures few_pes { ForSome result.procs (λ p. p ≤ Limits.PES) }
-    ensures most { ForSome result.tolerance (λ t. t ≤ Tolerance.MOST) }
 {
     Asked {
         file: matches.get_str("file").unwrap(),

@@ -17,12 +17,13 @@ struct Row {
     text: &'static str,
 }
 
-// The task of a row. A number that is out of range counts as none.
+// The task of a row. A number of PEs that is out of range counts as none, and a greater tolerance as the greatest.
 fn task(row: &Row) -> Task
     ensures may_run { MayRun result }
 {
     let procs = row.procs.filter(|&p| 1 <= p && p <= Limits::PES);
-    Task::RefineInAnyOrder(procs, row.tolerance.min(Tolerance::MOST))
+    let tolerance = Tolerance::new(row.tolerance.min(Tolerance::MOST)).unwrap();
+    Task::RefineInAnyOrder(procs, tolerance)
 }
 
 // Whether a replay prints the text, from a reader that gives seven bytes per call.

@@ -3,7 +3,6 @@
 ghost use Rattle.lb_replay.specs.Requests.{MayRun};
 ghost use Rattle.std.specs.Prelude.{◌≡◌, true};
 
-use chain_refinement::Tolerance;
 use lb_replay::{Ended, Task, Way, simulate, verify};
 use std::alloc::Global;
 use std::fmt::Debug;
@@ -71,17 +70,14 @@ pub(crate) fn ended<R: Read, W: Write>(
 {
     match task {
         Task::Replay(procs) => simulate(alloc, reader, writer, procs, Way::Least),
-        Task::Refine(procs, thousandths) => {
-            let way = Way::Within(Tolerance::new(thousandths).unwrap());
-            simulate(alloc, reader, writer, procs, way)
+        Task::Refine(procs, tolerance) => {
+            simulate(alloc, reader, writer, procs, Way::Within(tolerance))
         }
-        Task::RefineInOrder(procs, thousandths) => {
-            let way = Way::InOrder(Tolerance::new(thousandths).unwrap());
-            simulate(alloc, reader, writer, procs, way)
+        Task::RefineInOrder(procs, tolerance) => {
+            simulate(alloc, reader, writer, procs, Way::InOrder(tolerance))
         }
-        Task::RefineInAnyOrder(procs, thousandths) => {
-            let way = Way::InAnyOrder(Tolerance::new(thousandths).unwrap());
-            simulate(alloc, reader, writer, procs, way)
+        Task::RefineInAnyOrder(procs, tolerance) => {
+            simulate(alloc, reader, writer, procs, Way::InAnyOrder(tolerance))
         }
         Task::Check => verify(alloc, reader, writer),
     }

@@ -47,22 +47,30 @@ fn runs_that_print(rt: HostRuntime) {
     assert_for(&rt, prints(&rt, Task::Check, &DECIDED, RIGHT), RIGHT);
 }
 
-// Whether a run returns the reason where its file is not opened, and where a read fails.
-fn hands_reason_on(rt: &impl AllocGlobal, task: Task, dump: &[u8]) -> bool
+// Whether a run returns the reason where its file is not opened.
+fn tells_missing(rt: &impl AllocGlobal, task: Task) -> bool
     requires { MayRun task }
 {
     let missing: io::Result<&[u8]> = Err(io::Error::from(ErrorKind::NotFound));
+    let end = (Ended::Dump(DumpError::Read), Some(ErrorKind::NotFound));
+    runs(rt, task, missing, "dump: read failed\n", end)
+}
+
+// Whether it returns the reason where a read of this dump fails.
+fn tells_failed(rt: &impl AllocGlobal, task: Task, dump: &[u8]) -> bool
+    requires { MayRun task }
+{
     let failing = Ok(Source::new(dump, 20, Some((1, ErrorKind::Interrupted))));
-    let text = "dump: read failed\n";
-    let end = Ended::Dump(DumpError::Read);
-    runs(rt, task, missing, text, (end, Some(ErrorKind::NotFound)))
-        && runs(rt, task, failing, text, (end, Some(ErrorKind::Interrupted)))
+    let end = (Ended::Dump(DumpError::Read), Some(ErrorKind::Interrupted));
+    runs(rt, task, failing, "dump: read failed\n", end)
 }
 
 #[test]
 fn a_run_hands_the_reason_on(rt: HostRuntime) {
-    assert_for(&rt, hands_reason_on(&rt, REPLAY, &EXAMPLE_DUMP), "a replay");
-    assert_for(&rt, hands_reason_on(&rt, Task::Check, &DECIDED), "a check");
+    assert_for(&rt, tells_missing(&rt, REPLAY), "no file to replay");
+    assert_for(&rt, tells_missing(&rt, Task::Check), "no file to check");
+    assert_for(&rt, tells_failed(&rt, REPLAY, &EXAMPLE_DUMP), "a replay");
+    assert_for(&rt, tells_failed(&rt, Task::Check, &DECIDED), "a check");
 }
 
 #[test]

@@ -70,12 +70,12 @@ struct Row {
     text: &'static str,
 }
 
-// The task of a row. A number that is out of range counts as none.
+// The task of a row. A number of PEs that is out of range counts as none, and a greater tolerance as the greatest.
 fn task(row: &Row) -> Task
     ensures may_run { MayRun result }
 {
     let procs = row.procs.filter(|&p| 1 <= p && p <= Limits::PES);
-    let tolerance = row.tolerance.min(Tolerance::MOST);
+    let tolerance = Tolerance::new(row.tolerance.min(Tolerance::MOST)).unwrap();
     if row.keep_order {
         return Task::RefineInOrder(procs, tolerance);
     }
