@@ -4,7 +4,7 @@ use chare_index::{Pe, Round};
 use pe_worker::{PeStep, Watch};
 use progress_line::ShownProgress;
 use rts_run::Outcome;
-use run_command_line::Asked;
+use run_command_line::CharmRunOptions;
 use run_trace::{LostTrace, Timeline, TraceError, Tracing};
 use std::alloc::Global;
 use std::fs::{File, Files};
@@ -95,7 +95,7 @@ pub(crate) fn keep_trace<R: Files + Eprint + AllocGlobal, W: Write>(
 /// Writes that a trace cannot be kept, and returns the status.
 pub(crate) fn lose_trace<R: Eprint, W: Write>(
     rt: &R,
-    asked: &Asked<'_>,
+    asked: &CharmRunOptions<'_>,
     error: TraceError,
     writer: &mut W,
 ) -> u8 {

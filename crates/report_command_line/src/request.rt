@@ -3,7 +3,7 @@ use std::alloc::Global;
 
 /// What the arguments of a command line ask for.
 #[derive(Drop)]
-pub struct Asked<'a> {
+pub struct ReportOptions<'a> {
     /// The dumps, in order. `-` stands for the standard input.
     pub files: Vec<&'a str, Global>,
     /// The numbers of PEs to plan for, as they were written: [`numbers`](crate::numbers) reads them.

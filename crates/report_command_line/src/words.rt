@@ -7,7 +7,7 @@ ghost use Rattle.report_command_line.specs.CommandLine.{AsksCsv, AsksMoves, csv_
 ghost use Rattle.report_command_line.specs.CommandLine.{procs_rule, program, tolerance_in};
 
 use crate::help::{ABOUT, HOW_TO};
-use crate::request::Asked;
+use crate::request::ReportOptions;
 use clap::{Arg, ArgAction, ArgMatches, Command, Error};
 use program_words::{flag, new_program, tolerance_in, word};
 use std::alloc::{AllocError, Global};
@@ -19,7 +19,7 @@ use std::alloc::{AllocError, Global};
 /// The arguments are not `[--procs P[,P..]] [--tolerance T] [--csv] [--moves] FILE..` with a T of 0 to 1,000
 /// (`Tolerance::MOST`), help or the version is asked for, or memory ran out. The error has the text to print; [`words_status`]
 /// is the status for it.
-pub fn asked<'a>(alloc: Global, words: &'a [&'a str]) -> Result<Asked<'a>, Error>
+pub fn asked<'a>(alloc: Global, words: &'a [&'a str]) -> Result<ReportOptions<'a>, Error>
     ensures faults { FailsBy (fault_of program (texts words.now)) result }
     ensures files { IfOk result (λ asked. files_in (texts words.now) ≡ texts asked.files.items) }
     ensures procs { IfOk result (λ asked. procs_in (texts words.now) ≡ option_map (λ text. text.now) asked.procs) }
@@ -103,14 +103,14 @@ fn moves<'a>(alloc: Global) -> Arg<'a>
 }
 
 // What the arguments ask for, with the dumps that are named.
-fn found<'a>(files: Vec<&'a str>, matches: &ArgMatches<'a>) -> Asked<'a>
+fn found<'a>(files: Vec<&'a str>, matches: &ArgMatches<'a>) -> ReportOptions<'a>
     ensures files { texts files.entry.items ≡ texts result.files.items }
     ensures procs { first_value (found_of matches.now) (codes "procs") ≡ option_map (λ text. text.now) result.procs }
     ensures tolerance { (n : ℕ) → (result.tolerance ≡ Some n) ↔ SpellsTolerance (one_text (found_of matches.now) (codes "tolerance")) n }
     ensures csv { IsTrue result.csv ↔ (one_text (found_of matches.now) (codes "csv") ≡ Some (codes "true")) }
     ensures moves { IsTrue result.moves ↔ (one_text (found_of matches.now) (codes "moves") ≡ Some (codes "true")) }
 {
-    Asked {
+    ReportOptions {
         files,
         procs: matches.get_str("procs"),
         tolerance: tolerance_in(matches),

@@ -5,7 +5,7 @@ use chain_refinement::Tolerance;
 
 /// What the arguments of a command line ask for.
 #[derive(Clone, Copy, Debug, PartialEq, Eq)]
-pub struct Asked<'a> {
+pub struct CharmRunOptions<'a> {
     /// The workload.
     pub file: &'a str,
     /// The dump of round r goes to the file of this name followed by `.r`.
@@ -62,7 +62,7 @@ pub enum Clash {
     NoJournalOnOneThread,
 }
 
-impl<'a> Asked<'a> {
+impl<'a> CharmRunOptions<'a> {
     /// How the chares are run.
     ///
     /// # Errors

@@ -6,7 +6,7 @@ use crate::fixtures::{assert_for, ends};
 use crate::tolerances::FOUR;
 use chain_refinement::Tolerance;
 use chare_index::Limits;
-use lb_replay::{Ended, Task};
+use lb_replay::{SimEnd, Task};
 use tests_fixtures::{EXAMPLE_DUMP, Source};
 
 // A dump, the number of PEs that is asked for, a tolerance, and the text.
@@ -29,7 +29,7 @@ fn task(row: &Row) -> Task
 // Whether a replay prints the text, from a reader that gives seven bytes per call.
 fn is_printed(rt: &impl AllocGlobal, row: &Row) -> bool {
     let mut reader = Source::new(row.dump, 7, None);
-    ends(rt, task(row), &mut reader, row.text, Ended::Printed)
+    ends(rt, task(row), &mut reader, row.text, SimEnd::Printed)
 }
 
 /// The text for the four elements within 7. Elements 0 and 1 weigh 8 and share a PE, so one of them moves. If that were element 0

@@ -2,7 +2,7 @@
 
 use crate::fixtures::{assert_for, same};
 use chain_refinement::Tolerance;
-use lb_replay::{Asked, Clash};
+use lb_replay::{Clash, SimOptions};
 use program_words::words_status;
 use sim_command_line::{asked, refuse_both};
 use std::alloc::Global;
@@ -19,7 +19,7 @@ type Asking = (
 );
 
 // Whether a row is what is asked for, which can be done or not.
-fn is_row(asked: &Asked<'_>, row: &Asking) -> bool {
+fn is_row(asked: &SimOptions<'_>, row: &Asking) -> bool {
     let &(_, file, procs, thousandths, flags, clash) = row;
     asked.file == file
         && asked.procs == procs

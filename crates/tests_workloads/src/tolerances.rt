@@ -6,7 +6,7 @@ use at_sync::Strategy;
 use chain_refinement::Tolerance;
 use lb_dump::decode;
 use lb_refinement::Refined;
-use workload_run::{DumpFormat, Ended};
+use workload_run::{DumpFormat, RunEnd};
 
 // What is printed where the loads 6 and 1, and 1 and 2, may stay where they are.
 const KEPT_TEXT: &str = "round 1 bottleneck 7 moved 0\n\
@@ -19,7 +19,7 @@ const KEPT_TEXT: &str = "round 1 bottleneck 7 moved 0\n\
 fn a_tolerance_keeps_what_lies_within_it(rt: HostRuntime) {
     for (thousandths, want) in &[(166, WORKED_TEXT), (167, KEPT_TEXT)] {
         let tolerance = Tolerance::new(*thousandths).expect(&rt, "no tolerance");
-        let row = (WORKED, Ended::Ran(None), 0, *want);
+        let row = (WORKED, RunEnd::Ran(None), 0, *want);
         assert_for(&rt, tells(&rt, &row, Strategy::Refine(tolerance)), *want);
     }
 }

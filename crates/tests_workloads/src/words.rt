@@ -3,11 +3,11 @@
 use crate::fixtures::assert_for;
 use chain_refinement::Tolerance;
 use program_words::{NO_WORDS, words_status};
-use run_command_line::{Asked, Task, asked, refuse};
+use run_command_line::{CharmRunOptions, Task, asked, refuse};
 use std::alloc::Global;
 
 // The status for arguments that ask for no run, and what the others ask for.
-fn answer<'a>(alloc: Global, words: &'a [&'a str]) -> Result<Asked<'a>, u8> {
+fn answer<'a>(alloc: Global, words: &'a [&'a str]) -> Result<CharmRunOptions<'a>, u8> {
     match asked(alloc, words) {
         Ok(asked) => Ok(asked),
         Err(error) => Err(words_status(&error)),
@@ -15,8 +15,8 @@ fn answer<'a>(alloc: Global, words: &'a [&'a str]) -> Result<Asked<'a>, u8> {
 }
 
 // What the file alone asks for.
-fn plain() -> Asked<'static> {
-    Asked {
+fn plain() -> CharmRunOptions<'static> {
+    CharmRunOptions {
         file: "f",
         dump: None,
         lbd1: false,
@@ -55,8 +55,8 @@ static EVERY_OPTION: [&str; 19] = [
 ];
 
 // What they ask for.
-fn all_asked(tolerance: Tolerance) -> Asked<'static> {
-    Asked {
+fn all_asked(tolerance: Tolerance) -> CharmRunOptions<'static> {
+    CharmRunOptions {
         file: "f",
         dump: Some("p"),
         lbd1: true,
