@@ -2,7 +2,7 @@
 
 ghost use Rattle.std.specs.Prelude.{None};
 
-use run_command_line::Asked;
+use run_command_line::CharmRunOptions;
 use std::alloc::Global;
 use std::fs::{File, Files};
 use std::io::{self, Write};
@@ -28,7 +28,7 @@ impl<R: Files> DumpFiles for SystemFiles<'_, R> {
 /// Writes the dumps of the rounds that are asked for, and returns the status.
 pub(crate) fn write_dumps<R: Files + Eprint + AllocGlobal, W: Write>(
     rt: &R,
-    asked: &Asked<'_>,
+    asked: &CharmRunOptions<'_>,
     driven: &Driven<Global>,
     writer: &mut W,
 ) -> u8 {

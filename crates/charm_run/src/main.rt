@@ -3,12 +3,12 @@
 //! one thread, in an order of events that can be repeated; `--events LIST` writes that order. `--trace FILE` writes what happened.
 //!
 //! - `program_words::on_words`: the arguments of the command line, and the status. `run_command_line::asked`: what the arguments
-//!   ask for; `Asked::task`: how the chares are run, if the options go together; `program_words::refused`: the status where the
+//!   ask for; `CharmRunOptions::task`: how the chares are run, if the options go together; `program_words::refused`: the status where the
 //!   arguments ask for no run.
 //! - `workload_run::drive_file`: the run of a workload, from a file to its text; `write_asked`: the dumps of its rounds, and
-//!   the status; `write_beside`: the list of events and the trace, where they are asked for and there was a run.
-//! - `one_thread`: the runs on one thread, by the crate `schedule_run`. `traces`: the trace of a run, by `run_trace`. `files`: the
-//!   files of the system.
+//!   the status; `write_beside`: the list of events, where it is asked for and there was a run.
+//! - `one_thread`: the runs on one thread, by the crate `schedule_run`. `traces`: the trace of a run, by `run_trace::keep_trace`.
+//!   `files`: the files of the system.
 //! - `progress_line::ShownProgress`: what is written to the standard error meanwhile; `streams::Advice`: what is printed about a
 //!   file with a fault.
 #![tactic(auto)]
@@ -21,11 +21,10 @@ use crate::files::write_dumps;
 use crate::one_thread::{run_by_list, run_by_seed, run_by_seeds};
 use crate::traces::{Onlookers, keep_recorded, lose_trace};
 use at_sync::Strategy;
-use chain_refinement::Tolerance;
 use program_words::{BAD_FILE, on_words, refused};
 use progress_line::ShownProgress;
 use rts_run::History;
-use run_command_line::{Asked, Task, asked, refuse};
+use run_command_line::{CharmRunOptions, Task, asked, refuse};
 use run_trace::Tracing;
 use std::fs::{File, Files};
 use std::io::{self, IsTerminal, Write};
@@ -59,7 +58,7 @@ fn main(rt: HostRuntime) -> ExitCode {
 // Does what is asked for, and returns the status. No file is opened where the options do not go together.
 fn run_asked<R: Threads + Wait + Sync + Files + Clock + Print + Eprint + AllocGlobal, E: Write>(
     rt: &R,
-    asked: &Asked<'_>,
+    asked: &CharmRunOptions<'_>,
     progress: bool,
     errors: &mut E,
 ) -> u8 {
@@ -76,7 +75,7 @@ fn run_asked<R: Threads + Wait + Sync + Files + Clock + Print + Eprint + AllocGl
 fn run_on_threads<
     R: Threads + Wait + Sync + Files + Clock + Print + Eprint + AllocGlobal,
     E: Write,
->(rt: &R, asked: &Asked<'_>, progress: bool, errors: &mut E) -> u8 {
+>(rt: &R, asked: &CharmRunOptions<'_>, progress: bool, errors: &mut E) -> u8 {
     let progress = ShownProgress::new(rt, progress).unwrap_or(ShownProgress::Off);
     match Tracing::new(rt, rt.alloc(), asked.trace.is_some()) {
         Ok(tracing) => run_watched(rt, asked, Onlookers { progress, tracing }, errors),
@@ -88,11 +87,11 @@ fn run_on_threads<
 // status. What was wrong with a file goes to `errors`.
 fn run_watched<R: Threads + Wait + Sync + Files + Clock + Print + Eprint + AllocGlobal, E: Write>(
     rt: &R,
-    asked: &Asked<'_>,
+    asked: &CharmRunOptions<'_>,
     onlookers: Onlookers<'_, R>,
     errors: &mut E,
 ) -> u8 {
-    let strategy = Strategy::within(asked.tolerance.and_then(Tolerance::new));
+    let strategy = Strategy::within(asked.tolerance);
     let file = File::open(rt, asked.file);
     let mut writer = io::writer(rt);
     let (driven, reason) = drive_file(
@@ -115,7 +114,7 @@ fn run_watched<R: Threads + Wait + Sync + Files + Clock + Print + Eprint + Alloc
 }
 
 // Whether elements keep what they have handled.
-fn history_of(asked: &Asked<'_>) -> History {
+fn history_of(asked: &CharmRunOptions<'_>) -> History {
     if asked.no_journal {
         return History::Dropped;
     }

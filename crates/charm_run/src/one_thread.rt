@@ -7,10 +7,9 @@ use crate::ADVICE;
 use crate::files::{keep_file, write_dumps};
 use crate::traces::{keep_trace, tell_lost_trace};
 use at_sync::Strategy;
-use chain_refinement::Tolerance;
 use program_words::BAD_FILE;
-use run_command_line::Asked;
-use run_trace::{Timeline, TraceError};
+use run_command_line::CharmRunOptions;
+use run_trace::{LostTrace, Timeline};
 use schedule_run::{
     DrivenOnOne, ListFault, drive_events, drive_seed, drive_seeds, read_list, read_workload,
     report_list, write_list,
@@ -34,7 +33,7 @@ const LIST_ADVICE: Advice<'static> = Advice {
 /// Runs the workload by a seed, writes what is asked for of that, and returns the status.
 pub(crate) fn run_by_seed<R: Files + Print + Eprint + AllocGlobal, E: Write>(
     rt: &R,
-    asked: &Asked<'_>,
+    asked: &CharmRunOptions<'_>,
     seed: u64,
     errors: &mut E,
 ) -> u8 {
@@ -51,7 +50,7 @@ pub(crate) fn run_by_seed<R: Files + Print + Eprint + AllocGlobal, E: Write>(
 /// Runs the workload by each of the seeds from 1 to this number, and returns the status.
 pub(crate) fn run_by_seeds<R: Files + Print + Eprint + AllocGlobal, E: Write>(
     rt: &R,
-    asked: &Asked<'_>,
+    asked: &CharmRunOptions<'_>,
     seeds: u32,
     errors: &mut E,
 ) -> u8 {
@@ -67,7 +66,7 @@ pub(crate) fn run_by_seeds<R: Files + Print + Eprint + AllocGlobal, E: Write>(
 /// Runs the workload by the events of a list, writes what is asked for of that, and returns the status.
 pub(crate) fn run_by_list<R: Files + Print + Eprint + AllocGlobal, E: Write>(
     rt: &R,
-    asked: &Asked<'_>,
+    asked: &CharmRunOptions<'_>,
     list: &str,
     errors: &mut E,
 ) -> u8 {
@@ -107,7 +106,7 @@ fn refuse_list<R: AllocGlobal, E: Write, W: Write>(
 // Returns the workload of the file that is asked for; or otherwise writes what is wrong with it, and returns the status.
 fn open_workload<R: Files + AllocGlobal, E: Write, W: Write>(
     rt: &R,
-    asked: &Asked<'_>,
+    asked: &CharmRunOptions<'_>,
     errors: &mut E,
     writer: &mut W,
 ) -> Result<Workload<Global>, u8>
@@ -124,14 +123,14 @@ fn open_workload<R: Files + AllocGlobal, E: Write, W: Write>(
     }
 }
 
-fn strategy_of(asked: &Asked<'_>) -> Strategy {
-    Strategy::within(asked.tolerance.and_then(Tolerance::new))
+fn strategy_of(asked: &CharmRunOptions<'_>) -> Strategy {
+    Strategy::within(asked.tolerance)
 }
 
 // Writes the list of events, the trace and the dumps that are asked for, and returns the status.
 fn write_left<R: Files + Eprint + AllocGlobal, W: Write>(
     rt: &R,
-    asked: &Asked<'_>,
+    asked: &CharmRunOptions<'_>,
     driven: DrivenOnOne<Global>,
     writer: &mut W,
 ) -> u8 {
@@ -144,7 +143,7 @@ fn write_left<R: Files + Eprint + AllocGlobal, W: Write>(
 // Writes the trace to the file that is asked for, by the numbers of the events. Returns whether it was lost.
 fn keep_steps<R: Files + Eprint + AllocGlobal, W: Write>(
     rt: &R,
-    asked: &Asked<'_>,
+    asked: &CharmRunOptions<'_>,
     driven: &DrivenOnOne<Global>,
     writer: &mut W,
 ) -> bool {
@@ -154,7 +153,7 @@ fn keep_steps<R: Files + Eprint + AllocGlobal, W: Write>(
     match Timeline::of_steps(rt.alloc(), explored.steps()) {
         Ok(timeline) => keep_trace(rt, asked.trace, explored.outcome(), &timeline, writer),
         Err(error) => {
-            tell_lost_trace(rt, asked.trace, TraceError::from(error), writer);
+            tell_lost_trace(rt, asked.trace, LostTrace::from(error), writer);
             true
         }
     }
@@ -176,7 +175,7 @@ impl BesideText for Listed<'_> {
 // Writes the list of events to the file that is asked for. Returns whether it was lost.
 fn keep_events<R: Files + Eprint + AllocGlobal, W: Write>(
     rt: &R,
-    asked: &Asked<'_>,
+    asked: &CharmRunOptions<'_>,
     driven: &DrivenOnOne<Global>,
     writer: &mut W,
 ) -> bool {

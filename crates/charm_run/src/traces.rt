@@ -1,19 +1,18 @@
 //! The trace of a run, in the file that is asked for.
 
-use crate::files::keep_file;
 use chare_index::{Pe, Round};
 use pe_worker::{PeStep, Watch};
 use progress_line::ShownProgress;
 use rts_run::Outcome;
-use run_command_line::Asked;
-use run_trace::{Timeline, TraceError, Tracing, write_trace};
+use run_command_line::CharmRunOptions;
+use run_trace::{LostTrace, Timeline, TraceError, Tracing};
 use std::alloc::Global;
-use std::fs::Files;
+use std::fs::{File, Files};
 use std::io::Write;
 use std::sync::Wait;
 use std::time::Clock;
 use tally::Tally;
-use workload_run::{Beside, BesideText, Driven, Onlooker, report_lost, status_beside};
+use workload_run::{Beside, Driven, Onlooker, report_lost, status_beside};
 
 /// The watches of a run over threads: the progress line, and the recorder of a trace.
 #[derive(Drop)]
@@ -51,22 +50,6 @@ impl<R: Clock + Eprint + Wait> Onlooker for Onlookers<'_, R> {
     }
 }
 
-/// What a run on some PEs left for its trace.
-#[derive(Drop)]
-pub(crate) struct Traced<'a> {
-    pub(crate) alloc: Global,
-    pub(crate) outcome: &'a Outcome<Tally>,
-    pub(crate) timeline: &'a Timeline<Global>,
-}
-
-impl BesideText for Traced<'_> {
-    fn write_to<W: Write>(&self, writer: &mut W) -> bool {
-        let pes = u32::try_from(self.outcome.ends().len()).unwrap_or(u32::MAX);
-        let happenings = self.timeline.happenings();
-        write_trace(self.alloc, writer, pes, happenings, self.outcome.rounds()).is_ok()
-    }
-}
-
 /// Writes the trace of a run over threads, where one is asked for and there was a run. Returns whether it was lost.
 pub(crate) fn keep_recorded<R: Clock + Files + Eprint + AllocGlobal, W: Write>(
     rt: &R,
@@ -82,7 +65,7 @@ pub(crate) fn keep_recorded<R: Clock + Files + Eprint + AllocGlobal, W: Write>(
         Ok(Some(timeline)) => keep_trace(rt, name, outcome, &timeline, writer),
         Ok(None) => false,
         Err(error) => {
-            tell_lost_trace(rt, name, TraceError::from(error), writer);
+            tell_lost_trace(rt, name, LostTrace::from(error), writer);
             true
         }
     }
@@ -96,22 +79,27 @@ pub(crate) fn keep_trace<R: Files + Eprint + AllocGlobal, W: Write>(
     timeline: &Timeline<Global>,
     writer: &mut W,
 ) -> bool {
-    let traced = Traced {
-        alloc: rt.alloc(),
-        outcome,
-        timeline,
+    let Some(path) = name else {
+        return false;
     };
-    keep_file(rt, Beside::Trace, name, Some(&traced), writer)
+    let pes = u32::try_from(outcome.ends().len()).unwrap_or(u32::MAX);
+    let file = File::create(rt, path);
+    let (happenings, rounds) = (timeline.happenings(), outcome.rounds());
+    let Err(lost) = run_trace::keep_trace(rt.alloc(), file, pes, happenings, rounds) else {
+        return false;
+    };
+    tell_lost_trace(rt, name, lost, writer);
+    true
 }
 
 /// Writes that a trace cannot be kept, and returns the status.
 pub(crate) fn lose_trace<R: Eprint, W: Write>(
     rt: &R,
-    asked: &Asked<'_>,
+    asked: &CharmRunOptions<'_>,
     error: TraceError,
     writer: &mut W,
 ) -> u8 {
-    tell_lost_trace(rt, asked.trace, error, writer);
+    tell_lost_trace(rt, asked.trace, LostTrace::from(error), writer);
     status_beside(0, true)
 }
 
@@ -119,9 +107,9 @@ pub(crate) fn lose_trace<R: Eprint, W: Write>(
 pub(crate) fn tell_lost_trace<R: Eprint, W: Write>(
     rt: &R,
     name: Option<&str>,
-    error: TraceError,
+    lost: LostTrace,
     writer: &mut W,
 ) {
     report_lost(Beside::Trace, writer);
-    let _ = eprintln!(rt; "charm_run: {}: {error}", name.unwrap_or(""));
+    let _ = eprintln!(rt; "charm_run: {}: {lost}", name.unwrap_or(""));
 }

@@ -3,7 +3,8 @@
 //! run took.
 //!
 //! - `program_words::on_words`: the arguments of the command line, and the status.
-//! - `hot_spot_run::run_chain_watched`: the run. `hot_spot_run::text_of`: what is printed. `run_trace`: the trace of the run.
+//! - `hot_spot_run::run_chain_watched`: the run. `hot_spot_run::text_of`: what is printed. `run_trace::keep_trace`: the trace
+//!   of the run.
 #![tactic(auto)]
 
 mod help;
@@ -11,21 +12,20 @@ mod words;
 
 use crate::words::{RunOptions, read_options};
 use at_sync::Strategy;
-use chain_refinement::Tolerance;
 use hot_spot_run::{ending_of, run_chain_watched, text_of};
 use hot_spot_strip::{Mode, Strip, StripChain, StripChainError};
 use pe_worker::Watch;
 use program_words::{NO_OUTPUT, RUN_FAULT, on_words, refused};
 use rts_run::{Config, History, Outcome};
-use run_trace::{Timeline, TraceError, Tracing, write_trace};
-use std::alloc::{AllocError, Global};
+use run_trace::{LostTrace, Tracing, keep_trace};
+use std::alloc::AllocError;
 use std::fs::{File, Files};
 use std::io;
 use std::process::ExitCode;
 use std::sync::Wait;
 use std::thread::Threads;
 use std::time::{Clock, Instant};
-use streams::{Noted, write_out};
+use streams::write_out;
 
 /// Cells of each strip.
 const CELLS: u32 = 16;
@@ -57,8 +57,8 @@ fn run_asked<R: Threads + Wait + Sync + Files + Clock + Print + Eprint + AllocGl
     };
     match run_traced(rt, &chain, options) {
         Ok(status) => status,
-        Err(error) => {
-            let _ = eprintln!(rt; "hot_spot: {}: {error}", options.trace.unwrap_or(""));
+        Err(lost) => {
+            let _ = eprintln!(rt; "hot_spot: {}: {lost}", options.trace.unwrap_or(""));
             NO_OUTPUT
         }
     }
@@ -71,12 +71,12 @@ fn cells_of<R: AllocGlobal>(rt: &R, strips: u32) -> Result<Vec<u32>, AllocError>
     Ok(cells)
 }
 
-// Runs a chain, prints what it left, and writes its trace, if one is asked for.
+// Runs a chain, prints what it left, and keeps its trace, if one is asked for.
 fn run_traced<R: Threads + Wait + Sync + Files + Clock + Print + Eprint + AllocGlobal>(
     rt: &R,
     chain: &StripChain<'_>,
     options: &RunOptions<'_>,
-) -> Result<u8, TraceError> {
+) -> Result<u8, LostTrace> {
     let tracing = Tracing::new(rt, rt.alloc(), options.trace.is_some())?;
     let (outcome, status) = match run_and_print(rt, chain, options, &tracing) {
         Ok(left) => left,
@@ -88,38 +88,10 @@ fn run_traced<R: Threads + Wait + Sync + Files + Clock + Print + Eprint + AllocG
     let (Some(path), Some(timeline)) = (options.trace, tracing.into_timeline()?) else {
         return Ok(status);
     };
-    if !keep_trace(rt, path, options.pes, &timeline, &outcome) {
-        return Ok(NO_OUTPUT);
-    }
+    let file = File::create(rt, path);
+    let (happenings, rounds) = (timeline.happenings(), outcome.rounds());
+    keep_trace(rt.alloc(), file, options.pes, happenings, rounds)?;
     Ok(status)
-}
-
-// Writes the trace of a run to the file of this name, and returns whether all of it was written. Otherwise it prints the system's reason,
-// or that memory was refused.
-fn keep_trace<R: Files + Eprint + AllocGlobal>(
-    rt: &R,
-    path: &str,
-    pes: u32,
-    timeline: &Timeline<Global>,
-    outcome: &Outcome<Strip>,
-) -> bool {
-    let file = match File::create(rt, path) {
-        Ok(file) => file,
-        Err(reason) => {
-            let _ = eprintln!(rt; "hot_spot: {path}: {reason}");
-            return false;
-        }
-    };
-    let mut noted = Noted::new(file);
-    let happenings = timeline.happenings();
-    let Err(error) = write_trace(rt.alloc(), &mut noted, pes, happenings, outcome.rounds()) else {
-        return true;
-    };
-    let _ = match noted.failure() {
-        Some(reason) => eprintln!(rt; "hot_spot: {path}: {reason}"),
-        None => eprintln!(rt; "hot_spot: {path}: {error}"),
-    };
-    false
 }
 
 // Runs a chain and prints what it left. Returns the outcome, with the status for the case that nothing fails later.
@@ -130,7 +102,7 @@ fn run_and_print<V: Watch + Sync, R: Threads + Wait + Sync + Clock + Print + Epr
     watch: &V,
 ) -> Result<(Outcome<Strip>, u8), StripChainError> {
     let config = Config {
-        strategy: Strategy::within(options.tolerance.and_then(Tolerance::new)),
+        strategy: Strategy::within(options.tolerance),
         history: if options.no_journal {
             History::Dropped
         } else {

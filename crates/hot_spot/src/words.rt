@@ -1,6 +1,7 @@
 //! The arguments of the command line. clap reads them.
 
 use crate::help::{ABOUT, HOW_TO};
+use chain_refinement::Tolerance;
 use chare_index::Limits;
 use clap::{Arg, ArgMatches, Command, Error, value_parser};
 use hot_spot_strip::StripLimits;
@@ -15,7 +16,7 @@ pub(crate) struct RunOptions<'a> {
     pub(crate) rounds: u32,
     pub(crate) work: u32,
     pub(crate) is_static: bool,
-    pub(crate) tolerance: Option<u32>,
+    pub(crate) tolerance: Option<Tolerance>,
     pub(crate) trace: Option<&'a str>,
     pub(crate) no_journal: bool,
     pub(crate) is_quiet: bool,

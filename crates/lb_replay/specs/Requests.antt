@@ -1,11 +1,10 @@
 -- What the arguments of a command line ask for.
 use Rattle.std.specs.Prelude.{ℕ, ◌≤◌, Option, Some, None, List, Bool, true, false, Result, Ok, Err}
 use Rattle.std.specs.Option.{ForSome}
-use Rattle.chain_refinement.specs.declared.tolerance.TheConstants.Tolerance.{MOST}
 use Rattle.chare_index.specs.declared.limits.TheConstants.Limits.{PES}
 use Rattle.lb_replay.specs.Simulation.{EndsReplay}
 use Rattle.lb_replay.specs.Verifying.{EndsCheck}
-use Rattle.lb_replay.specs.declared.ended.Ended.{Ended}
+use Rattle.lb_replay.specs.declared.ended.SimEnd.{SimEnd}
 use Rattle.lb_replay.specs.declared.request.Clash.{Clash}
 use Rattle.lb_replay.specs.declared.request.Clash.TheVariants.{ProcsAndCheck, ToleranceAndCheck, KeepOrderAndCheck, KeepOrderAlone, AnyOrderAndCheck, AnyOrderAlone, KeepOrderAndAnyOrder}
 use Rattle.lb_replay.specs.declared.request.Task.{Task}
@@ -36,19 +35,16 @@ abbrev pub task_of : Option ℕ → Option ℕ → Bool → Bool → Bool → Re
 task_of procs tolerance keep_order any_order false = replay_of procs tolerance keep_order any_order
 task_of procs tolerance keep_order any_order true = check_of procs tolerance keep_order any_order
 
--- a number of PEs that a replay is asked for is 1 to 256, and a tolerance is at most 1,000
+-- a number of PEs that a replay is asked for is 1 to 256
 abbrev pub MayRun : Task → Type 0
 MayRun (Replay procs) = ForSome procs (λ p. 1 ≤ p) × ForSome procs (λ p. p ≤ PES)
-MayRun (Refine procs tolerance) =
-    ForSome procs (λ p. 1 ≤ p) × ForSome procs (λ p. p ≤ PES) × (tolerance ≤ MOST)
-MayRun (RefineInOrder procs tolerance) =
-    ForSome procs (λ p. 1 ≤ p) × ForSome procs (λ p. p ≤ PES) × (tolerance ≤ MOST)
-MayRun (RefineInAnyOrder procs tolerance) =
-    ForSome procs (λ p. 1 ≤ p) × ForSome procs (λ p. p ≤ PES) × (tolerance ≤ MOST)
+MayRun (Refine procs tolerance) = ForSome procs (λ p. 1 ≤ p) × ForSome procs (λ p. p ≤ PES)
+MayRun (RefineInOrder procs tolerance) = ForSome procs (λ p. 1 ≤ p) × ForSome procs (λ p. p ≤ PES)
+MayRun (RefineInAnyOrder procs tolerance) = ForSome procs (λ p. 1 ≤ p) × ForSome procs (λ p. p ≤ PES)
 MayRun Check = Unit {0}
 
 -- how each task ends
-abbrev pub EndsTask : (A : Type 0) → Option (List ℕ) → Option (List ℕ) → Task → Option (List ℕ) → Option (List ℕ) → Ended → Type 0
+abbrev pub EndsTask : (A : Type 0) → Option (List ℕ) → Option (List ℕ) → Task → Option (List ℕ) → Option (List ℕ) → SimEnd → Type 0
 EndsTask A bytes rest (Replay procs) old new ended = EndsReplay A bytes rest procs Least old new ended
 EndsTask A bytes rest (Refine procs tolerance) old new ended =
     EndsReplay A bytes rest procs (Within tolerance) old new ended

@@ -4,21 +4,21 @@
 //!
 //! - [`simulate`]: the replay in some [`Way`], from the bytes of a reader to the bytes of a writer; [`replay_file`]: that of a file.
 //! - [`verify`]: the check of the decision that was recorded in a dump; [`verify_file`]: that of a file.
-//! - [`Ended`]: how a replay or a check ended, and the status for it; [`dump_advice`]: what to do about a fault of a dump.
-//! - [`run`]: what a program does, by the [`Task`] that it was [`Asked`] for, if that has no [`Clash`].
+//! - [`SimEnd`]: how a replay or a check ended, and the status for it; [`dump_advice`]: what to do about a fault of a dump.
+//! - [`run`]: what a program does, by the [`Task`] that it was [`SimOptions`] for, if that has no [`Clash`].
 //!
 //! ```
-//! use lb_replay::{Ended, Way, simulate, verify};
+//! use lb_replay::{SimEnd, Way, simulate, verify};
 //!
 //! // No elements on three PEs, at step 7, replayed for one PE.
 //! let mut dump = b"LBD1\0\0\0\x07\0\0\0\x03\0\0\0\0".as_slice();
 //! let mut text = Vec::new(alloc);
-//! assert!(rt; simulate(alloc, &mut dump, &mut text, Some(1), Way::Least) == Ended::Printed);
+//! assert!(rt; simulate(alloc, &mut dump, &mut text, Some(1), Way::Least) == SimEnd::Printed);
 //! assert!(rt; text.starts_with(b"step 7 procs 1 elements 0\n"));
 //!
 //! let mut line = Vec::new(alloc);
 //! let mut dump = b"LBD1\0\0\0\x07\0\0\0\x03\0\0\0\0".as_slice();
-//! assert!(rt; verify(alloc, &mut dump, &mut line) == Ended::NoDecision);
+//! assert!(rt; verify(alloc, &mut dump, &mut line) == SimEnd::NoDecision);
 //! assert!(rt; line.as_slice() == b"check: no decision\n".as_slice());
 //! ```
 #![tactic(auto)]
@@ -31,9 +31,9 @@ mod text;
 mod verifying;
 mod way;
 
-pub use ended::Ended;
+pub use ended::SimEnd;
 pub use fault::dump_advice;
-pub use request::{Asked, Clash, Task, run};
+pub use request::{Clash, SimOptions, Task, run};
 pub use simulation::{replay_file, simulate};
 pub use verifying::{verify, verify_file};
 pub use way::Way;

@@ -3,7 +3,7 @@ ghost use Rattle.std.specs.Prelude.{◌≡◌, ◌≤◌, ℕ, List, Option, Som
 ghost use Rattle.lb_replay.specs.Requests.{EndsTask, MayRun, check_of, task_of};
 ghost use Rattle.lb_replay.specs.Simulation.{ReportsUnread};
 
-use crate::ended::Ended;
+use crate::ended::SimEnd;
 use crate::simulation::replay_file;
 use crate::verifying::verify_file;
 use crate::way::Way;
@@ -14,14 +14,13 @@ use std::io::{self, Read, Write};
 
 /// What a run is asked to do.
 #[derive(Clone, Copy, Debug, PartialEq, Eq)]
-pub struct Asked<'a> {
+pub struct SimOptions<'a> {
     /// The file with the dump.
     pub file: &'a str,
     /// The number of blocks, 1 to 256 (`Limits::PES`), if one is given.
     pub procs: Option<u32>,
-    /// How far the greatest load may be above the least possible one, in thousandths of that, 0 to 1,000 (`Tolerance::MOST`),
-    /// if it is given.
-    pub tolerance: Option<u32>,
+    /// How far the greatest load may be above the least possible one, if it is given.
+    pub tolerance: Option<Tolerance>,
     /// Whether the PEs are to keep their order.
     pub keep_order: bool,
     /// Whether the PEs may change their order, so that the fewest bytes move.
@@ -35,12 +34,12 @@ pub struct Asked<'a> {
 pub enum Task {
     /// It is replayed, for this number of PEs, 1 to 256 (`Limits::PES`), or for that of the dump.
     Replay(Option<u32>),
-    /// The same, within this tolerance, in thousandths, 0 to 1,000 (`Tolerance::MOST`).
-    Refine(Option<u32>, u32),
+    /// The same, within this tolerance.
+    Refine(Option<u32>, Tolerance),
     /// The same, and the PEs keep their order.
-    RefineInOrder(Option<u32>, u32),
+    RefineInOrder(Option<u32>, Tolerance),
     /// Within this tolerance, where the PEs may change their order.
-    RefineInAnyOrder(Option<u32>, u32),
+    RefineInAnyOrder(Option<u32>, Tolerance),
     /// Its decision is checked.
     Check,
 }
@@ -64,17 +63,16 @@ pub enum Clash {
     KeepOrderAndAnyOrder,
 }
 
-impl Asked<'_> {
+impl SimOptions<'_> {
     /// What is to be done.
     ///
     /// # Errors
     ///
     /// A check is asked for, and a number of PEs too, or a tolerance, or that the order is kept, or any order; or the order is to be
     /// kept, or may be any, without a tolerance; or both of these with one.
-    pub fn task(self) -> Result<Task, Clash>
-        ensures value { result ≡ task_of self.entry.procs self.entry.tolerance self.entry.keep_order self.entry.any_order self.entry.check }
-        ensures may_run { ForSome self.entry.procs (λ p. 1 ≤ p) → ForSome self.entry.procs (λ p. p ≤ Limits.PES)
-            → ForSome self.entry.tolerance (λ t. t ≤ Tolerance.MOST) → IfOk result MayRun }
+    pub fn task(&self) -> Result<Task, Clash>
+        ensures value { result ≡ task_of self.now.procs self.now.tolerance self.now.keep_order self.now.any_order self.now.check }
+        ensures may_run { ForSome self.now.procs (λ p. 1 ≤ p) → ForSome self.now.procs (λ p. p ≤ Limits.PES) → IfOk result MayRun }
     {
         if self.check {
             return self.check_task();
@@ -94,8 +92,8 @@ impl Asked<'_> {
     }
 
     // A check, which no other option goes with.
-    fn check_task(self) -> Result<Task, Clash>
-        ensures { result ≡ check_of self.entry.procs self.entry.tolerance self.entry.keep_order self.entry.any_order }
+    fn check_task(&self) -> Result<Task, Clash>
+        ensures { result ≡ check_of self.now.procs self.now.tolerance self.now.keep_order self.now.any_order }
     {
         match (
             self.procs,
@@ -117,7 +115,7 @@ pub fn run<A: Allocator + Copy, R: Read + Drop, W: Write>(
     task: Task,
     file: io::Result<R>,
     writer: &mut W,
-) -> (Ended, Option<io::Error>)
+) -> (SimEnd, Option<io::Error>)
     requires { MayRun task }
     ensures opened { IfOk file (λ file. (rest : Option (List ℕ)) × EndsTask A (R.remaining file) rest task (W.contents writer.old) (W.contents writer.new) result.0) }
     ensures unopened { IfErr file (λ _. ReportsUnread (W.contents writer.old) (W.contents writer.new) result.0) }
@@ -125,26 +123,15 @@ pub fn run<A: Allocator + Copy, R: Read + Drop, W: Write>(
 {
     match task {
         Task::Replay(procs) => replay_file(alloc, file, writer, procs, Way::Least),
-        Task::Refine(procs, thousandths) => {
-            let way = Way::Within(tolerance_of(thousandths));
-            replay_file(alloc, file, writer, procs, way)
+        Task::Refine(procs, tolerance) => {
+            replay_file(alloc, file, writer, procs, Way::Within(tolerance))
         }
-        Task::RefineInOrder(procs, thousandths) => {
-            let way = Way::InOrder(tolerance_of(thousandths));
-            replay_file(alloc, file, writer, procs, way)
+        Task::RefineInOrder(procs, tolerance) => {
+            replay_file(alloc, file, writer, procs, Way::InOrder(tolerance))
         }
-        Task::RefineInAnyOrder(procs, thousandths) => {
-            let way = Way::InAnyOrder(tolerance_of(thousandths));
-            replay_file(alloc, file, writer, procs, way)
+        Task::RefineInAnyOrder(procs, tolerance) => {
+            replay_file(alloc, file, writer, procs, Way::InAnyOrder(tolerance))
         }
         Task::Check => verify_file(alloc, file, writer),
     }
-}
-
-// The tolerance of this number of thousandths.
-fn tolerance_of(thousandths: u32) -> Tolerance
-    requires { thousandths ≤ Tolerance.MOST }
-    ensures { result ≡ thousandths }
-{
-    Tolerance::new(thousandths).unwrap()
 }

@@ -7,7 +7,7 @@ ghost use Rattle.lb_replay.specs.declared.fault.Fault.TheVariants.{Plan};
 ghost use Rattle.lb_replay.specs.Internal.{without_memory};
 ghost use Rattle.lb_replay.specs.Simulation.{EndsReplay, HasOneText, IsDecided, IsInAnyOrder, IsInOrder, IsPlanned, IsReplay, IsReplayFault, IsWithin, ReportsFault, ReportsUnread};
 
-use crate::ended::Ended;
+use crate::ended::SimEnd;
 use crate::fault::{Fault, NO_MEMORY, fault_line};
 use crate::text::{decision_text, ordered_text, refined_text, reordering_text};
 use crate::way::Way;
@@ -38,7 +38,7 @@ pub fn simulate<A: Allocator + Copy, R: Read, W: Write>(
     writer: &mut W,
     procs: Option<u32>,
     way: Way,
-) -> Ended
+) -> SimEnd
     requires some_pe { ForSome procs (λ p. 1 ≤ p) }
     requires few_pes { ForSome procs (λ p. p ≤ Limits.PES) }
     ensures ends { EndsReplay A (R.remaining reader.old) (R.remaining reader.new) procs way (W.contents writer.old) (W.contents writer.new) result }
@@ -46,8 +46,8 @@ pub fn simulate<A: Allocator + Copy, R: Read, W: Write>(
         → IsReplay A (Some bytes) procs way other → text ≡ other }
 {
     match replay(alloc, reader, procs, way) {
-        Ok(text) if write_out(writer, text.as_bytes()) => Ended::Printed,
-        Ok(_) => Ended::WriteFailed,
+        Ok(text) if write_out(writer, text.as_bytes()) => SimEnd::Printed,
+        Ok(_) => SimEnd::WriteFailed,
         Err(fault) => report(alloc, writer, fault),
     }
 }
@@ -60,7 +60,7 @@ pub fn replay_file<A: Allocator + Copy, R: Read + Drop, W: Write>(
     writer: &mut W,
     procs: Option<u32>,
     way: Way,
-) -> (Ended, Option<io::Error>)
+) -> (SimEnd, Option<io::Error>)
     requires some_pe { ForSome procs (λ p. 1 ≤ p) }
     requires few_pes { ForSome procs (λ p. p ≤ Limits.PES) }
     ensures opened { IfOk file (λ file. (rest : Option (List ℕ))
@@ -188,7 +188,7 @@ fn planned_text<A: Allocator + Copy, B: Allocator>(
 }
 
 /// Writes the line of a fault, or the one for out of memory.
-pub(crate) fn report<A: Allocator, W: Write>(alloc: A, writer: &mut W, fault: Fault) -> Ended
+pub(crate) fn report<A: Allocator, W: Write>(alloc: A, writer: &mut W, fault: Fault) -> SimEnd
     ensures { ReportsFault (W.contents writer.old) (W.contents writer.new) fault result
         ⊎ ReportsFault (W.contents writer.old) (W.contents writer.new) (without_memory fault) result }
 {
@@ -198,13 +198,13 @@ pub(crate) fn report<A: Allocator, W: Write>(alloc: A, writer: &mut W, fault: Fa
     report_line(writer, fault, line.as_bytes())
 }
 
-fn report_line<W: Write>(writer: &mut W, fault: Fault, line: &[u8]) -> Ended
+fn report_line<W: Write>(writer: &mut W, fault: Fault, line: &[u8]) -> SimEnd
     requires { line.now ≡ fault_line fault }
     ensures { ReportsFault (W.contents writer.old) (W.contents writer.new) fault result }
 {
     if write_out(writer, line) {
-        Ended::at(fault)
+        SimEnd::at(fault)
     } else {
-        Ended::WriteFailed
+        SimEnd::WriteFailed
     }
 }

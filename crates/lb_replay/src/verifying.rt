@@ -2,10 +2,10 @@ ghost use Rattle.std.specs.Prelude.{◌≡◌, ◌⊎◌, List, ℕ, Option, IfO
 ghost use Rattle.lb_replay.specs.Internal.{ended_at};
 ghost use Rattle.lb_replay.specs.Simulation.{ReportsUnread};
 ghost use Rattle.lb_replay.specs.Verifying.{EndsCheck, Finds, IsEnd, IsFailure, IsJudged};
-ghost use Rattle.lb_replay.specs.declared.ended.Ended.{Ended};
-ghost use Rattle.lb_replay.specs.declared.ended.Ended.TheVariants.{Printed};
+ghost use Rattle.lb_replay.specs.declared.ended.SimEnd.{SimEnd};
+ghost use Rattle.lb_replay.specs.declared.ended.SimEnd.TheVariants.{Printed};
 
-use crate::ended::Ended;
+use crate::ended::SimEnd;
 use crate::fault::Fault;
 use crate::simulation::report;
 use dump_format::{Dump, DumpError};
@@ -29,14 +29,14 @@ pub fn verify<A: Allocator + Copy, R: Read, W: Write>(
     alloc: A,
     reader: &mut R,
     writer: &mut W,
-) -> Ended
+) -> SimEnd
     ensures ends { EndsCheck A (R.remaining reader.old) (R.remaining reader.new) (W.contents writer.old) (W.contents writer.new) result }
-    ensures exact { IfSome (R.remaining reader.old) (λ bytes. (ended : Ended) → IsEnd A bytes ended → (result ≡ ended) ⊎ IsFailure result) }
-    ensures one_end { (bytes : List ℕ) (one other : Ended) → IsEnd A bytes one → IsEnd A bytes other → one ≡ other }
+    ensures exact { IfSome (R.remaining reader.old) (λ bytes. (ended : SimEnd) → IsEnd A bytes ended → (result ≡ ended) ⊎ IsFailure result) }
+    ensures one_end { (bytes : List ℕ) (one other : SimEnd) → IsEnd A bytes one → IsEnd A bytes other → one ≡ other }
 {
     match judged(alloc, reader) {
-        Ok(()) if write_out(writer, RIGHT.as_bytes()) => Ended::Printed,
-        Ok(()) => Ended::WriteFailed,
+        Ok(()) if write_out(writer, RIGHT.as_bytes()) => SimEnd::Printed,
+        Ok(()) => SimEnd::WriteFailed,
         Err(fault) => report(alloc, writer, fault),
     }
 }
@@ -47,7 +47,7 @@ pub fn verify_file<A: Allocator + Copy, R: Read + Drop, W: Write>(
     alloc: A,
     file: io::Result<R>,
     writer: &mut W,
-) -> (Ended, Option<io::Error>)
+) -> (SimEnd, Option<io::Error>)
     ensures opened { IfOk file (λ file. (rest : Option (List ℕ)) × EndsCheck A (R.remaining file) rest (W.contents writer.old) (W.contents writer.new) result.0) }
     ensures unopened { IfErr file (λ _. ReportsUnread (W.contents writer.old) (W.contents writer.new) result.0) }
     ensures reason { IfErr file (λ reason. result.1 ≡ Some reason) }

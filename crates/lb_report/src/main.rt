@@ -5,7 +5,7 @@
 //! - `program_words::on_words`: the arguments of the command line, and the status. `report_command_line::asked`: what the
 //!   arguments ask for, and `numbers` the numbers of PEs in them; `refuse_numbers`: what is printed where there are none;
 //!   `program_words::refused`: the status where the arguments ask for no report.
-//! - `dump_report::report_file`: the report on one dump, and how it ended; `Ended::status` is the status for it, and
+//! - `dump_report::report_file`: the report on one dump, and how it ended; `SimEnd::status` is the status for it, and
 //!   `dump_report::tell` writes what was wrong.
 #![tactic(auto)]
 
@@ -14,10 +14,10 @@ ghost use Rattle.report_command_line.specs.Numbers.{IsNumber};
 
 use chain_refinement::Tolerance;
 use dump_report::{report_dump, report_file, tell};
-use lb_replay::Ended;
+use lb_replay::SimEnd;
 use load_report::Style;
 use program_words::{on_words, refused};
-use report_command_line::{Asked, NumbersError, asked, numbers, refuse_numbers};
+use report_command_line::{NumbersError, ReportOptions, asked, numbers, refuse_numbers};
 use std::fs::File;
 use std::io;
 use std::process::ExitCode;
@@ -31,19 +31,19 @@ fn main(rt: HostRuntime) -> ExitCode {
 }
 
 // Does what is asked for, and returns the status.
-fn report_asked(rt: &HostRuntime, asked: &Asked<'_>) -> u8 {
+fn report_asked(rt: &HostRuntime, asked: &ReportOptions<'_>) -> u8 {
     let Some(text) = asked.procs else {
         return print_reports(rt, asked, &[]);
     };
     match numbers(rt.alloc(), text) {
         Ok(procs) => print_reports(rt, asked, &procs),
         Err(NumbersError::Spelling) => refuse_numbers(rt.alloc(), &mut rt.stderr(), text),
-        Err(NumbersError::OutOfMemory) => Ended::WriteFailed.status(),
+        Err(NumbersError::OutOfMemory) => SimEnd::WriteFailed.status(),
     }
 }
 
 // Prints the line of the names of the columns, and then the report on each file.
-fn print_reports(rt: &HostRuntime, asked: &Asked<'_>, procs: &[u32]) -> u8
+fn print_reports(rt: &HostRuntime, asked: &ReportOptions<'_>, procs: &[u32]) -> u8
     requires { All IsNumber procs.now }
 {
     let style = Style {
@@ -52,7 +52,7 @@ fn print_reports(rt: &HostRuntime, asked: &Asked<'_>, procs: &[u32]) -> u8
     };
     let mut output = Noted::new(io::writer(rt));
     if !write_out(&mut output, style.head().as_bytes()) {
-        let ended = Ended::WriteFailed;
+        let ended = SimEnd::WriteFailed;
         let _told = tell(rt.alloc(), &mut rt.stderr(), "", ended, output.failure());
         return ended.status();
     }
@@ -61,7 +61,7 @@ fn print_reports(rt: &HostRuntime, asked: &Asked<'_>, procs: &[u32]) -> u8
 
 // Prints the report on each file, and returns the status of the first that has a fault, or 0. After the output has failed
 // nothing more is done.
-fn print_each(rt: &HostRuntime, asked: &Asked<'_>, procs: &[u32], style: Style) -> u8
+fn print_each(rt: &HostRuntime, asked: &ReportOptions<'_>, procs: &[u32], style: Style) -> u8
     requires { All IsNumber procs.now }
 {
     let mut status = 0;
@@ -70,7 +70,7 @@ fn print_each(rt: &HostRuntime, asked: &Asked<'_>, procs: &[u32], style: Style) 
         if status == 0 {
             status = ended.status();
         }
-        if ended == Ended::WriteFailed {
+        if ended == SimEnd::WriteFailed {
             return status;
         }
     }
@@ -82,13 +82,12 @@ fn print_one(
     rt: &HostRuntime,
     name: &str,
     procs: &[u32],
-    thousandths: Option<u32>,
+    tolerance: Option<Tolerance>,
     style: Style,
-) -> Ended
+) -> SimEnd
     requires { All IsNumber procs.now }
 {
     let alloc = rt.alloc();
-    let tolerance = thousandths.and_then(Tolerance::new);
     let mut output = Noted::new(io::writer(rt));
     let (ended, reason) = if name == "-" {
         let mut input = Noted::new(rt.stdin());

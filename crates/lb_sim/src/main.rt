@@ -6,7 +6,7 @@
 //!
 //! - `program_words::on_words`: the arguments of the command line, and the status. `sim_command_line::asked`: what the
 //!   arguments ask for; `program_words::refused`: the status where they ask for nothing to be done.
-//! - `lb_replay::Asked::task`: which task that is, if the options can be combined; `sim_command_line::refuse_both`: what is
+//! - `lb_replay::SimOptions::task`: which task that is, if the options can be combined; `sim_command_line::refuse_both`: what is
 //!   printed if they cannot.
 //! - `lb_replay::run`: the task, and its end with the status for that; `lb_replay::dump_advice`: what to do about a fault of the
 //!   dump; `streams::Advice`: what is printed about a file with a fault.
@@ -16,9 +16,8 @@ ghost use Rattle.lb_replay.specs.Requests.{MayRun};
 ghost use Rattle.std.specs.Prelude.{◌≤◌};
 ghost use Rattle.std.specs.Option.{ForSome};
 
-use chain_refinement::Tolerance;
 use chare_index::Limits;
-use lb_replay::{Asked, Ended, Task, dump_advice, run};
+use lb_replay::{SimEnd, SimOptions, Task, dump_advice, run};
 use program_words::{BAD_FILE, on_words, refused};
 use sim_command_line::{asked, refuse_both};
 use std::fs::File;
@@ -35,16 +34,15 @@ const ADVICE: Advice<'static> = Advice {
 
 fn main(rt: HostRuntime) -> ExitCode {
     on_words(&rt, |words| match asked(rt.alloc(), words) {
-        Ok(asked) => do_task(&rt, asked),
+        Ok(asked) => do_task(&rt, &asked),
         Err(error) => refused(&rt, &error),
     })
 }
 
 // Does what is asked for, and returns the status. Where that is not a task no file is opened.
-fn do_task(rt: &HostRuntime, asked: Asked<'_>) -> u8
-    requires some_pe { ForSome asked.procs (λ p. 1 ≤ p) }
-    requires few_pes { ForSome asked.procs (λ p. p ≤ Limits.PES) }
-    requires most { ForSome asked.tolerance (λ t. t ≤ Tolerance.MOST) }
+fn do_task(rt: &HostRuntime, asked: &SimOptions<'_>) -> u8
+    requires some_pe { ForSome asked.now.procs (λ p. 1 ≤ p) }
+    requires few_pes { ForSome asked.now.procs (λ p. p ≤ Limits.PES) }
 {
     match asked.task() {
         Ok(task) => run_task(rt, asked.file, task),
@@ -72,16 +70,16 @@ fn run_task(rt: &HostRuntime, name: &str, task: Task) -> u8
 }
 
 // What to do about a file, by how its replay or check ended.
-fn advice_on(ended: Ended) -> Advice<'static> {
+fn advice_on(ended: SimEnd) -> Advice<'static> {
     match ended {
-        Ended::Dump(fault) => Advice {
+        SimEnd::Dump(fault) => Advice {
             wrong: dump_advice(fault),
             ..ADVICE
         },
-        Ended::Printed
-        | Ended::Plan(_)
-        | Ended::Flawed(_)
-        | Ended::NoDecision
-        | Ended::WriteFailed => ADVICE,
+        SimEnd::Printed
+        | SimEnd::Plan(_)
+        | SimEnd::Flawed(_)
+        | SimEnd::NoDecision
+        | SimEnd::WriteFailed => ADVICE,
     }
 }

@@ -1,7 +1,6 @@
 //! Arguments, for clap.
 
-ghost use Rattle.std.specs.Option.{ForSome};
-ghost use Rattle.std.specs.Prelude.{◌≡◌, ◌≤◌, ◌↔◌, ℕ, Some, codes, pos};
+ghost use Rattle.std.specs.Prelude.{◌≡◌, ◌↔◌, ℕ, Some, codes, pos};
 ghost use Rattle.clap.specs.Built.{FitsChain, TakesValue};
 ghost use Rattle.clap.specs.Words.{found_of, one_text, rule_of};
 ghost use Rattle.clap.specs.declared.builder.value_parser.ValueParser.TheVariants.{Signed};
@@ -84,11 +83,10 @@ fn thousandths<'a>() -> ValueParser<'a>
     value_parser!(u32).range(0..=i64::from(Tolerance::MOST))
 }
 
-/// The tolerance that was found, in thousandths. clap refuses one out of range; here it would count as none.
-pub fn tolerance_in(matches: &ArgMatches<'_>) -> Option<u32>
+/// The tolerance that was found. clap refuses a number out of range; here it would count as none.
+pub fn tolerance_in(matches: &ArgMatches<'_>) -> Option<Tolerance>
     ensures tolerance { (n : ℕ) → (result ≡ Some n) ↔ SpellsTolerance (one_text (found_of matches.now) (codes "tolerance")) n }
-    ensures most { ForSome result (λ t. t ≤ Tolerance.MOST) }
 {
-    let number = matches.get_one::<u32>("tolerance");
-    number.filter(|&t| t <= Tolerance::MOST)
+    let thousandths = matches.get_one::<u32>("tolerance")?;
+    Tolerance::new(thousandths)
 }

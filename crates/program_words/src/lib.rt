@@ -14,7 +14,8 @@
 //! let command = command.arg(tolerance(alloc, "How many may be missing"))?;
 //! let words = ["count", "--all", "--tolerance", "20"];
 //! let found = command.try_get_matches_from(&words).ok().ok_or("refused")?;
-//! assert!(rt; tolerance_in(&found) == Some(20));
+//! let most = tolerance_in(&found).ok_or("no tolerance")?;
+//! assert!(rt; most.get() == 20);
 //! ```
 #![tactic(auto)]
 

@@ -29,6 +29,6 @@ mod request;
 mod spelled;
 mod words;
 
-pub use request::Asked;
+pub use request::ReportOptions;
 pub use spelled::{NumbersError, numbers, refuse_numbers};
 pub use words::asked;

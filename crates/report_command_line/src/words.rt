@@ -1,5 +1,4 @@
-ghost use Rattle.std.specs.Option.{ForSome};
-ghost use Rattle.std.specs.Prelude.{◌≡◌, ◌≤◌, ◌↔◌, ℕ, [], IfOk, IsTrue, Some, codes, map, option_map, unwrap_or};
+ghost use Rattle.std.specs.Prelude.{◌≡◌, ◌↔◌, ℕ, [], IfOk, IsTrue, Some, codes, map, option_map, unwrap_or};
 ghost use Rattle.clap.specs.Built.{FitsChain};
 ghost use Rattle.clap.specs.Walk.{texts};
 ghost use Rattle.clap.specs.Words.{FailsBy, app_of, fault_of, first_value, found_of, matched_of, one_text, raw_values, rule_of};
@@ -8,8 +7,7 @@ ghost use Rattle.report_command_line.specs.CommandLine.{AsksCsv, AsksMoves, csv_
 ghost use Rattle.report_command_line.specs.CommandLine.{procs_rule, program, tolerance_in};
 
 use crate::help::{ABOUT, HOW_TO};
-use crate::request::Asked;
-use chain_refinement::Tolerance;
+use crate::request::ReportOptions;
 use clap::{Arg, ArgAction, ArgMatches, Command, Error};
 use program_words::{flag, new_program, tolerance_in, word};
 use std::alloc::{AllocError, Global};
@@ -21,17 +19,19 @@ use std::alloc::{AllocError, Global};
 /// The arguments are not `[--procs P[,P..]] [--tolerance T] [--csv] [--moves] FILE..` with a T of 0 to 1,000
 /// (`Tolerance::MOST`), help or the version is asked for, or memory ran out. The error has the text to print; [`words_status`]
 /// is the status for it.
-pub fn asked<'a>(alloc: Global, words: &'a [&'a str]) -> Result<Asked<'a>, Error>
+pub fn asked<'a>(alloc: Global, words: &'a [&'a str]) -> Result<ReportOptions<'a>, Error>
     ensures faults { FailsBy (fault_of program (texts words.now)) result }
     ensures files { IfOk result (λ asked. files_in (texts words.now) ≡ texts asked.files.items) }
     ensures procs { IfOk result (λ asked. procs_in (texts words.now) ≡ option_map (λ text. text.now) asked.procs) }
     ensures tolerance { IfOk result (λ asked. (n : ℕ) → (asked.tolerance ≡ Some n) ↔ SpellsTolerance (tolerance_in (texts words.now)) n) }
-    ensures most { IfOk result (λ asked. ForSome asked.tolerance (λ t. t ≤ Tolerance.MOST)) }
     ensures csv { IfOk result (λ asked. IsTrue asked.csv ↔ AsksCsv (texts words.now)) }
     ensures moves { IfOk result (λ asked. IsTrue asked.moves ↔ AsksMoves (texts words.now)) }
 {
     match command(alloc)?.try_get_matches_from(words) {
-        Ok(matches) => Ok(found(alloc, &matches)?),
+        Ok(matches) => {
+            let files = files_of(alloc, &matches)?;
+            Ok(found(files, &matches))
+        }
         Err(error) => Err(error),
     }
 }
@@ -102,23 +102,21 @@ fn moves<'a>(alloc: Global) -> Arg<'a>
     )
 }
 
-// What the arguments ask for.
-fn found<'a>(alloc: Global, matches: &ArgMatches<'a>) -> Result<Asked<'a>, AllocError>
-    ensures files { IfOk result (λ asked. unwrap_or (option_map raw_values (matched_of (found_of matches.now) (codes "file"))) [] ≡ texts asked.files.items) }
-    ensures procs { IfOk result (λ asked. first_value (found_of matches.now) (codes "procs") ≡ option_map (λ text. text.now) asked.procs) }
-    ensures tolerance { IfOk result (λ asked. (n : ℕ) → (asked.tolerance ≡ Some n) ↔ SpellsTolerance (one_text (found_of matches.now) (codes "tolerance")) n) }
-    ensures most { IfOk result (λ asked. ForSome asked.tolerance (λ t. t ≤ Tolerance.MOST)) }
-    ensures csv { IfOk result (λ asked. IsTrue asked.csv ↔ (one_text (found_of matches.now) (codes "csv") ≡ Some (codes "true"))) }
-    ensures moves { IfOk result (λ asked. IsTrue asked.moves ↔ (one_text (found_of matches.now) (codes "moves") ≡ Some (codes "true"))) }
+// What the arguments ask for, with the dumps that are named.
+fn found<'a>(files: Vec<&'a str>, matches: &ArgMatches<'a>) -> ReportOptions<'a>
+    ensures files { texts files.entry.items ≡ texts result.files.items }
+    ensures procs { first_value (found_of matches.now) (codes "procs") ≡ option_map (λ text. text.now) result.procs }
+    ensures tolerance { (n : ℕ) → (result.tolerance ≡ Some n) ↔ SpellsTolerance (one_text (found_of matches.now) (codes "tolerance")) n }
+    ensures csv { IsTrue result.csv ↔ (one_text (found_of matches.now) (codes "csv") ≡ Some (codes "true")) }
+    ensures moves { IsTrue result.moves ↔ (one_text (found_of matches.now) (codes "moves") ≡ Some (codes "true")) }
 {
-    let files = files_of(alloc, matches)?;
-    Ok(Asked {
+    ReportOptions {
         files,
         procs: matches.get_str("procs"),
         tolerance: tolerance_in(matches),
         csv: matches.get_one("csv") == Some(true),
         moves: matches.get_one("moves") == Some(true),
-    })
+    }
 }
 
 // The dumps that are named.

@@ -2,7 +2,7 @@
 use Rattle.std.specs.Borrow.{Bor}
 use Rattle.std.specs.Prelude.{ℕ, List, Option, None, Some, Result, Ok, Err, Bool, true, false}
 use Rattle.std.specs.Option.{option_or}
-use Rattle.run_command_line.specs.declared.request.Asked.{Asked}
+use Rattle.run_command_line.specs.declared.request.CharmRunOptions.{CharmRunOptions}
 use Rattle.run_command_line.specs.declared.request.Clash.{Clash}
 use Rattle.run_command_line.specs.declared.request.Clash.TheVariants.{SeedAndSeeds, SeedAndReplay, SeedsAndReplay, EventsWithoutSeed, SeedsAndDump, SeedsAndTrace, NoJournalOnOneThread}
 use Rattle.run_command_line.specs.declared.request.Task.{Task}
@@ -40,7 +40,7 @@ clash_of_journal true = Some NoJournalOnOneThread
 clash_of_journal false = None
 
 -- the first option that does not go with a task
-abbrev pub clash_with : Asked → Task → Option Clash
+abbrev pub clash_with : CharmRunOptions → Task → Option Clash
 clash_with asked Threads = clash_without_seed asked.events
 clash_with asked (Seed seed) = clash_of_journal asked.no_journal
 clash_with asked (Seeds seeds) = option_or (clash_with_seeds asked.events asked.dump asked.trace) (clash_of_journal asked.no_journal)
@@ -51,10 +51,10 @@ abbrev pub unless_clash : Task → Option Clash → Result Task Clash
 unless_clash task None = Ok task
 unless_clash task (Some clash) = Err clash
 
-abbrev pub checked : Asked → Result Task Clash → Result Task Clash
+abbrev pub checked : CharmRunOptions → Result Task Clash → Result Task Clash
 checked asked (Ok task) = unless_clash task (clash_with asked task)
 checked asked (Err clash) = Err clash
 
 -- how the chares are run, or which options do not go together
-abbrev pub task_of : Asked → Result Task Clash
+abbrev pub task_of : CharmRunOptions → Result Task Clash
 task_of asked = checked asked (way_of asked.seed asked.seeds asked.replay)

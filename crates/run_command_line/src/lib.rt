@@ -25,5 +25,5 @@ mod help;
 mod request;
 mod words;
 
-pub use request::{Asked, Clash, Task};
+pub use request::{CharmRunOptions, Clash, Task};
 pub use words::{asked, refuse};

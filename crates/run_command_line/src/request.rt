@@ -1,9 +1,11 @@
 ghost use Rattle.std.specs.Prelude.{◌≡◌};
 ghost use Rattle.run_command_line.specs.Requests.{clash_of_journal, clash_with, clash_with_seeds, clash_without_seed, task_of, way_of};
 
+use chain_refinement::Tolerance;
+
 /// What the arguments of a command line ask for.
 #[derive(Clone, Copy, Debug, PartialEq, Eq)]
-pub struct Asked<'a> {
+pub struct CharmRunOptions<'a> {
     /// The workload.
     pub file: &'a str,
     /// The dump of round r goes to the file of this name followed by `.r`.
@@ -12,8 +14,8 @@ pub struct Asked<'a> {
     pub lbd1: bool,
     /// Whether the progress of a run over threads is written also where the standard error is no terminal.
     pub progress: bool,
-    /// The tolerance within which rounds are decided, in thousandths, 0 to 1,000.
-    pub tolerance: Option<u32>,
+    /// The tolerance within which rounds are decided, if it is given.
+    pub tolerance: Option<Tolerance>,
     /// The seed of a run on one thread.
     pub seed: Option<u64>,
     /// How many seeds are run, 1 to 1,000,000.
@@ -60,14 +62,14 @@ pub enum Clash {
     NoJournalOnOneThread,
 }
 
-impl<'a> Asked<'a> {
+impl<'a> CharmRunOptions<'a> {
     /// How the chares are run.
     ///
     /// # Errors
     ///
     /// The first that applies, in the order of [`Clash`].
-    pub fn task(self) -> Result<Task<'a>, Clash>
-        ensures value { result ≡ task_of self.entry }
+    pub fn task(&self) -> Result<Task<'a>, Clash>
+        ensures value { result ≡ task_of self.now }
     {
         let task = way_of(self.seed, self.seeds, self.replay)?;
         match self.clash_with(task) {
@@ -77,8 +79,8 @@ impl<'a> Asked<'a> {
     }
 
     // The first option that does not go with a task.
-    fn clash_with(self, task: Task<'a>) -> Option<Clash>
-        ensures value { result ≡ clash_with self.entry task.entry }
+    fn clash_with(&self, task: Task<'a>) -> Option<Clash>
+        ensures value { result ≡ clash_with self.now task.entry }
     {
         match task {
             Task::Threads => clash_without_seed(self.events),

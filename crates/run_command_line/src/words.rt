@@ -11,7 +11,7 @@ ghost use Rattle.run_command_line.specs.CommandLine.{dump_rule, events_rule, no_
 ghost use Rattle.run_command_line.specs.CommandLine.{tolerance_in, trace_in, trace_rule, with_schedules};
 
 use crate::help::{ABOUT, HOW_TO};
-use crate::request::{Asked, Clash};
+use crate::request::{CharmRunOptions, Clash};
 use clap::builder::ValueParser;
 use clap::{Arg, ArgMatches, Command, Error, value_parser};
 use program_words::{NO_WORDS, flag, new_program, tolerance_in, word};
@@ -50,15 +50,14 @@ fn line_of(clash: Clash) -> &'static str
 /// The arguments are not `[--dump PREFIX] [--lbd1] [--progress] [--tolerance T] [--seed S] [--seeds N] [--events FILE]
 /// [--replay FILE] [--trace FILE] [--no-journal] FILE` with a T of 0 to 1,000, an S below 2^64 and an N of 1 to 1,000,000; or help
 /// or the version is asked for; or memory ran out. The error has the text to print; [`words_status`] is the status for it. Options that
-/// do not go together are no error here: [`Asked::task`] returns the [`Clash`].
-pub fn asked<'a>(alloc: Global, words: &'a [&'a str]) -> Result<Asked<'a>, Error>
+/// do not go together are no error here: [`CharmRunOptions::task`] returns the [`Clash`].
+pub fn asked<'a>(alloc: Global, words: &'a [&'a str]) -> Result<CharmRunOptions<'a>, Error>
     ensures faults { FailsBy (fault_of program (texts words.now)) result }
     ensures file { IfOk result (λ asked. file_in (texts words.now) ≡ Some asked.file.now) }
     ensures dump { IfOk result (λ asked. dump_in (texts words.now) ≡ option_map (λ prefix. prefix.now) asked.dump) }
     ensures lbd1 { IfOk result (λ asked. IsTrue asked.lbd1 ↔ AsksLbd1 (texts words.now)) }
     ensures progress { IfOk result (λ asked. IsTrue asked.progress ↔ TellsProgress (texts words.now)) }
     ensures tolerance { IfOk result (λ asked. (n : ℕ) → (asked.tolerance ≡ Some n) ↔ SpellsTolerance (tolerance_in (texts words.now)) n) }
-    ensures range { IfOk result (λ asked. ForSome asked.tolerance (λ t. t ≤ 1000)) }
     ensures seed { IfOk result (λ asked. (n : ℕ) → (asked.seed ≡ Some n) ↔ SpellsSeed (seed_in (texts words.now)) n) }
     ensures seeds { IfOk result (λ asked. (n : ℕ) → (asked.seeds ≡ Some n) ↔ SpellsSeeds (seeds_in (texts words.now)) n) }
     ensures some_seed { IfOk result (λ asked. ForSome asked.seeds (λ n. 1 ≤ n)) }
@@ -236,14 +235,13 @@ fn number_of_seeds<'a>() -> ValueParser<'a>
 }
 
 // What the arguments ask for.
-fn found<'a>(matches: &ArgMatches<'a>) -> Asked<'a>
+fn found<'a>(matches: &ArgMatches<'a>) -> CharmRunOptions<'a>
     requires named { is_some (first_value (found_of matches.now) (codes "file")) ≡ true }
     ensures file { first_value (found_of matches.now) (codes "file") ≡ Some result.file.now }
     ensures dump { first_value (found_of matches.now) (codes "dump") ≡ option_map (λ prefix. prefix.now) result.dump }
     ensures lbd1 { IsTrue result.lbd1 ↔ (one_text (found_of matches.now) (codes "lbd1") ≡ Some (codes "true")) }
     ensures progress { IsTrue result.progress ↔ (one_text (found_of matches.now) (codes "progress") ≡ Some (codes "true")) }
     ensures tolerance { (n : ℕ) → (result.tolerance ≡ Some n) ↔ SpellsTolerance (one_text (found_of matches.now) (codes "tolerance")) n }
-    ensures range { ForSome result.tolerance (λ t. t ≤ 1000) }
     ensures seed { (n : ℕ) → (result.seed ≡ Some n) ↔ SpellsSeed (one_text (found_of matches.now) (codes "seed")) n }
     ensures seeds { (n : ℕ) → (result.seeds ≡ Some n) ↔ SpellsSeeds (one_text (found_of matches.now) (codes "seeds")) n }
     ensures some_seed { ForSome result.seeds (λ n. 1 ≤ n) }
@@ -253,7 +251,7 @@ fn found<'a>(matches: &ArgMatches<'a>) -> Asked<'a>
     ensures trace { first_value (found_of matches.now) (codes "trace") ≡ option_map (λ name. name.now) result.trace }
     ensures no_journal { IsTrue result.no_journal ↔ (one_text (found_of matches.now) (codes "no-journal") ≡ Some (codes "true")) }
 {
-    Asked {
+    CharmRunOptions {
         file: matches.get_str("file").unwrap(),
         dump: matches.get_str("dump"),
         lbd1: matches.get_one("lbd1") == Some(true),

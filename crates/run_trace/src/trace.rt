@@ -1,6 +1,6 @@
 //! The trace of a run.
 
-ghost use Rattle.std.specs.Prelude.{◌≡◌, ◌++◌, Err, IfOk};
+ghost use Rattle.std.specs.Prelude.{◌≡◌, ◌++◌, ℕ, List, Option, Some, Err, IfErr, IfOk, IsErrAnd};
 ghost use Rattle.std.specs.List.{flat_map};
 ghost use Rattle.run_trace.specs.Shown.{all_events, rows, shown};
 ghost use Rattle.run_trace.specs.Writing.{WritesTrace};
@@ -10,13 +10,14 @@ use crate::error::TraceError;
 use crate::event::TraceEvent;
 use crate::happening::Happening;
 use crate::loads::push_loads;
+use crate::lost::LostTrace;
 use crate::shown::{push_happenings, push_rows};
 use crate::text::events_text;
 use lb_refinement::Refined;
 use lb_snapshot::Snapshot;
 use std::alloc::{AllocError, Allocator, Global};
-use std::io::Write;
-use streams::write_out;
+use std::io::{self, Write};
+use streams::{Noted, write_out};
 
 /// The events of the trace of a run on this number of PEs. There is a row for each PE; a slice for each handler, and for each
 /// part of a move; an arrow for each letter, from the handler that posted it to the one that executed it, and for each element
@@ -75,4 +76,49 @@ pub fn write_trace<A: Allocator, W: Write>(
         return Err(TraceError::Write);
     }
     Ok(())
+}
+
+/// Writes the trace to a file as [`write_trace`] does, and lets go of the file. One that could not be made is a trace that was not
+/// written.
+///
+/// # Errors
+///
+/// What was wrong, with the system's reason, where it gave one: that the file could not be made, or the last one of its writes.
+pub fn keep_trace<A: Allocator, W: Write + Drop>(
+    alloc: Global,
+    file: io::Result<W>,
+    pes: u32,
+    happenings: &[Happening],
+    rounds: &[(Snapshot<A>, Refined<A>)],
+) -> Result<(), LostTrace>
+    ensures kept { IfOk result (λ _. IfOk file (λ file. (left : Option (List ℕ)) × WritesTrace (W.contents file) left (all_events pes happenings.now rounds.now))) }
+    ensures unmade { IfErr file (λ reason. IsErrAnd result (λ lost. lost.reason ≡ Some reason)) }
+{
+    match file {
+        Ok(file) => write_noted(alloc, file, pes, happenings, rounds),
+        Err(reason) => Err(LostTrace {
+            error: TraceError::Write,
+            reason: Some(reason),
+        }),
+    }
+}
+
+// The same, to a file that was made.
+fn write_noted<A: Allocator, W: Write + Drop>(
+    alloc: Global,
+    file: W,
+    pes: u32,
+    happenings: &[Happening],
+    rounds: &[(Snapshot<A>, Refined<A>)],
+) -> Result<(), LostTrace>
+    ensures kept { IfOk result (λ _. (left : Option (List ℕ)) × WritesTrace (W.contents file) left (all_events pes happenings.now rounds.now)) }
+{
+    let mut noted = Noted::new(file);
+    match write_trace(alloc, &mut noted, pes, happenings, rounds) {
+        Ok(()) => Ok(()),
+        Err(error) => Err(LostTrace {
+            error,
+            reason: noted.failure(),
+        }),
+    }
 }

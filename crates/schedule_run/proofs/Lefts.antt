@@ -24,7 +24,7 @@ use Rattle.tally.specs.Tallies.{TallyView, tally_pack, tally_step}
 use Rattle.workload.specs.Text.{IsWithin, WorkloadView}
 use Rattle.workload_run.specs.Tallies.{tallies_of, tally_of}
 use Rattle.schedule_run.specs.Seeds.{TellsSeeds}
-use Rattle.workload_run.specs.declared.ended.Ended.{Ended}
+use Rattle.workload_run.specs.declared.ended.RunEnd.{RunEnd}
 use Rattle.schedule_run.specs.OneThread.{IsRunOnOne, RefusesRun, StopsRun, Unpack}
 
 -- what a run of these chares on this number of PEs left
@@ -52,7 +52,7 @@ drawn_on_one unpack bias bias' seed chares chares' pes pes' strategy strategy' x
 
 -- what was told of the runs of these chares on this number of PEs
 pub seeds_on_one : (A : Type 0) (fits : TallyView → Type 0) (unpack : Unpack) (bias bias' : Bias) (chares chares' : List TallyView)
-    (pes pes' : ℕ) (strategy strategy' : Strategy) (seeds : ℕ) (old new : Option (List ℕ)) (ended : Ended)
+    (pes pes' : ℕ) (strategy strategy' : Strategy) (seeds : ℕ) (old new : Option (List ℕ)) (ended : RunEnd)
     → bias ≡ bias' → chares ≡ chares' → pes ≡ pes' → strategy ≡ strategy'
     → TellsSeeds A tally_step fits tally_pack unpack chares pes strategy bias seeds old new ended
     → TellsSeeds A tally_step fits tally_pack unpack chares' pes' strategy' bias' seeds old new ended

@@ -6,8 +6,8 @@ use Rattle.std.proofs.lemmas.List.{take_all}
 use Rattle.streams.specs.Writing.{WritesPrefix}
 use Rattle.workload_run.specs.Statuses.{status_of}
 use Rattle.workload_run.specs.Telling.{WritesText}
-use Rattle.workload_run.specs.declared.ended.Ended.{Ended}
-use Rattle.workload_run.specs.declared.ended.Ended.TheVariants.{OutOfMemory}
+use Rattle.workload_run.specs.declared.ended.RunEnd.{RunEnd}
+use Rattle.workload_run.specs.declared.ended.RunEnd.TheVariants.{OutOfMemory}
 
 -- nothing was written
 pub nothing_written : (old new : Option (List ℕ)) (line : List ℕ) → new ≡ old → WritesPrefix old new line
@@ -18,7 +18,7 @@ pub whole_prefix : (old new : Option (List ℕ)) (line : List ℕ) → Appends o
 whole_prefix old new line gone = (length line, omega arith, subst (Appends old new) (sym (take_all (length line) line (omega arith))) gone)
 
 -- the status where memory was refused, and what was written then
-pub memory_told : (old new : Option (List ℕ)) (line : List ℕ) (ended : Ended) (status : ℕ) → status ≡ status_of ended → WritesText line OutOfMemory old new ended
+pub memory_told : (old new : Option (List ℕ)) (line : List ℕ) (ended : RunEnd) (status : ℕ) → status ≡ status_of ended → WritesText line OutOfMemory old new ended
     → (status ≡ 5) × WritesPrefix old new line
 memory_told old new line ended status is (inl (end, gone)) = (is ∙ ap status_of end, whole_prefix old new line gone)
 memory_told old new line ended status is (inr (end, part)) = (is ∙ ap status_of end, part)

@@ -15,8 +15,8 @@ use Rattle.workload.specs.Text.{WorkloadView}
 use Rattle.workload_run.specs.Lines.{memory_line}
 use Rattle.workload_run.specs.Tallies.{tallies_of}
 use Rattle.workload_run.specs.Telling.{TellsOutcome, WritesText}
-use Rattle.workload_run.specs.declared.ended.Ended.{Ended}
-use Rattle.workload_run.specs.declared.ended.Ended.TheVariants.{OutOfMemory}
+use Rattle.workload_run.specs.declared.ended.RunEnd.{RunEnd}
+use Rattle.workload_run.specs.declared.ended.RunEnd.TheVariants.{OutOfMemory}
 
 -- the tally that bytes unpack to
 abbrev pub Unpack : Type 0
@@ -29,7 +29,7 @@ module _ {A : Type 0} (fits : TallyView → Type 0) (unpack : Unpack) where
 
   -- what was written of that: the text of its outcome; without an outcome the line for refused memory; or a prefix of one
   -- of these
-  abbrev pub EndsOnOne : WorkloadView → Strategy → Option (List ℕ) → Option (List ℕ) → Option (ExploredView TallyView A) → Ended → Type 0
+  abbrev pub EndsOnOne : WorkloadView → Strategy → Option (List ℕ) → Option (List ℕ) → Option (ExploredView TallyView A) → RunEnd → Type 0
   EndsOnOne w strategy old new (Some x) ended =
       IsRunOnOne w strategy x × TellsOutcome (outcome_text w.chares x.outcome) old new x.outcome.fault ended
   EndsOnOne w strategy old new None ended = WritesText memory_line OutOfMemory old new ended

@@ -5,11 +5,11 @@ use Rattle.workload.specs.declared.error.WorkError.{WorkError}
 use Rattle.workload.specs.declared.error.WorkError.TheVariants as Why
 use Rattle.workload_run.specs.Driving.{IsRefusal}
 use Rattle.workload_run.specs.Telling.{ReportsFault}
-use Rattle.workload_run.specs.declared.ended.Ended.{Ended}
+use Rattle.workload_run.specs.declared.ended.RunEnd.{RunEnd}
 
 -- The bytes of a reader, where they are known, are the text of the workload, and nothing is written; or the line of their fault
 -- is written, or that for refused memory, or a prefix of one.
-abbrev pub Reads : Option (List ℕ) → Option (List ℕ) → Option (List ℕ) → Option (List ℕ) → Result WorkloadView Ended → Type 0
+abbrev pub Reads : Option (List ℕ) → Option (List ℕ) → Option (List ℕ) → Option (List ℕ) → Result WorkloadView RunEnd → Type 0
 Reads bytes rest old new (Ok w) = IfSome bytes (IsText w) × (new ≡ old)
 Reads bytes rest old new (Err ended) =
     (fault : WorkError) × ((fault ≢ Why.OutOfMemory) → IsRefusal bytes rest fault) × ReportsFault fault old new ended

@@ -20,8 +20,8 @@ use Rattle.schedule_run.specs.declared.verdict.Verdict.{Verdict}
 use Rattle.workload_run.specs.Lines.{memory_line, newline}
 use Rattle.workload_run.specs.Tallies.{tallies_of}
 use Rattle.workload_run.specs.Telling.{TellsOutcome, WritesText}
-use Rattle.workload_run.specs.declared.ended.Ended.{Ended}
-use Rattle.workload_run.specs.declared.ended.Ended.TheVariants.{OutOfMemory}
+use Rattle.workload_run.specs.declared.ended.RunEnd.{RunEnd}
+use Rattle.workload_run.specs.declared.ended.RunEnd.TheVariants.{OutOfMemory}
 
 module _ {C : Type 0} (A : Type 0) (step : Step C) (fits : C → Type 0) (pack : C → List ℕ) (unpack : List ℕ → Result (C × ℕ) PupError)
     (chares : List C) (pes : ℕ) (strategy : Strategy) (bias : Bias) where
@@ -73,13 +73,13 @@ fault_of_first verdicts = first_fault (map (λ v. v.fault) verdicts)
 -- These chares were run by each of the seeds from 1 to this number, and the text of that was written, or a prefix of it; or memory
 -- was refused, and the line for that was written, or a prefix of it.
 abbrev pub TellsSeeds : {C : Type 0} (A : Type 0) → Step C → (C → Type 0) → (C → List ℕ) → (List ℕ → Result (C × ℕ) PupError) → List C → ℕ
-    → Strategy → Bias → ℕ → Option (List ℕ) → Option (List ℕ) → Ended → Type 0
+    → Strategy → Bias → ℕ → Option (List ℕ) → Option (List ℕ) → RunEnd → Type 0
 TellsSeeds A step fits pack unpack chares pes strategy bias seeds old new ended =
     ((verdicts : List Verdict) × AreVerdicts A step fits pack unpack chares pes strategy bias 1 verdicts × (length verdicts ≡ seeds)
     × TellsOutcome (seeds_text verdicts) old new (fault_of_first verdicts) ended)
     ⊎ WritesText memory_line OutOfMemory old new ended
 
 -- so for the tallies of a workload, without a bias
-abbrev pub TriesSeeds : (A : Type 0) → (TallyView → Type 0) → Unpack → WorkloadView → Strategy → ℕ → Option (List ℕ) → Option (List ℕ) → Ended → Type 0
+abbrev pub TriesSeeds : (A : Type 0) → (TallyView → Type 0) → Unpack → WorkloadView → Strategy → ℕ → Option (List ℕ) → Option (List ℕ) → RunEnd → Type 0
 TriesSeeds A fits unpack w strategy seeds old new ended =
     TellsSeeds A tally_step fits tally_pack unpack (tallies_of w) w.pes strategy no_bias seeds old new ended

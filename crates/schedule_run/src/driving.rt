@@ -13,7 +13,7 @@ ghost use Rattle.workload.specs.Text.{IsWithin};
 ghost use Rattle.workload_run.specs.Tallies.{tallies_of};
 ghost use Rattle.workload_run.specs.Telling.{TellsOutcome, WritesText};
 ghost use Rattle.workload_run.specs.Lines.{memory_line};
-ghost use Rattle.workload_run.specs.declared.ended.Ended.TheVariants.{OutOfMemory};
+ghost use Rattle.workload_run.specs.declared.ended.RunEnd.TheVariants.{OutOfMemory};
 
 use crate::on_one::DrivenOnOne;
 use crate::running::{follow, search};

@@ -13,13 +13,13 @@
 //! use rts_run::Strategy;
 //! use schedule_run::drive_seed;
 //! use workload::Workload;
-//! use workload_run::Ended;
+//! use workload_run::RunEnd;
 //!
 //! // One tally on one PE, which sends itself a 7.
 //! let workload = Workload::parse(alloc, b"pes 1\nrounds 1\npad 0\nchares 1\namounts 7\n")?;
 //! let mut text = Vec::new(alloc);
 //! let driven = drive_seed(alloc, &workload, Strategy::Least, 1, &mut text);
-//! assert!(rt; driven.ended == Ended::Ran(None));
+//! assert!(rt; driven.ended == RunEnd::Ran(None));
 //! let expected = b"round 1 bottleneck 7 moved 0\nsums 7\nposted 1 executed 1 held 0\n";
 //! assert!(rt; text.as_slice() == expected.as_slice());
 //! ```

@@ -5,13 +5,13 @@ ghost use Rattle.workload_run.specs.Statuses.{status_of};
 use schedules::Explored;
 use std::alloc::{Allocator, Global};
 use tally::Tally;
-use workload_run::{Driven, Ended};
+use workload_run::{Driven, RunEnd};
 
 /// The result of a workload on one thread: how it ended, and what its run left, if there was one.
 #[derive(Drop)]
 pub struct DrivenOnOne<A: Allocator + Copy = Global> {
     /// How it ended.
-    pub ended: Ended,
+    pub ended: RunEnd,
     /// What the run left; `None` where memory was refused before it or after it.
     pub explored: Option<Explored<Tally<A>, A>>,
 }

@@ -18,7 +18,7 @@ use std::alloc::{AllocError, Allocator};
 use std::io::Write;
 use tally::Tally;
 use workload::Workload;
-use workload_run::{Ended, report_memory, report_text};
+use workload_run::{RunEnd, report_memory, report_text};
 
 /// Runs a workload by each of the seeds 1 to `seeds`, as [`search`](crate::search) does, and writes what [`tell_seeds`] does.
 pub fn drive_seeds<W: Write, A: Allocator + Copy>(
@@ -27,7 +27,7 @@ pub fn drive_seeds<W: Write, A: Allocator + Copy>(
     strategy: Strategy,
     seeds: u32,
     writer: &mut W,
-) -> Ended
+) -> RunEnd
     requires within { IsWithin workload.now }
     ensures tried { TriesSeeds A ⟦<Tally<A> as Pup<A>>⟧.fits ⟦<Tally<A> as Pup<A>>⟧.unpack workload.now strategy seeds
         (W.contents writer.old) (W.contents writer.new) result }
@@ -48,7 +48,7 @@ pub fn tell_seeds<C: Chare<A>, K: Cast<C, A>, W: Write, A: Allocator + Copy>(
     cast: &K,
     seeds: u32,
     writer: &mut W,
-) -> Ended
+) -> RunEnd
     ensures tried { TellsSeeds A C.step C.fits C.pack C.unpack (K.chares cast.now) schedule.now.pes schedule.now.strategy schedule.now.bias seeds
         (W.contents writer.old) (W.contents writer.new) result }
 {
@@ -58,7 +58,7 @@ pub fn tell_seeds<C: Chare<A>, K: Cast<C, A>, W: Write, A: Allocator + Copy>(
     let Ok(text) = seeds_text(alloc, &verdicts) else {
         return report_memory(writer);
     };
-    report_text(writer, text.as_bytes(), Ended::Ran(first_fault(&verdicts)))
+    report_text(writer, text.as_bytes(), RunEnd::Ran(first_fault(&verdicts)))
 }
 
 // How the runs of these chares by the seeds 1 to `seeds` ended.

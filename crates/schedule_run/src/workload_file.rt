@@ -10,7 +10,7 @@ use std::alloc::Allocator;
 use std::io::{self, Read, Write};
 use streams::Noted;
 use workload::{WorkError, Workload};
-use workload_run::{Ended, report_fault};
+use workload_run::{RunEnd, report_fault};
 
 /// Reads the workload in a file, or writes the one line of its fault, as [`drive_file`](workload_run::drive_file) does, and returns
 /// also the system's reason where a read failed. A file that could not be opened is reported as a workload that was not read.
@@ -22,7 +22,7 @@ pub fn read_workload<R: Read + Drop, W: Write, A: Allocator + Copy>(
     alloc: A,
     file: io::Result<R>,
     writer: &mut W,
-) -> (Result<Workload<A>, Ended>, Option<io::Error>)
+) -> (Result<Workload<A>, RunEnd>, Option<io::Error>)
     ensures within { IfOk result.0 IsWithin }
     ensures opened { IfOk file (λ file. (rest : Option (List ℕ)) × Reads (R.remaining file) rest (W.contents writer.old) (W.contents writer.new) result.0) }
     ensures unopened { IfErr file (λ _. IfErr result.0 (ReportsFault Why.Read (W.contents writer.old) (W.contents writer.new))) }
@@ -47,7 +47,7 @@ fn read_from<R: Read, W: Write, A: Allocator + Copy>(
     alloc: A,
     reader: &mut R,
     writer: &mut W,
-) -> Result<Workload<A>, Ended>
+) -> Result<Workload<A>, RunEnd>
     ensures within { IfOk result IsWithin }
     ensures reads { Reads (R.remaining reader.old) (R.remaining reader.new) (W.contents writer.old) (W.contents writer.new) result }
 {

@@ -10,11 +10,10 @@ ghost use Rattle.sim_command_line.specs.CommandLine.{AsksAnyOrder, AsksCheck, As
 ghost use Rattle.sim_command_line.specs.CommandLine.{program, tolerance_in};
 
 use crate::help::{ABOUT, HOW_TO};
-use chain_refinement::Tolerance;
 use chare_index::Limits;
 use clap::builder::ValueParser;
 use clap::{Arg, ArgMatches, Command, Error, value_parser};
-use lb_replay::{Asked, Clash};
+use lb_replay::{Clash, SimOptions};
 use program_words::{NO_WORDS, flag, new_program, tolerance_in, word};
 use std::alloc::{AllocError, Global};
 use std::io::Write;
@@ -72,9 +71,9 @@ fn line_of(clash: Clash) -> &'static str
 /// The arguments are not `[--procs P] [--tolerance T] [--keep-order] [--any-order] [--check] FILE` with a P of 1 to 256
 /// (`Limits::PES`) and a T of 0 to 1,000 (`Tolerance::MOST`), help or the version is asked for, or memory ran out. The error has
 /// the text to print; [`words_status`] is the status for it. Arguments that ask for a check and also for another of these, for an
-/// order that is kept or any order and for no tolerance, or for both orders, are no error here: [`Asked::task`] returns the
+/// order that is kept or any order and for no tolerance, or for both orders, are no error here: [`SimOptions::task`] returns the
 /// [`Clash`].
-pub fn asked<'a>(alloc: Global, words: &'a [&'a str]) -> Result<Asked<'a>, Error>
+pub fn asked<'a>(alloc: Global, words: &'a [&'a str]) -> Result<SimOptions<'a>, Error>
     ensures faults { FailsBy (fault_of program (texts words.now)) result }
     ensures file { IfOk result (λ asked. file_in (texts words.now) ≡ Some asked.file.now) }
     ensures procs { IfOk result (λ asked. (n : ℕ) → (asked.procs ≡ Some n) ↔ Spells (procs_in (texts words.now)) n) }
@@ -84,7 +83,6 @@ pub fn asked<'a>(alloc: Global, words: &'a [&'a str]) -> Result<Asked<'a>, Error
     ensures check { IfOk result (λ asked. IsTrue asked.check ↔ AsksCheck (texts words.now)) }
     ensures some_pe { IfOk result (λ asked. ForSome asked.procs (λ p. 1 ≤ p)) }
     ensures few_pes { IfOk result (λ asked. ForSome asked.procs (λ p. p ≤ Limits.PES)) }
-    ensures most { IfOk result (λ asked. ForSome asked.tolerance (λ t. t ≤ Tolerance.MOST)) }
 {
     match command(alloc)?.try_get_matches_from(words) {
         Ok(matches) => Ok(found(&matches)),
@@ -179,7 +177,7 @@ fn number_of_pes<'a>() -> ValueParser<'a>
 }
 
 // What the arguments ask for.
-fn found<'a>(matches: &ArgMatches<'a>) -> Asked<'a>
+fn found<'a>(matches: &ArgMatches<'a>) -> SimOptions<'a>
     requires named { is_some (first_value (found_of matches.now) (codes "file")) ≡ true }
     ensures file { first_value (found_of matches.now) (codes "file") ≡ Some result.file.now }
     ensures procs { (n : ℕ) → (result.procs ≡ Some n) ↔ Spells (one_text (found_of matches.now) (codes "procs")) n }
@@ -189,9 +187,8 @@ fn found<'a>(matches: &ArgMatches<'a>) -> Asked<'a>
     ensures check { IsTrue result.check ↔ (one_text (found_of matches.now) (codes "check") ≡ Some (codes "true")) }
     ensures some_pe { ForSome result.procs (λ p. 1 ≤ p) }
     ensures few_pes { ForSome result.procs (λ p. p ≤ Limits.PES) }
-    ensures most { ForSome result.tolerance (λ t. t ≤ Tolerance.MOST) }
 {
-    Asked {
+    SimOptions {
         file: matches.get_str("file").unwrap(),
         procs: number_in(matches),
         tolerance: tolerance_in(matches),

@@ -6,7 +6,7 @@ use crate::fixtures::{assert_for, ends};
 use crate::tolerances::FOUR;
 use chain_refinement::Tolerance;
 use chare_index::Limits;
-use lb_replay::{Ended, Task};
+use lb_replay::{SimEnd, Task};
 use tests_fixtures::{EXAMPLE_DUMP, Source};
 
 // A dump, the number of PEs that is asked for, a tolerance, and the text.
@@ -17,18 +17,19 @@ struct Row {
     text: &'static str,
 }
 
-// The task of a row. A number that is out of range counts as none.
+// The task of a row. A number of PEs that is out of range counts as none, and a greater tolerance as the greatest.
 fn task(row: &Row) -> Task
     ensures may_run { MayRun result }
 {
     let procs = row.procs.filter(|&p| 1 <= p && p <= Limits::PES);
-    Task::RefineInAnyOrder(procs, row.tolerance.min(Tolerance::MOST))
+    let tolerance = Tolerance::new(row.tolerance.min(Tolerance::MOST)).unwrap();
+    Task::RefineInAnyOrder(procs, tolerance)
 }
 
 // Whether a replay prints the text, from a reader that gives seven bytes per call.
 fn is_printed(rt: &impl AllocGlobal, row: &Row) -> bool {
     let mut reader = Source::new(row.dump, 7, None);
-    ends(rt, task(row), &mut reader, row.text, Ended::Printed)
+    ends(rt, task(row), &mut reader, row.text, SimEnd::Printed)
 }
 
 /// The text for the four elements within 7. Elements 0 and 1 weigh 8 and share a PE, so one of them moves. If that were element 0

@@ -1,12 +1,13 @@
 //! Command lines: what their arguments ask for, what is to be done, and the status where they ask for nothing to be done.
 
 use crate::fixtures::{assert_for, same};
-use lb_replay::{Asked, Clash};
+use chain_refinement::Tolerance;
+use lb_replay::{Clash, SimOptions};
 use program_words::words_status;
 use sim_command_line::{asked, refuse_both};
 use std::alloc::Global;
 
-// Arguments, the file, the number of PEs and the tolerance that they ask for, whether they ask for an order that is kept, for any
+// Arguments, the file, the number of PEs and the thousandths that they ask for, whether they ask for an order that is kept, for any
 // order and for a check, and why these options cannot be combined.
 type Asking = (
     &'static [&'static str],
@@ -17,21 +18,22 @@ type Asking = (
     Option<Clash>,
 );
 
-// Whether they ask for this, which can be done or not.
+// Whether a row is what is asked for, which can be done or not.
+fn is_row(asked: &SimOptions<'_>, row: &Asking) -> bool {
+    let &(_, file, procs, thousandths, flags, clash) = row;
+    asked.file == file
+        && asked.procs == procs
+        && asked.tolerance.map(Tolerance::get) == thousandths
+        && (asked.keep_order, asked.any_order, asked.check) == flags
+        && asked.task().err() == clash
+}
+
+// Whether the arguments of a row ask for it.
 fn is_asked(alloc: Global, row: &Asking) -> bool {
-    let &(words, file, procs, tolerance, (keep_order, any_order, check), clash) = row;
-    let Ok(asked) = asked(alloc, words) else {
-        return false;
-    };
-    let expected = Asked {
-        file,
-        procs,
-        tolerance,
-        keep_order,
-        any_order,
-        check,
-    };
-    asked == expected && asked.task().err() == clash
+    match asked(alloc, row.0) {
+        Ok(asked) => is_row(&asked, row),
+        Err(_) => false,
+    }
 }
 
 const PLAIN: (bool, bool, bool) = (false, false, false);

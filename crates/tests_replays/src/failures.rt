@@ -4,7 +4,7 @@ ghost use Rattle.lb_replay.specs.Requests.{MayRun};
 
 use crate::fixtures::{DECIDED, REPLAY, RIGHT, TEXT, assert_for, ended, ends, has, is_end};
 use dump_format::DumpError;
-use lb_replay::{Ended, Task};
+use lb_replay::{SimEnd, Task};
 use std::io::{self, ErrorKind, Write};
 use std::process::Abort;
 use tests_fixtures::{EXAMPLE_DUMP, Sink, Source};
@@ -27,7 +27,7 @@ fn task(row: &Work) -> Task
 // what is written.
 fn ends_at_failure(rt: &impl AllocGlobal, row: &Work, bytes: usize) -> bool {
     let mut reader = Source::new(row.1, 1, Some((bytes, ErrorKind::Interrupted)));
-    let end = Ended::Dump(DumpError::Read);
+    let end = SimEnd::Dump(DumpError::Read);
     let found = ends(rt, task(row), &mut reader, "dump: read failed\n", end);
     found && reader.calls == bytes.saturating_add(1)
 }
@@ -53,7 +53,7 @@ fn ends_at_write(rt: &impl AllocGlobal, row: &Work, call: usize, error: Option<E
     let taken = row.3.saturating_mul(call);
     let held = has(&writer, call.saturating_add(1), row.2, taken);
     drop(writer);
-    held && ended == Ended::WriteFailed
+    held && ended == SimEnd::WriteFailed
 }
 
 // It has to end so at each call, at an error and where no byte is taken.
@@ -66,7 +66,7 @@ fn expect_end_at_write(rt: &(impl Abort + AllocGlobal), row: &Work) {
 }
 
 // Whether a writer that would fail after the last call has the whole text.
-fn writes_all(rt: &impl AllocGlobal, row: &Work, end: Ended) -> bool {
+fn writes_all(rt: &impl AllocGlobal, row: &Work, end: SimEnd) -> bool {
     let mut writer = Sink::new(rt, row.3, row.4, Some(ErrorKind::Interrupted));
     let mut reader = row.1;
     let ended = ended(rt.alloc(), task(row), &mut reader, &mut writer);
@@ -77,17 +77,17 @@ fn writes_all(rt: &impl AllocGlobal, row: &Work, end: Ended) -> bool {
 
 #[test]
 fn a_writer_that_fails_at_each_call(rt: HostRuntime) {
-    const ROWS: [(Work, Ended); 5] = [
-        ((false, &EXAMPLE_DUMP, TEXT, 8, 14), Ended::Printed),
-        ((false, &EXAMPLE_DUMP, TEXT, 1, 110), Ended::Printed),
-        ((true, &DECIDED, RIGHT, 1, 10), Ended::Printed),
+    const ROWS: [(Work, SimEnd); 5] = [
+        ((false, &EXAMPLE_DUMP, TEXT, 8, 14), SimEnd::Printed),
+        ((false, &EXAMPLE_DUMP, TEXT, 1, 110), SimEnd::Printed),
+        ((true, &DECIDED, RIGHT, 1, 10), SimEnd::Printed),
         (
             (false, b"LBD3", "dump: not LBD1 or LBD2\n", 1, 23),
-            Ended::Dump(DumpError::Magic),
+            SimEnd::Dump(DumpError::Magic),
         ),
         (
             (true, &EXAMPLE_DUMP, "check: no decision\n", 1, 19),
-            Ended::NoDecision,
+            SimEnd::NoDecision,
         ),
     ];
     for row in &ROWS {
@@ -131,7 +131,7 @@ impl Write for Held {
 }
 
 // Whether a replay of the example has this end, where such a writer passes this text on.
-fn gives(rt: &impl AllocGlobal, fails: bool, end: Ended, text: &str) -> bool {
+fn gives(rt: &impl AllocGlobal, fails: bool, end: SimEnd, text: &str) -> bool {
     let mut writer = Held::new(rt, fails);
     let mut reader = EXAMPLE_DUMP.as_slice();
     let ended = ended(rt.alloc(), REPLAY, &mut reader, &mut writer);
@@ -142,7 +142,7 @@ fn gives(rt: &impl AllocGlobal, fails: bool, end: Ended, text: &str) -> bool {
 
 #[test]
 fn what_was_written_is_flushed(rt: HostRuntime) {
-    assert_for(&rt, gives(&rt, false, Ended::Printed, TEXT), "flushed");
-    let fails = gives(&rt, true, Ended::WriteFailed, "");
+    assert_for(&rt, gives(&rt, false, SimEnd::Printed, TEXT), "flushed");
+    let fails = gives(&rt, true, SimEnd::WriteFailed, "");
     assert_for(&rt, fails, "the flush fails");
 }

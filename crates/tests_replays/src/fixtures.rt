@@ -3,8 +3,7 @@
 ghost use Rattle.lb_replay.specs.Requests.{MayRun};
 ghost use Rattle.std.specs.Prelude.{◌≡◌, true};
 
-use chain_refinement::Tolerance;
-use lb_replay::{Ended, Task, Way, simulate, verify};
+use lb_replay::{SimEnd, Task, Way, simulate, verify};
 use std::alloc::Global;
 use std::fmt::Debug;
 use std::io::{Read, Write};
@@ -66,22 +65,19 @@ pub(crate) fn ended<R: Read, W: Write>(
     task: Task,
     reader: &mut R,
     writer: &mut W,
-) -> Ended
+) -> SimEnd
     requires { MayRun task }
 {
     match task {
         Task::Replay(procs) => simulate(alloc, reader, writer, procs, Way::Least),
-        Task::Refine(procs, thousandths) => {
-            let way = Way::Within(Tolerance::new(thousandths).unwrap());
-            simulate(alloc, reader, writer, procs, way)
+        Task::Refine(procs, tolerance) => {
+            simulate(alloc, reader, writer, procs, Way::Within(tolerance))
         }
-        Task::RefineInOrder(procs, thousandths) => {
-            let way = Way::InOrder(Tolerance::new(thousandths).unwrap());
-            simulate(alloc, reader, writer, procs, way)
+        Task::RefineInOrder(procs, tolerance) => {
+            simulate(alloc, reader, writer, procs, Way::InOrder(tolerance))
         }
-        Task::RefineInAnyOrder(procs, thousandths) => {
-            let way = Way::InAnyOrder(Tolerance::new(thousandths).unwrap());
-            simulate(alloc, reader, writer, procs, way)
+        Task::RefineInAnyOrder(procs, tolerance) => {
+            simulate(alloc, reader, writer, procs, Way::InAnyOrder(tolerance))
         }
         Task::Check => verify(alloc, reader, writer),
     }
@@ -93,7 +89,7 @@ pub(crate) fn same(written: &[u8], text: &str) -> bool {
 }
 
 /// Whether a replay or a check, by how it ended and the bytes that it wrote, has this end and this text.
-pub(crate) fn is_end(found: Ended, written: &[u8], ended: Ended, text: &str) -> bool {
+pub(crate) fn is_end(found: SimEnd, written: &[u8], ended: SimEnd, text: &str) -> bool {
     found == ended && same(written, text)
 }
 
@@ -103,7 +99,7 @@ pub(crate) fn ends<R: Read>(
     task: Task,
     reader: &mut R,
     text: &str,
-    end: Ended,
+    end: SimEnd,
 ) -> bool
     requires { MayRun task }
 {
@@ -115,11 +111,11 @@ pub(crate) fn ends<R: Read>(
 }
 
 /// Whether a replay of these bytes, seven at a time, writes this text and has this end.
-pub(crate) fn replays(rt: &impl AllocGlobal, bytes: &[u8], text: &str, end: Ended) -> bool {
+pub(crate) fn replays(rt: &impl AllocGlobal, bytes: &[u8], text: &str, end: SimEnd) -> bool {
     ends(rt, REPLAY, &mut Source::new(bytes, 7, None), text, end)
 }
 
 /// Whether a check of these bytes, seven at a time, writes this line and has this end.
-pub(crate) fn checks(rt: &impl AllocGlobal, bytes: &[u8], line: &str, end: Ended) -> bool {
+pub(crate) fn checks(rt: &impl AllocGlobal, bytes: &[u8], line: &str, end: SimEnd) -> bool {
     ends(rt, Task::Check, &mut Source::new(bytes, 7, None), line, end)
 }

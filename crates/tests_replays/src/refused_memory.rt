@@ -5,17 +5,17 @@ use crate::fixtures::{DECIDED, RIGHT, TEXT, assert_for};
 use crate::tolerances::{FOUR, TEN, WITHIN};
 use chain_refinement::Tolerance;
 use dump_format::DumpError;
-use lb_replay::{Ended, Way, simulate, verify};
+use lb_replay::{SimEnd, Way, simulate, verify};
 use lb_strategy::PlanError;
 use std::alloc::Global;
 use std::process::Abort;
 use tests_fixtures::{EXAMPLE_DUMP, Outcome, Refusing, each_refusal};
 
 // A dump, the way in which it is replayed, or none where it is checked, the text for it, its end, and the number of requests.
-type Row = (&'static [u8], Option<Way>, &'static str, Ended, u64);
+type Row = (&'static [u8], Option<Way>, &'static str, SimEnd, u64);
 
 // How this ends, over an allocator that may refuse.
-fn ended(alloc: &Refusing<Global>, row: &Row, written: &mut Vec<u8>) -> Ended {
+fn ended(alloc: &Refusing<Global>, row: &Row, written: &mut Vec<u8>) -> SimEnd {
     let mut dump = row.0;
     match row.1 {
         None => verify(alloc, &mut dump, written),
@@ -24,12 +24,12 @@ fn ended(alloc: &Refusing<Global>, row: &Row, written: &mut Vec<u8>) -> Ended {
 }
 
 // The outcome for this end and these bytes. Out of memory is always a fault of the dump, or of the plan.
-fn outcome(row: &Row, ended: Ended, written: &[u8]) -> Outcome {
+fn outcome(row: &Row, ended: SimEnd, written: &[u8]) -> Outcome {
     if ended == row.3 && written == row.2.as_bytes() {
         return Outcome::Right;
     }
     match ended {
-        Ended::Dump(DumpError::OutOfMemory) | Ended::Plan(PlanError::OutOfMemory)
+        SimEnd::Dump(DumpError::OutOfMemory) | SimEnd::Plan(PlanError::OutOfMemory)
             if written == b"out of memory\n".as_slice() => { Outcome::Refused }
         _ => Outcome::Wrong,
     }
@@ -83,7 +83,7 @@ fn memory_refused_at_each_request(rt: HostRuntime) {
     let kept = Some(Way::InOrder(within));
     let any = Tolerance::new(300).expect(&rt, "no tolerance");
     let any = Some(Way::InAnyOrder(any));
-    let printed = Ended::Printed;
+    let printed = SimEnd::Printed;
     let rows: [Row; 6] = [
         // Each growth of the text, too.
         (&EXAMPLE_DUMP, least, TEXT, printed, TO_READ + PLANNING + 5),
@@ -96,7 +96,7 @@ fn memory_refused_at_each_request(rt: HostRuntime) {
             &EXAMPLE_DUMP,
             None,
             "check: no decision\n",
-            Ended::NoDecision,
+            SimEnd::NoDecision,
             TO_READ + 1,
         ),
     ];

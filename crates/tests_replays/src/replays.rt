@@ -3,20 +3,20 @@
 use crate::fixtures::{DECIDED, ON_ONE, RIGHT, TEXT, assert_for, checks, ends, replays};
 use dump_format::DumpError;
 use lb_certificates::Flaw;
-use lb_replay::{Ended, Task};
+use lb_replay::{SimEnd, Task};
 use std::alloc::{AllocError, Allocator};
 use std::process::Abort;
 use tests_fixtures::EXAMPLE_DUMP;
 
 #[test]
 fn the_example_and_its_decision(rt: HostRuntime) {
-    let printed = replays(&rt, &EXAMPLE_DUMP, TEXT, Ended::Printed);
+    let printed = replays(&rt, &EXAMPLE_DUMP, TEXT, SimEnd::Printed);
     assert_for(&rt, printed, TEXT);
-    let printed = replays(&rt, &DECIDED, TEXT, Ended::Printed);
+    let printed = replays(&rt, &DECIDED, TEXT, SimEnd::Printed);
     assert_for(&rt, printed, "a dump with a decision");
-    assert_for(&rt, checks(&rt, &DECIDED, RIGHT, Ended::Printed), RIGHT);
+    assert_for(&rt, checks(&rt, &DECIDED, RIGHT, SimEnd::Printed), RIGHT);
     let none = "check: no decision\n";
-    let checked = checks(&rt, &EXAMPLE_DUMP, none, Ended::NoDecision);
+    let checked = checks(&rt, &EXAMPLE_DUMP, none, SimEnd::NoDecision);
     assert_for(&rt, checked, none);
 }
 
@@ -26,10 +26,10 @@ fn no_elements_and_one_block(rt: HostRuntime) {
     let text = "step 0 procs 3 elements 0\nbottleneck 0\nfence zero\n\
         block 0 0..0 load 0 pe -\nblock 1 0..0 load 0 pe -\nblock 2 0..0 load 0 pe -\n\
         moved 0\n";
-    assert_for(&rt, replays(&rt, empty, text, Ended::Printed), text);
+    assert_for(&rt, replays(&rt, empty, text, SimEnd::Printed), text);
     let mut example = EXAMPLE_DUMP.as_slice();
     let task = Task::Replay(Some(1));
-    let printed = ends(&rt, task, &mut example, ON_ONE, Ended::Printed);
+    let printed = ends(&rt, task, &mut example, ON_ONE, SimEnd::Printed);
     assert_for(&rt, printed, ON_ONE);
 }
 
@@ -52,13 +52,13 @@ fn is_checked(
     rt: &(impl Abort + AllocGlobal),
     changed: Result<Vec<u8>, AllocError>,
     line: &str,
-    end: Ended,
+    end: SimEnd,
 ) -> bool {
     let dump = changed.expect(rt, "out of memory");
     let checked = checks(rt, &dump, line, end);
     let replayed = match end {
-        Ended::Dump(_) => replays(rt, &dump, line, end),
-        _ => replays(rt, &dump, TEXT, Ended::Printed),
+        SimEnd::Dump(_) => replays(rt, &dump, line, end),
+        _ => replays(rt, &dump, TEXT, SimEnd::Printed),
     };
     drop(dump);
     checked && replayed
@@ -69,7 +69,7 @@ type Forged = (Change, &'static str, Flaw);
 
 fn is_forged(rt: &(impl Abort + AllocGlobal), row: &Forged) -> bool {
     let changed = change(rt.alloc(), &DECIDED, &row.0);
-    is_checked(rt, changed, row.1, Ended::Flawed(row.2))
+    is_checked(rt, changed, row.1, SimEnd::Flawed(row.2))
 }
 
 #[test]
@@ -120,7 +120,7 @@ type Faulty = (&'static [u8], Change, &'static str, DumpError);
 
 fn is_faulty(rt: &(impl Abort + AllocGlobal), row: &Faulty) -> bool {
     let changed = change(rt.alloc(), row.0, &row.1);
-    is_checked(rt, changed, row.2, Ended::Dump(row.3))
+    is_checked(rt, changed, row.2, SimEnd::Dump(row.3))
 }
 
 #[test]

@@ -5,7 +5,7 @@ ghost use Rattle.lb_replay.specs.Requests.{MayRun};
 use crate::fixtures::{DECIDED, ON_ONE, REPLAY, RIGHT, TEXT, assert_for, same};
 use dump_format::DumpError;
 use lb_certificates::Flaw;
-use lb_replay::{Ended, Task, run};
+use lb_replay::{SimEnd, Task, run};
 use lb_strategy::PlanError;
 use std::io::{self, ErrorKind, Read};
 use tests_fixtures::{EXAMPLE_DUMP, Source};
@@ -16,7 +16,7 @@ fn runs<R: Read + Drop>(
     task: Task,
     file: io::Result<R>,
     text: &str,
-    expected: (Ended, Option<ErrorKind>),
+    expected: (SimEnd, Option<ErrorKind>),
 ) -> bool
     requires { MayRun task }
 {
@@ -36,7 +36,7 @@ fn kind(reason: Option<io::Error>) -> Option<ErrorKind> {
 fn prints(rt: &impl AllocGlobal, task: Task, bytes: &[u8], text: &str) -> bool
     requires { MayRun task }
 {
-    runs(rt, task, Ok(bytes), text, (Ended::Printed, None))
+    runs(rt, task, Ok(bytes), text, (SimEnd::Printed, None))
 }
 
 #[test]
@@ -47,35 +47,43 @@ fn runs_that_print(rt: HostRuntime) {
     assert_for(&rt, prints(&rt, Task::Check, &DECIDED, RIGHT), RIGHT);
 }
 
-// Whether a run returns the reason where its file is not opened, and where a read fails.
-fn hands_reason_on(rt: &impl AllocGlobal, task: Task, dump: &[u8]) -> bool
+// Whether a run returns the reason where its file is not opened.
+fn tells_missing(rt: &impl AllocGlobal, task: Task) -> bool
     requires { MayRun task }
 {
     let missing: io::Result<&[u8]> = Err(io::Error::from(ErrorKind::NotFound));
+    let end = (SimEnd::Dump(DumpError::Read), Some(ErrorKind::NotFound));
+    runs(rt, task, missing, "dump: read failed\n", end)
+}
+
+// Whether it returns the reason where a read of this dump fails.
+fn tells_failed(rt: &impl AllocGlobal, task: Task, dump: &[u8]) -> bool
+    requires { MayRun task }
+{
     let failing = Ok(Source::new(dump, 20, Some((1, ErrorKind::Interrupted))));
-    let text = "dump: read failed\n";
-    let end = Ended::Dump(DumpError::Read);
-    runs(rt, task, missing, text, (end, Some(ErrorKind::NotFound)))
-        && runs(rt, task, failing, text, (end, Some(ErrorKind::Interrupted)))
+    let end = (SimEnd::Dump(DumpError::Read), Some(ErrorKind::Interrupted));
+    runs(rt, task, failing, "dump: read failed\n", end)
 }
 
 #[test]
 fn a_run_hands_the_reason_on(rt: HostRuntime) {
-    assert_for(&rt, hands_reason_on(&rt, REPLAY, &EXAMPLE_DUMP), "a replay");
-    assert_for(&rt, hands_reason_on(&rt, Task::Check, &DECIDED), "a check");
+    assert_for(&rt, tells_missing(&rt, REPLAY), "no file to replay");
+    assert_for(&rt, tells_missing(&rt, Task::Check), "no file to check");
+    assert_for(&rt, tells_failed(&rt, REPLAY, &EXAMPLE_DUMP), "a replay");
+    assert_for(&rt, tells_failed(&rt, Task::Check, &DECIDED), "a check");
 }
 
 #[test]
 fn statuses(rt: HostRuntime) {
-    const ENDS: [(Ended, u8); 8] = [
-        (Ended::Printed, 0),
-        (Ended::Dump(DumpError::Magic), 3),
-        (Ended::Dump(DumpError::Read), 3),
-        (Ended::Dump(DumpError::OutOfMemory), 5),
-        (Ended::Plan(PlanError::OutOfMemory), 5),
-        (Ended::Flawed(Flaw::CutCount), 4),
-        (Ended::NoDecision, 4),
-        (Ended::WriteFailed, 5),
+    const ENDS: [(SimEnd, u8); 8] = [
+        (SimEnd::Printed, 0),
+        (SimEnd::Dump(DumpError::Magic), 3),
+        (SimEnd::Dump(DumpError::Read), 3),
+        (SimEnd::Dump(DumpError::OutOfMemory), 5),
+        (SimEnd::Plan(PlanError::OutOfMemory), 5),
+        (SimEnd::Flawed(Flaw::CutCount), 4),
+        (SimEnd::NoDecision, 4),
+        (SimEnd::WriteFailed, 5),
     ];
     for row in &ENDS {
         assert_for(&rt, row.0.status() == row.1, row.0);

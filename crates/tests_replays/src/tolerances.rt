@@ -6,7 +6,7 @@ ghost use Rattle.lb_replay.specs.Requests.{MayRun};
 use crate::fixtures::{assert_for, ends};
 use chain_refinement::Tolerance;
 use chare_index::Limits;
-use lb_replay::{Ended, Task};
+use lb_replay::{SimEnd, Task};
 use tests_fixtures::{EXAMPLE_DUMP, Source};
 
 /// Ten elements on three PEs, whose order is 2, 0, 1.
@@ -70,12 +70,12 @@ struct Row {
     text: &'static str,
 }
 
-// The task of a row. A number that is out of range counts as none.
+// The task of a row. A number of PEs that is out of range counts as none, and a greater tolerance as the greatest.
 fn task(row: &Row) -> Task
     ensures may_run { MayRun result }
 {
     let procs = row.procs.filter(|&p| 1 <= p && p <= Limits::PES);
-    let tolerance = row.tolerance.min(Tolerance::MOST);
+    let tolerance = Tolerance::new(row.tolerance.min(Tolerance::MOST)).unwrap();
     if row.keep_order {
         return Task::RefineInOrder(procs, tolerance);
     }
@@ -85,7 +85,7 @@ fn task(row: &Row) -> Task
 // Whether a replay prints the text, from a reader that gives seven bytes per call.
 fn is_printed(rt: &impl AllocGlobal, row: &Row) -> bool {
     let mut reader = Source::new(row.dump, 7, None);
-    ends(rt, task(row), &mut reader, row.text, Ended::Printed)
+    ends(rt, task(row), &mut reader, row.text, SimEnd::Printed)
 }
 
 // PEs that have an order: within 14 one element moves, within 24 none. Then the plan: the elements of a PE are not consecutive, or a

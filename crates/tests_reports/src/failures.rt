@@ -2,7 +2,7 @@
 
 use crate::fixtures::{THREE, assert_for, ended};
 use dump_format::DumpError;
-use lb_replay::Ended;
+use lb_replay::SimEnd;
 use lb_strategy::PlanError;
 use std::alloc::Global;
 use std::io::ErrorKind;
@@ -16,7 +16,7 @@ fn ends_at_call(rt: &impl AllocGlobal, call: usize) -> bool {
     let held = THREE.as_bytes().starts_with(writer.taken.as_slice());
     let calls = writer.calls;
     drop(writer);
-    held && ended == Ended::WriteFailed && calls == call.saturating_add(1)
+    held && ended == SimEnd::WriteFailed && calls == call.saturating_add(1)
 }
 
 #[test]
@@ -30,8 +30,8 @@ fn a_writer_that_fails_at_each_call(rt: HostRuntime) {
 fn attempted(rt: &impl AllocGlobal, alloc: &Refusing<Global>) -> Outcome {
     let mut written = Vec::new(rt.alloc());
     let outcome = match ended(alloc, &EXAMPLE_DUMP, &mut written) {
-        Ended::Printed if written.as_slice() == THREE.as_bytes() => Outcome::Right,
-        Ended::Dump(DumpError::OutOfMemory) | Ended::Plan(PlanError::OutOfMemory)
+        SimEnd::Printed if written.as_slice() == THREE.as_bytes() => Outcome::Right,
+        SimEnd::Dump(DumpError::OutOfMemory) | SimEnd::Plan(PlanError::OutOfMemory)
             if written.is_empty() => { Outcome::Refused }
         _ => Outcome::Wrong,
     };

@@ -5,7 +5,7 @@ ghost use Rattle.dump_report.specs.Reports.{IsNumber};
 
 use chain_refinement::Tolerance;
 use dump_report::report_dump;
-use lb_replay::Ended;
+use lb_replay::SimEnd;
 use load_report::Style;
 use std::alloc::Allocator;
 use std::fmt::Debug;
@@ -35,7 +35,7 @@ pub(crate) fn ended<A: Allocator + Copy, W: Write>(
     alloc: A,
     mut bytes: &[u8],
     writer: &mut W,
-) -> Ended {
+) -> SimEnd {
     report_dump(alloc, &mut bytes, writer, "three", &[], None, VALUES)
 }
 
@@ -60,7 +60,7 @@ pub(crate) fn reports(
         tolerance,
         style,
     );
-    let found = ended == Ended::Printed && written.as_slice() == text.as_bytes();
+    let found = ended == SimEnd::Printed && written.as_slice() == text.as_bytes();
     drop(written);
     found
 }

@@ -2,7 +2,7 @@
 
 use crate::fixtures::{THREE, VALUES, assert_for, ended, reports};
 use dump_format::DumpError;
-use lb_replay::Ended;
+use lb_replay::SimEnd;
 use load_report::Style;
 use std::test::Fail;
 use tests_fixtures::EXAMPLE_DUMP;
@@ -73,10 +73,10 @@ fn values_of_several_dumps(rt: HostRuntime) {
 // Whether a report on the file with this number ends as it should: the second is cut, and has a fault.
 fn ends(rt: &impl AllocGlobal, i: usize, written: &mut Vec<u8>) -> bool {
     if i == 1 {
-        let fault = Ended::Dump(DumpError::Short(40));
+        let fault = SimEnd::Dump(DumpError::Short(40));
         return ended(rt.alloc(), &EXAMPLE_DUMP[..40], written) == fault;
     }
-    ended(rt.alloc(), &EXAMPLE_DUMP, written) == Ended::Printed
+    ended(rt.alloc(), &EXAMPLE_DUMP, written) == SimEnd::Printed
 }
 
 #[test]

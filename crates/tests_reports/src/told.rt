@@ -4,62 +4,62 @@ use crate::fixtures::assert_for;
 use dump_format::DumpError;
 use dump_report::tell;
 use lb_certificates::Flaw;
-use lb_replay::Ended;
+use lb_replay::SimEnd;
 use lb_strategy::PlanError;
 use std::alloc::AllocError;
 use std::io::{self, ErrorKind};
 use tests_fixtures::{Refusing, Sink};
 
 // An end, whether the system's reason is that there is no such file, or there is none, and the line for it.
-static LINES: [(Ended, bool, &str); 11] = [
+static LINES: [(SimEnd, bool, &str); 11] = [
     (
-        Ended::Dump(DumpError::Magic),
+        SimEnd::Dump(DumpError::Magic),
         false,
         "lb_report: f: not a dump; a dump begins with LBD1 or LBD2: give one that charm_run --dump wrote, or see docs/FORMATS.md\n",
     ),
     (
-        Ended::Dump(DumpError::Short(40)),
+        SimEnd::Dump(DumpError::Short(40)),
         false,
         "lb_report: f: the dump ends after 40 bytes; a dump goes on here: copy it whole, or write it again\n",
     ),
     (
-        Ended::Dump(DumpError::Trailing),
+        SimEnd::Dump(DumpError::Trailing),
         false,
         "lb_report: f: bytes follow the end; a dump ends here: give one dump in a file\n",
     ),
     (
-        Ended::Dump(DumpError::OutOfMemory),
+        SimEnd::Dump(DumpError::OutOfMemory),
         false,
         "lb_report: f: out of memory; free some, or report on a smaller dump\n",
     ),
     (
-        Ended::Plan(PlanError::OutOfMemory),
+        SimEnd::Plan(PlanError::OutOfMemory),
         false,
         "lb_report: f: out of memory; report on fewer numbers of PEs at a time\n",
     ),
     (
-        Ended::WriteFailed,
+        SimEnd::WriteFailed,
         false,
         "lb_report: standard output: it takes nothing; give it a place that takes all of the report\n",
     ),
-    (Ended::Printed, false, ""),
-    (Ended::NoDecision, false, ""),
-    (Ended::Flawed(Flaw::CutCount), false, ""),
+    (SimEnd::Printed, false, ""),
+    (SimEnd::NoDecision, false, ""),
+    (SimEnd::Flawed(Flaw::CutCount), false, ""),
     (
-        Ended::Dump(DumpError::Read),
+        SimEnd::Dump(DumpError::Read),
         true,
         "lb_report: f: reading failed: entity not found; \
          give a file with a dump that you may read, or - for the standard input\n",
     ),
     (
-        Ended::WriteFailed,
+        SimEnd::WriteFailed,
         true,
         "lb_report: standard output: entity not found; give it a place that takes all of the report\n",
     ),
 ];
 
 // Whether this line is printed for an end, with this reason or none.
-fn is_told(rt: &impl AllocGlobal, ended: Ended, reason: Option<io::Error>, line: &str) -> bool {
+fn is_told(rt: &impl AllocGlobal, ended: SimEnd, reason: Option<io::Error>, line: &str) -> bool {
     let mut told = Vec::new(rt.alloc());
     let all = tell(rt.alloc(), &mut told, "f", ended, reason);
     let right = all && told.as_slice() == line.as_bytes();
@@ -94,7 +94,7 @@ fn is_displayed(rt: &impl AllocGlobal, fault: DumpError) -> bool {
     let Ok(line) = displayed(rt, fault) else {
         return false;
     };
-    is_told(rt, Ended::Dump(fault), None, &line)
+    is_told(rt, SimEnd::Dump(fault), None, &line)
 }
 
 #[test]
@@ -122,7 +122,7 @@ fn faults_in_their_own_words(rt: HostRuntime) {
 fn is_silent(rt: &impl AllocGlobal, turn: u64) -> bool {
     let alloc = Refusing::new(rt.alloc(), turn);
     let mut told = Vec::new(rt.alloc());
-    let all = tell(&alloc, &mut told, "f", Ended::Dump(DumpError::Magic), None);
+    let all = tell(&alloc, &mut told, "f", SimEnd::Dump(DumpError::Magic), None);
     let silent = !all && told.is_empty();
     drop(told);
     silent
@@ -131,7 +131,7 @@ fn is_silent(rt: &impl AllocGlobal, turn: u64) -> bool {
 // Whether a writer that fails at its third call has what it took before.
 fn is_cut(rt: &impl AllocGlobal) -> bool {
     let mut writer = Sink::new(rt, 8, 2, Some(ErrorKind::Interrupted));
-    let all = tell(rt.alloc(), &mut writer, "f", Ended::WriteFailed, None);
+    let all = tell(rt.alloc(), &mut writer, "f", SimEnd::WriteFailed, None);
     let part = writer.taken.as_slice() == b"lb_report: stand".as_slice();
     drop(writer);
     !all && part

@@ -4,6 +4,7 @@
 use crate::fixtures::{VALUES, assert_for, reports};
 use chain_refinement::Tolerance;
 use load_report::Style;
+use std::process::Abort;
 
 // Ten elements on three PEs, whose order is 2, 0, 1.
 const TEN: [u8; 136] = *b"LBD1\
@@ -43,9 +44,9 @@ struct Row {
     text: &'static str,
 }
 
-fn is_reported(rt: &impl AllocGlobal, row: &Row, style: Style) -> bool {
-    let tolerance = Tolerance::new(row.tolerance);
-    reports(rt, row.dump, &[], tolerance, style, row.text)
+fn is_reported(rt: &(impl Abort + AllocGlobal), row: &Row, style: Style) -> bool {
+    let tolerance = Tolerance::new(row.tolerance).expect(rt, "no tolerance");
+    reports(rt, row.dump, &[], Some(tolerance), style, row.text)
 }
 
 // The lines of the plan and of the decision within the tolerance, after that of the present placement.
@@ -89,8 +90,8 @@ const ON_BOTH: &str = "\"three\",present,3,10,21,10.000,2.100,,,,,,0,0,4,8,10,0.
 
 #[test]
 fn figures_for_two_numbers_of_pes(rt: HostRuntime) {
-    let tolerance = Tolerance::new(1_000);
-    let found = reports(&rt, &TEN, &[3, 4], tolerance, VALUES, ON_BOTH);
+    let tolerance = Tolerance::new(1_000).expect(&rt, "no tolerance");
+    let found = reports(&rt, &TEN, &[3, 4], Some(tolerance), VALUES, ON_BOTH);
     assert_for(&rt, found, "three and four");
 }
 

@@ -1,6 +1,7 @@
 //! The arguments of a command line.
 
 use crate::fixtures::assert_for;
+use chain_refinement::Tolerance;
 use program_words::words_status;
 use report_command_line::{asked, numbers, refuse_numbers};
 use std::alloc::Global;
@@ -50,10 +51,10 @@ fn words_that_are_read(rt: HostRuntime) {
     assert_for(&rt, right, "two files");
 }
 
-// The tolerance that these arguments ask for, or the status where they are refused.
+// The thousandths that these arguments ask for, or the status where they are refused.
 fn tolerance_in(alloc: Global, words: &[&str]) -> Result<Option<u32>, u8> {
     match asked(alloc, words) {
-        Ok(asked) => Ok(asked.tolerance),
+        Ok(asked) => Ok(asked.tolerance.map(Tolerance::get)),
         Err(error) => Err(words_status(&error)),
     }
 }

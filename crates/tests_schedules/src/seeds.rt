@@ -11,10 +11,20 @@ use std::alloc::AllocError;
 use std::process::Abort;
 use tally::Tally;
 
+// How the rounds of a list are decided.
+fn strategy_of(rt: &impl Abort, thousandths: Option<u32>) -> Strategy {
+    match thousandths {
+        None => Strategy::Least,
+        Some(thousandths) => {
+            Strategy::Refine(Tolerance::new(thousandths).expect(rt, "no tolerance"))
+        }
+    }
+}
+
 // The schedule of a list, by which a run is stopped after as many events as the list has.
-fn schedule_of(listed: &Listed) -> Schedule {
+fn schedule_of(rt: &impl Abort, listed: &Listed) -> Schedule {
     Schedule {
-        strategy: Strategy::within(listed.tolerance.and_then(Tolerance::new)),
+        strategy: strategy_of(rt, listed.tolerance),
         steps: listed.events.lines().count() as u64,
         bias: Bias {
             letters_first: listed.letters_first,
@@ -65,7 +75,7 @@ fn text_of(rt: &(impl Abort + AllocGlobal), run: &Explored<Tally>) -> String {
 fn each_seed_leads_to_its_list(rt: HostRuntime) {
     for listed in &LISTED {
         let chares = tallies_of(&rt, &listed.work);
-        let run = run_by(&rt, &schedule_of(listed), listed.seed, chares);
+        let run = run_by(&rt, &schedule_of(&rt, listed), listed.seed, chares);
         assert_for(
             &rt,
             run.fault() == listed.fault && run.refused() == None,

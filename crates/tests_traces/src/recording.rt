@@ -1,13 +1,16 @@
-//! What a recorder keeps, by a clock of the tests' own; and what is refused: memory, the clock, and a part of what is written.
+//! What a recorder keeps, by a clock of the tests' own; what is refused: memory, the clock, and a part of what is written; and why a
+//! trace was lost.
 
 use crate::counting::assert_for;
 use chare_index::{Index, Pe, Round};
 use lb_refinement::Refined;
 use lb_snapshot::Snapshot;
 use pe_worker::{PeStep, Watch};
-use run_trace::{Action, Happening, Recorder, Timeline, TraceError, What, write_trace};
-use std::alloc::Allocator;
-use std::io::{self, ErrorKind};
+use run_trace::{
+    Action, Happening, LostTrace, Recorder, Timeline, TraceError, What, keep_trace, write_trace,
+};
+use std::alloc::{Allocator, Global};
+use std::io::{self, ErrorKind, Write};
 use std::sync::Wait;
 use std::sync::atomic::{AtomicU64, Ordering};
 use std::time::{Clock, Duration};
@@ -114,4 +117,77 @@ fn a_write_fails(rt: HostRuntime) {
     assert_for(&rt, written == Err(TraceError::Write), "part");
     assert_for(&rt, sink.calls == 3 && sink.taken.len() == 400, "calls");
     assert_for(&rt, whole.taken.as_slice().starts_with(&sink.taken), "text");
+}
+
+// What is wrong with the trace of these happenings in this file, if it is lost, and the kind of the system's reason.
+fn lost<W: Write + Drop>(
+    alloc: Global,
+    file: io::Result<W>,
+    happenings: &[Happening],
+) -> Option<(TraceError, Option<ErrorKind>)> {
+    let lost = keep_trace(alloc, file, 2, happenings, &NO_ROUNDS).err()?;
+    let kind = match lost.reason {
+        Some(reason) => Some(reason.kind()),
+        None => None,
+    };
+    Some((lost.error, kind))
+}
+
+// Whether a trace that is kept in a file has the bytes that are written otherwise.
+fn is_kept(alloc: Global, happenings: &[Happening]) -> bool {
+    let mut whole = Vec::new(alloc);
+    let written = write_trace(alloc, &mut whole, 2, happenings, &NO_ROUNDS);
+    let mut file = Vec::new(alloc);
+    let lost = lost(alloc, Ok(&mut file), happenings);
+    let right = written.is_ok() && lost == None && file.as_slice() == whole.as_slice();
+    drop(file);
+    drop(whole);
+    right
+}
+
+#[test]
+fn a_trace_is_kept_or_lost(rt: HostRuntime) {
+    let timeline = recorded(&rt, rt.alloc(), false).expect(&rt, "nothing was recorded");
+    let happenings = timeline.happenings();
+    assert_for(&rt, is_kept(rt.alloc(), happenings), "kept");
+    let full = Ok(Sink::new(&rt, 200, 2, Some(ErrorKind::Interrupted)));
+    let found = lost(rt.alloc(), full, happenings);
+    let wanted = Some((TraceError::Write, Some(ErrorKind::Interrupted)));
+    assert_for(&rt, found == wanted, "a write fails");
+    let idle = Ok(Sink::new(&rt, 200, 2, None));
+    let found = lost(rt.alloc(), idle, happenings);
+    assert_for(
+        &rt,
+        found == Some((TraceError::Write, None)),
+        "no byte is taken",
+    );
+    let missing: io::Result<Sink> = Err(io::Error::from(ErrorKind::NotFound));
+    let found = lost(rt.alloc(), missing, happenings);
+    let wanted = Some((TraceError::Write, Some(ErrorKind::NotFound)));
+    assert_for(&rt, found == wanted, "no file is made");
+}
+
+// Whether a lost trace is shown so.
+fn is_shown(alloc: Global, lost: LostTrace, text: &str) -> bool {
+    match format!(in alloc; "{lost}") {
+        Ok(shown) => shown.as_str() == text,
+        Err(_) => false,
+    }
+}
+
+#[test]
+fn lost_traces_are_shown(rt: HostRuntime) {
+    let refused = LostTrace::from(TraceError::OutOfMemory);
+    assert_for(
+        &rt,
+        is_shown(rt.alloc(), refused, "out of memory"),
+        "memory",
+    );
+    let reason = io::Error::from(ErrorKind::NotFound);
+    let missing = LostTrace {
+        error: TraceError::Write,
+        reason: Some(reason),
+    };
+    let shown = format!(in rt.alloc(); "{reason}").expect(&rt, "out of memory");
+    assert_for(&rt, is_shown(rt.alloc(), missing, &shown), "reason");
 }

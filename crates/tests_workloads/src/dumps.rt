@@ -5,7 +5,7 @@ use crate::kept::{Kept, NEVER, Store};
 use dump_format::{Dump, Recorded};
 use lb_dump::decode;
 use lb_refinement::Refined;
-use lb_replay::{Ended, Way, simulate};
+use lb_replay::{SimEnd, Way, simulate};
 use lb_snapshot::Snapshot;
 use lb_strategy::check;
 use std::alloc::{AllocError, Global};
@@ -108,7 +108,7 @@ fn is_replayed(rt: &impl AllocGlobal, dump: &[u8]) -> bool {
     let mut reader = dump;
     let mut told = Vec::new(rt.alloc());
     let ended = simulate(rt.alloc(), &mut reader, &mut told, None, Way::Least);
-    ended == Ended::Printed && told.as_slice() == REPLAYED.as_bytes()
+    ended == SimEnd::Printed && told.as_slice() == REPLAYED.as_bytes()
 }
 
 #[test]

@@ -3,7 +3,7 @@
 use crate::fixtures::{assert_for, driven};
 use at_sync::Strategy;
 use std::alloc::{AllocError, Global};
-use workload_run::Ended;
+use workload_run::RunEnd;
 
 // The amounts of a round of the wandering hot spot: within 40 chares of its middle, 90 chares further on in each round, they
 // are larger.
@@ -58,6 +58,6 @@ fn the_hot_spot_wanders(rt: HostRuntime) {
     let begins = text.starts_with(FIRST_LINES.as_bytes());
     let ends = text.ends_with(b"\nposted 10000 executed 10000 held 0\n");
     drop(text);
-    assert_for(&rt, ended == Ended::Ran(None) && begins && ends, ended);
+    assert_for(&rt, ended == RunEnd::Ran(None) && begins && ends, ended);
     assert_for(&rt, workload.len() == 30_748, workload.len());
 }

@@ -8,7 +8,7 @@ use std::sync::Wait;
 use std::thread::Threads;
 use tests_fixtures::{Sink, Source};
 use workload::WorkError;
-use workload_run::Ended;
+use workload_run::RunEnd;
 
 // Whether the failed read is reported where the reader of a workload, which gives a byte per call, fails at this call.
 fn is_told<R: Threads + Wait + Sync + Abort + AllocGlobal>(
@@ -19,7 +19,7 @@ fn is_told<R: Threads + Wait + Sync + Abort + AllocGlobal>(
     let mut reader = Source::new(workload, 1, Some((at, ErrorKind::Interrupted)));
     let mut text = Vec::new(rt.alloc());
     let driven = drive_from(rt, rt.alloc(), &mut reader, &mut text, Strategy::Least);
-    let right = driven.ended == Ended::Refused(WorkError::Read) && driven.rounds().is_empty();
+    let right = driven.ended == RunEnd::Refused(WorkError::Read) && driven.rounds().is_empty();
     drop(driven);
     right && text.as_slice() == b"workload: read failed\n".as_slice()
 }
@@ -45,7 +45,7 @@ fn is_cut<R: Threads + Wait + Sync + Abort + AllocGlobal>(
     let mut reader = WORKED;
     let mut writer = Sink::new(rt, 7, at, error);
     let driven = drive_from(rt, rt.alloc(), &mut reader, &mut writer, Strategy::Least);
-    let right = driven.ended == Ended::WriteFailed && driven.rounds().len() == 2;
+    let right = driven.ended == RunEnd::WriteFailed && driven.rounds().len() == 2;
     drop(driven);
     let prefix = WORKED_TEXT.as_bytes().starts_with(&writer.taken);
     right && prefix && writer.taken.len() == at.saturating_mul(7)

@@ -13,7 +13,7 @@ use std::thread::Threads;
 use streams::Advice;
 use tests_fixtures::Source;
 use workload::WorkError;
-use workload_run::{Ended, Onlooker, drive_file};
+use workload_run::{Onlooker, RunEnd, drive_file};
 
 // Adds up 100 for each round that is expected, and 1 for each that is decided.
 #[derive(Drop)]
@@ -33,14 +33,14 @@ impl Onlooker for Seen {
 }
 
 // How the run of a file ends, the kind of the system's reason, what is written, and what the onlooker adds up.
-type Row<'a> = (Ended, Option<ErrorKind>, &'a str, u64);
+type Row<'a> = (RunEnd, Option<ErrorKind>, &'a str, u64);
 
-const RAN: Row<'static> = (Ended::Ran(None), None, WORKED_TEXT, 202);
+const RAN: Row<'static> = (RunEnd::Ran(None), None, WORKED_TEXT, 202);
 
 // The row of a workload that is not read, for this reason.
 fn unread(reason: ErrorKind) -> Row<'static> {
     (
-        Ended::Refused(WorkError::Read),
+        RunEnd::Refused(WorkError::Read),
         Some(reason),
         "workload: read failed\n",
         0,

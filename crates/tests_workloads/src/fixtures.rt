@@ -9,7 +9,7 @@ use std::io::{Read, Write};
 use std::process::Abort;
 use std::sync::Wait;
 use std::thread::Threads;
-use workload_run::{Driven, Ended, drive};
+use workload_run::{Driven, RunEnd, drive};
 
 /// The worked workload.
 pub(crate) const WORKED: &[u8] =
@@ -59,7 +59,7 @@ pub(crate) fn worked<R: Threads + Wait + Sync + Abort + AllocGlobal>(rt: &R) -> 
 }
 
 /// A workload, how its run ends, the status, and what is written.
-pub(crate) type Row<'a> = (&'a [u8], Ended, u8, &'a str);
+pub(crate) type Row<'a> = (&'a [u8], RunEnd, u8, &'a str);
 
 /// Whether the run of a workload ends as in its row, and writes exactly that.
 pub(crate) fn tells<R: Threads + Wait + Sync + Abort + AllocGlobal>(

@@ -8,7 +8,7 @@ use std::alloc::{AllocError, Global};
 use std::process::Abort;
 use std::sync::Wait;
 use std::thread::Threads;
-use workload_run::{DumpFormat, Ended};
+use workload_run::{DumpFormat, RunEnd};
 
 const TURNS: u32 = 200;
 
@@ -116,7 +116,7 @@ fn runs<R: Threads + Wait + Sync + Abort + AllocGlobal>(rt: &R, drawn: &Drawn) -
     for round in driven.rounds() {
         right &= is_recorded(rt, round);
     }
-    right && driven.ended == Ended::Ran(None) && text.ends_with(want.as_bytes())
+    right && driven.ended == RunEnd::Ran(None) && text.ends_with(want.as_bytes())
 }
 
 #[test]

@@ -8,7 +8,7 @@ use std::sync::Wait;
 use std::thread::Threads;
 use tests_fixtures::{Outcome, Refusing, each_refusal};
 use workload::{WorkError, Workload};
-use workload_run::Ended;
+use workload_run::RunEnd;
 
 // No run here makes this many requests.
 const MOST_TURNS: u64 = 2_000;
@@ -31,17 +31,17 @@ fn is_early(text: &[u8]) -> bool {
 }
 
 // Counts how a run ended, and returns whether that agrees with its text: well where no request was refused, and otherwise not.
-fn count(counts: &mut Counts, refused: bool, ended: Ended, text: &[u8]) -> bool {
+fn count(counts: &mut Counts, refused: bool, ended: RunEnd, text: &[u8]) -> bool {
     match ended {
-        Ended::OutOfMemory => {
+        RunEnd::OutOfMemory => {
             counts.refused = counts.refused.saturating_add(1);
             refused && text == b"out of memory\n".as_slice()
         }
-        Ended::Ran(Some(Fault::OutOfMemory)) => {
+        RunEnd::Ran(Some(Fault::OutOfMemory)) => {
             counts.early = counts.early.saturating_add(1);
             refused && is_early(text)
         }
-        Ended::Ran(None) => {
+        RunEnd::Ran(None) => {
             counts.well = counts.well.saturating_add(1);
             !refused && text == WORKED_TEXT.as_bytes()
         }

@@ -6,7 +6,7 @@ use at_sync::Strategy;
 use chain_refinement::Tolerance;
 use lb_dump::decode;
 use lb_refinement::Refined;
-use workload_run::{DumpFormat, Ended};
+use workload_run::{DumpFormat, RunEnd};
 
 // What is printed where the loads 6 and 1, and 1 and 2, may stay where they are.
 const KEPT_TEXT: &str = "round 1 bottleneck 7 moved 0\n\
@@ -18,15 +18,16 @@ const KEPT_TEXT: &str = "round 1 bottleneck 7 moved 0\n\
 #[test]
 fn a_tolerance_keeps_what_lies_within_it(rt: HostRuntime) {
     for (thousandths, want) in &[(166, WORKED_TEXT), (167, KEPT_TEXT)] {
-        let strategy = Strategy::within(Tolerance::new(*thousandths));
-        let row = (WORKED, Ended::Ran(None), 0, *want);
-        assert_for(&rt, tells(&rt, &row, strategy), *want);
+        let tolerance = Tolerance::new(*thousandths).expect(&rt, "no tolerance");
+        let row = (WORKED, RunEnd::Ran(None), 0, *want);
+        assert_for(&rt, tells(&rt, &row, Strategy::Refine(tolerance)), *want);
     }
 }
 
 #[test]
 fn a_dump_records_no_cuts_within_a_tolerance(rt: HostRuntime) {
-    let driven = driven(&rt, WORKED, Strategy::within(Tolerance::new(167))).0;
+    let tolerance = Tolerance::new(167).expect(&rt, "no tolerance");
+    let driven = driven(&rt, WORKED, Strategy::Refine(tolerance)).0;
     let round = driven.rounds().first().expect(&rt, "there is a round");
     let near = matches!(round.1, Refined::Near(_));
     let text = text_of(&rt, round, DumpFormat::Lbd2);

@@ -1,81 +1,81 @@
 //! The arguments of a command line that asks for the run of a workload.
 
 use crate::fixtures::assert_for;
+use chain_refinement::Tolerance;
 use program_words::{NO_WORDS, words_status};
-use run_command_line::{Asked, Task, asked, refuse};
+use run_command_line::{CharmRunOptions, Task, asked, refuse};
 use std::alloc::Global;
 
 // The status for arguments that ask for no run, and what the others ask for.
-fn answer<'a>(alloc: Global, words: &'a [&'a str]) -> Result<Asked<'a>, u8> {
+fn answer<'a>(alloc: Global, words: &'a [&'a str]) -> Result<CharmRunOptions<'a>, u8> {
     match asked(alloc, words) {
         Ok(asked) => Ok(asked),
         Err(error) => Err(words_status(&error)),
     }
 }
 
-// Arguments, and what they ask for.
-type Row<'a> = (&'a [&'a str], Asked<'a>);
+// What the file alone asks for.
+fn plain() -> CharmRunOptions<'static> {
+    CharmRunOptions {
+        file: "f",
+        dump: None,
+        lbd1: false,
+        progress: false,
+        tolerance: None,
+        seed: None,
+        seeds: None,
+        events: None,
+        replay: None,
+        trace: None,
+        no_journal: false,
+    }
+}
 
-static ROWS: [Row<'static>; 2] = [
-    (
-        &["charm_run", "f"],
-        Asked {
-            file: "f",
-            dump: None,
-            lbd1: false,
-            progress: false,
-            tolerance: None,
-            seed: None,
-            seeds: None,
-            events: None,
-            replay: None,
-            trace: None,
-            no_journal: false,
-        },
-    ),
-    (
-        &[
-            "charm_run",
-            "--replay",
-            "r",
-            "--dump",
-            "p",
-            "--seed",
-            "18446744073709551615",
-            "f",
-            "--lbd1",
-            "--tolerance",
-            "1000",
-            "--events",
-            "e",
-            "--progress",
-            "--seeds",
-            "1000000",
-            "--trace",
-            "t",
-            "--no-journal",
-        ],
-        Asked {
-            file: "f",
-            dump: Some("p"),
-            lbd1: true,
-            progress: true,
-            tolerance: Some(1_000),
-            seed: Some(u64::MAX),
-            seeds: Some(1_000_000),
-            events: Some("e"),
-            replay: Some("r"),
-            trace: Some("t"),
-            no_journal: true,
-        },
-    ),
+// Every option at once.
+static EVERY_OPTION: [&str; 19] = [
+    "charm_run",
+    "--replay",
+    "r",
+    "--dump",
+    "p",
+    "--seed",
+    "18446744073709551615",
+    "f",
+    "--lbd1",
+    "--tolerance",
+    "1000",
+    "--events",
+    "e",
+    "--progress",
+    "--seeds",
+    "1000000",
+    "--trace",
+    "t",
+    "--no-journal",
 ];
+
+// What they ask for.
+fn all_asked(tolerance: Tolerance) -> CharmRunOptions<'static> {
+    CharmRunOptions {
+        file: "f",
+        dump: Some("p"),
+        lbd1: true,
+        progress: true,
+        tolerance: Some(tolerance),
+        seed: Some(u64::MAX),
+        seeds: Some(1_000_000),
+        events: Some("e"),
+        replay: Some("r"),
+        trace: Some("t"),
+        no_journal: true,
+    }
+}
 
 #[test]
 fn words_and_what_they_ask_for(rt: HostRuntime) {
-    for (words, want) in &ROWS {
-        assert_for(&rt, answer(rt.alloc(), *words) == Ok(*want), *words);
-    }
+    assert!(rt; answer(rt.alloc(), &["charm_run", "f"]) == Ok(plain()));
+    let most = Tolerance::new(1_000).expect(&rt, "no tolerance");
+    assert!(rt; answer(rt.alloc(), &EVERY_OPTION) == Ok(all_asked(most)));
 }
 
 // Arguments that ask for no run, and the status: those for help and for the version are no mistakes.

@@ -3,55 +3,55 @@
 use crate::fixtures::{Row, WORKED, WORKED_TEXT, assert_for, tells};
 use at_sync::Strategy;
 use workload::WorkError;
-use workload_run::Ended;
+use workload_run::RunEnd;
 
 static ROWS: [Row<'static>; 9] = [
-    (WORKED, Ended::Ran(None), 0, WORKED_TEXT),
+    (WORKED, RunEnd::Ran(None), 0, WORKED_TEXT),
     (
         b"pes 3\nrounds 1\npad 0\nchares 0\namounts\n",
-        Ended::Ran(None),
+        RunEnd::Ran(None),
         0,
         "sums\nposted 0 executed 0 held 0\n",
     ),
     (
         b"pes 256\nrounds 1\npad 0\nchares 3\namounts 4 5 6\n",
-        Ended::Ran(None),
+        RunEnd::Ran(None),
         0,
         "round 1 bottleneck 6 moved 0\nsums 6 4 5\nposted 3 executed 3 held 0\n",
     ),
     (
         b"pes 2\nrounds 2\npad 0\nchares 1\namounts 3\namounts 0\n",
-        Ended::Ran(None),
+        RunEnd::Ran(None),
         0,
         "round 1 bottleneck 3 moved 0\nround 2 bottleneck 0 moved 0\nsums 3\nposted 2 executed 2 held 0\n",
     ),
     (
         b"pes 2\nrounds 0\npad 1\nchares 2\n",
-        Ended::Ran(None),
+        RunEnd::Ran(None),
         0,
         "sums 0 0\nposted 0 executed 0 held 0\n",
     ),
     (
         b"",
-        Ended::Refused(WorkError::Form(1)),
+        RunEnd::Refused(WorkError::Form(1)),
         3,
         "workload: line 1\n",
     ),
     (
         b"pes 02\n",
-        Ended::Refused(WorkError::Form(1)),
+        RunEnd::Refused(WorkError::Form(1)),
         3,
         "workload: line 1\n",
     ),
     (
         b"pes 257\n",
-        Ended::Refused(WorkError::Limit(1)),
+        RunEnd::Refused(WorkError::Limit(1)),
         3,
         "workload: limit in line 1\n",
     ),
     (
         b"pes 2\nrounds 1001\n",
-        Ended::Refused(WorkError::Limit(2)),
+        RunEnd::Refused(WorkError::Limit(2)),
         3,
         "workload: limit in line 2\n",
     ),

@@ -15,8 +15,8 @@ use Rattle.workload_run.specs.Internal.{EndsRun}
 use Rattle.workload_run.specs.Lines.{fault_line, memory_line}
 use Rattle.workload_run.specs.Tallies.{tallies_of}
 use Rattle.workload_run.specs.Telling.{ReportsFault, WritesText}
-use Rattle.workload_run.specs.declared.ended.Ended.{Ended}
-use Rattle.workload_run.specs.declared.ended.Ended.TheVariants.{OutOfMemory}
+use Rattle.workload_run.specs.declared.ended.RunEnd.{RunEnd}
+use Rattle.workload_run.specs.declared.ended.RunEnd.TheVariants.{OutOfMemory}
 use Rattle.at_sync.specs.declared.strategy.Strategy.{Strategy}
 
 -- where the bytes of the reader are known, they are the text of the workload that was read
@@ -39,7 +39,7 @@ known_fault (Some xs) e other (inr (inr fault)) = inr fault
 
 module _ {A : Type 0} (fits : TallyView → Type 0) (strategy : Strategy) (bytes rest old new : Option (List ℕ)) where
   -- the line for refused memory was written, or a prefix of it
-  ends_memory : (outcome : Option (OutcomeView TallyView A)) (ended : Ended) → WritesText memory_line OutOfMemory old new ended
+  ends_memory : (outcome : Option (OutcomeView TallyView A)) (ended : RunEnd) → WritesText memory_line OutOfMemory old new ended
       → EndsDrive fits strategy bytes rest old new outcome ended
   ends_memory outcome ended (inl (is, gone)) = subst (λ e. EndsDrive fits strategy bytes rest old new outcome e) (sym is) gone
   ends_memory outcome ended (inr (is, part)) = subst (λ e. EndsDrive fits strategy bytes rest old new outcome e) (sym is) (memory_line, inr refl, part)
@@ -49,7 +49,7 @@ module _ {A : Type 0} (fits : TallyView → Type 0) (strategy : Strategy) (bytes
   run_of w o read left = record { workload = w; read = read; left = left; told = refl }
 
   -- a workload was read, and run
-  pub ends_ran : (w : WorkloadView) (outcome : Option (OutcomeView TallyView A)) (ended : Ended) → IfSome bytes (IsText w)
+  pub ends_ran : (w : WorkloadView) (outcome : Option (OutcomeView TallyView A)) (ended : RunEnd) → IfSome bytes (IsText w)
       → EndsRun fits strategy w old new outcome ended → EndsDrive fits strategy bytes rest old new outcome ended
   ends_ran w None ended read told = ends_memory None ended told
   ends_ran w (Some o) ended read (left, inr told) = ends_memory (Some o) ended told
@@ -59,14 +59,14 @@ module _ {A : Type 0} (fits : TallyView → Type 0) (strategy : Strategy) (bytes
       (outcome_text w.chares o, inl (run_of w o read left), part)
 
   -- and what its run left is that of the workload
-  pub of_workload : (w : WorkloadView) (outcome : Option (OutcomeView TallyView A)) (ended : Ended) → IfSome bytes (IsText w)
+  pub of_workload : (w : WorkloadView) (outcome : Option (OutcomeView TallyView A)) (ended : RunEnd) → IfSome bytes (IsText w)
       → EndsRun fits strategy w old new outcome ended → IsOfWorkload fits strategy bytes rest old new outcome
   of_workload w None ended read told = tt
   of_workload w (Some o) ended read told = (outcome_text w.chares o, run_of w o read told.0)
 
 module _ (A : Type 0) (fits : TallyView → Type 0) (strategy : Strategy) (bytes rest old new : Option (List ℕ)) where
   -- a workload was refused
-  pub ends_refused : (text : List ℕ) (fault : WorkError) (ended : Ended) → Consumes bytes rest text → IsReadError text fault → EndsAt rest fault
+  pub ends_refused : (text : List ℕ) (fault : WorkError) (ended : RunEnd) → Consumes bytes rest text → IsReadError text fault → EndsAt rest fault
       → IfSome bytes (λ xs. (failed fault ≡ failed Why.Read) ⊎ IsReadAnswer xs (failed fault)) → ReportsFault fault old new ended
       → EndsDrive {A = A} fits strategy bytes rest old new None ended
   ends_refused text fault ended consumed told at known (inr memory) = ends_memory {A = A} fits strategy bytes rest old new None ended memory

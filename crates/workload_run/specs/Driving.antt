@@ -14,8 +14,8 @@ use Rattle.workload.specs.declared.error.WorkError.{WorkError}
 use Rattle.workload.specs.declared.error.WorkError.TheVariants.{Read}
 use Rattle.workload_run.specs.Lines.{fault_line, memory_line}
 use Rattle.workload_run.specs.Tallies.{tallies_of}
-use Rattle.workload_run.specs.declared.ended.Ended.{Ended}
-use Rattle.workload_run.specs.declared.ended.Ended.TheVariants.{Ran, Refused, OutOfMemory, WriteFailed}
+use Rattle.workload_run.specs.declared.ended.RunEnd.{RunEnd}
+use Rattle.workload_run.specs.declared.ended.RunEnd.TheVariants.{Ran, Refused, OutOfMemory, WriteFailed}
 
 -- what a run left that opened with these tallies on this number of PEs, with rounds by this strategy: every clause of `run`
 -- holds of it
@@ -53,7 +53,7 @@ module _ {A : Type 0} (fits : TallyView → Type 0) (strategy : Strategy) (bytes
 
   -- What the writer holds after each end: the whole text, the line of the fault, that for refused memory, or a prefix of one
   -- of these. The reader had these bytes, and has the rest.
-  abbrev pub EndsDrive : Option (OutcomeView TallyView A) → Ended → Type 0
+  abbrev pub EndsDrive : Option (OutcomeView TallyView A) → RunEnd → Type 0
   EndsDrive outcome (Ran fault) = HasTold outcome fault
   EndsDrive outcome (Refused e) = (outcome ≡ None) × IsRefusal bytes rest e × Appends old new (fault_line e)
   EndsDrive outcome OutOfMemory = Appends old new memory_line
@@ -65,7 +65,7 @@ module _ {A : Type 0} (fits : TallyView → Type 0) (strategy : Strategy) (bytes
   IsOfWorkload outcome = IfSome outcome (λ o. (text : List ℕ) × IsRunOf fits strategy bytes o text)
 
 -- the line for a workload that could not be opened was written, or a prefix of it, or that for refused memory
-abbrev pub ReportsUnread : Option (List ℕ) → Option (List ℕ) → Ended → Type 0
+abbrev pub ReportsUnread : Option (List ℕ) → Option (List ℕ) → RunEnd → Type 0
 ReportsUnread old new (Ran fault) = ⊥
 ReportsUnread old new (Refused e) = (e ≡ Read) × Appends old new (fault_line Read)
 ReportsUnread old new OutOfMemory = Appends old new memory_line

@@ -9,11 +9,11 @@ use Rattle.workload_run.specs.Driving.{IsLeftBy}
 use Rattle.workload_run.specs.Lines.{memory_line}
 use Rattle.workload_run.specs.Tallies.{tallies_of}
 use Rattle.workload_run.specs.Telling.{TellsOutcome, WritesText}
-use Rattle.workload_run.specs.declared.ended.Ended.{Ended}
-use Rattle.workload_run.specs.declared.ended.Ended.TheVariants.{OutOfMemory}
+use Rattle.workload_run.specs.declared.ended.RunEnd.{RunEnd}
+use Rattle.workload_run.specs.declared.ended.RunEnd.TheVariants.{OutOfMemory}
 
 -- the result of a workload that was read
-abbrev pub EndsRun : {A : Type 0} → (TallyView → Type 0) → Strategy → WorkloadView → Option (List ℕ) → Option (List ℕ) → Option (OutcomeView TallyView A) → Ended → Type 0
+abbrev pub EndsRun : {A : Type 0} → (TallyView → Type 0) → Strategy → WorkloadView → Option (List ℕ) → Option (List ℕ) → Option (OutcomeView TallyView A) → RunEnd → Type 0
 EndsRun fits strategy w old new (Some o) ended =
     IsLeftBy fits (tallies_of w) w.pes strategy o × TellsOutcome (outcome_text w.chares o) old new o.fault ended
 EndsRun fits strategy w old new None ended = WritesText memory_line OutOfMemory old new ended

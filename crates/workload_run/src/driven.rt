@@ -2,7 +2,7 @@ ghost use Rattle.std.specs.Prelude.{◌≡◌, []};
 ghost use Rattle.std.specs.Option.{option_map_or};
 ghost use Rattle.workload_run.specs.Statuses.{status_of};
 
-use crate::ended::Ended;
+use crate::ended::RunEnd;
 use lb_refinement::Refined;
 use lb_snapshot::Snapshot;
 use rts_run::Outcome;
@@ -13,7 +13,7 @@ use tally::Tally;
 #[derive(Drop)]
 pub struct Driven<A: Allocator + Copy = Global> {
     /// How it ended.
-    pub ended: Ended,
+    pub ended: RunEnd,
     /// What the run left; `None` where the workload was refused, or where memory ran out before the run.
     pub outcome: Option<Outcome<Tally<A>, A>>,
 }

@@ -5,7 +5,7 @@ ghost use Rattle.workload_run.specs.Internal.{EndsRun};
 ghost use Rattle.workload_run.specs.Tallies.{tallies_of};
 
 use crate::driven::Driven;
-use crate::ended::Ended;
+use crate::ended::RunEnd;
 use crate::onlooker::Onlooker;
 use crate::tallies::tallies_of;
 use crate::telling::{report_fault, report_memory, tell_outcome};
@@ -134,7 +134,7 @@ fn drive_watched<
 }
 
 // The result of a workload that was not run.
-fn without_run<A: Allocator + Copy>(ended: Ended) -> Driven<A>
+fn without_run<A: Allocator + Copy>(ended: RunEnd) -> Driven<A>
     ensures ended { result.ended ≡ ended }
     ensures outcome { result.outcome ≡ None }
 {

@@ -6,7 +6,7 @@ use workload::WorkError;
 
 /// How the run of a workload ended.
 #[derive(Clone, Copy, Debug, PartialEq, Eq)]
-pub enum Ended {
+pub enum RunEnd {
     /// The whole text of what the run left was written. The run has this fault, if one ended it early.
     Ran(Option<Fault>),
     /// The line of this fault of the workload was written; it is never that memory was refused.
@@ -17,17 +17,17 @@ pub enum Ended {
     WriteFailed,
 }
 
-impl Ended {
+impl RunEnd {
     /// The status that a program exits with: 0 where the run ended well, 3 for a fault of the workload, 4 for a fault of
     /// the run, and 5 where memory or the output failed.
     pub fn status(self) -> u8
         ensures value { result ≡ status_of self }
     {
         match self {
-            Ended::Ran(None) => 0,
-            Ended::Refused(_) => 3,
-            Ended::Ran(Some(_)) => 4,
-            Ended::OutOfMemory | Ended::WriteFailed => 5,
+            RunEnd::Ran(None) => 0,
+            RunEnd::Refused(_) => 3,
+            RunEnd::Ran(Some(_)) => 4,
+            RunEnd::OutOfMemory | RunEnd::WriteFailed => 5,
         }
     }
 }

@@ -2,7 +2,7 @@
 //!
 //! - [`drive`]: from the bytes of a reader to the bytes of a writer; [`drive_file`]: the same from a file, observed by an
 //!   [`Onlooker`].
-//! - [`Driven`]: the result: how it [`Ended`], the status for that, and the rounds.
+//! - [`Driven`]: the result: how it [`RunEnd`], the status for that, and the rounds.
 //! - [`write_round`]: the dump of a round, in a [`DumpFormat`]; [`write_dumps`]: that of each round, to a file of its own of
 //!   some [`DumpFiles`]; [`write_asked`]: the same where it is asked for, with the status of the whole; [`write_dump_of`] and
 //!   [`finish_dumped`]: the same for dumps that are written as the rounds are decided.
@@ -13,7 +13,7 @@
 //!
 //! ```
 //! use rts_run::Strategy;
-//! use workload_run::{Ended, drive};
+//! use workload_run::{RunEnd, drive};
 //!
 //! // One tally on one PE, which sends itself a 7.
 //! let mut workload = b"pes 1\nrounds 1\npad 0\nchares 1\namounts 7\n".as_slice();
@@ -26,7 +26,7 @@
 //!     1_000_000_000,
 //!     Strategy::Least,
 //! );
-//! assert!(rt; driven.ended == Ended::Ran(None));
+//! assert!(rt; driven.ended == RunEnd::Ran(None));
 //! let expected = b"round 1 bottleneck 7 moved 0\nsums 7\nposted 1 executed 1 held 0\n";
 //! assert!(rt; text.as_slice() == expected.as_slice());
 //! ```
@@ -48,7 +48,7 @@ pub use beside::{Beside, BesideText, Lost, report_lost, status_beside, write_bes
 pub use driven::Driven;
 pub use driving::{drive, drive_file};
 pub use dumps::{DumpFiles, NotWritten, write_dump_of, write_dumps};
-pub use ended::Ended;
+pub use ended::RunEnd;
 pub use finishing::{finish_dumped, write_asked};
 pub use onlooker::Onlooker;
 pub use round_dump::{DumpFormat, write_round};

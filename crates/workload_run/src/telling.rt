@@ -5,9 +5,9 @@ ghost use Rattle.run_text.specs.Sums.{AreTallies};
 ghost use Rattle.run_text.specs.Text.{outcome_text};
 ghost use Rattle.workload_run.specs.Lines.{memory_line};
 ghost use Rattle.workload_run.specs.Telling.{ReportsFault, TellsOutcome, WritesText};
-ghost use Rattle.workload_run.specs.declared.ended.Ended.TheVariants.{OutOfMemory};
+ghost use Rattle.workload_run.specs.declared.ended.RunEnd.TheVariants.{OutOfMemory};
 
-use crate::ended::Ended;
+use crate::ended::RunEnd;
 use crate::line::{NO_MEMORY, fault_line};
 use rts_run::Outcome;
 use run_text::outcome_text;
@@ -24,18 +24,18 @@ pub fn tell_outcome<W: Write, A: Allocator + Copy>(
     chares: usize,
     outcome: &Outcome<Tally<A>, A>,
     writer: &mut W,
-) -> Ended
+) -> RunEnd
     requires tallies { AreTallies chares outcome.now }
     ensures told { TellsOutcome (outcome_text chares outcome.now) (W.contents writer.old) (W.contents writer.new) outcome.now.fault result }
 {
     let Ok(text) = outcome_text(alloc, chares, outcome) else {
         return report_memory(writer);
     };
-    report_text(writer, text.as_bytes(), Ended::Ran(outcome.fault()))
+    report_text(writer, text.as_bytes(), RunEnd::Ran(outcome.fault()))
 }
 
 /// Writes the line of a fault of a workload, or the one for refused memory, and returns the end for that.
-pub fn report_fault<A: Allocator, W: Write>(alloc: A, writer: &mut W, fault: WorkError) -> Ended
+pub fn report_fault<A: Allocator, W: Write>(alloc: A, writer: &mut W, fault: WorkError) -> RunEnd
     ensures reported { ReportsFault fault (W.contents writer.old) (W.contents writer.new) result }
 {
     if fault == WorkError::OutOfMemory {
@@ -44,23 +44,23 @@ pub fn report_fault<A: Allocator, W: Write>(alloc: A, writer: &mut W, fault: Wor
     let Ok(line) = fault_line(alloc, fault) else {
         return report_memory(writer);
     };
-    report_text(writer, line.as_bytes(), Ended::Refused(fault))
+    report_text(writer, line.as_bytes(), RunEnd::Refused(fault))
 }
 
 /// Writes the line for refused memory, and returns the end for that.
-pub fn report_memory<W: Write>(writer: &mut W) -> Ended
+pub fn report_memory<W: Write>(writer: &mut W) -> RunEnd
     ensures written { WritesText memory_line OutOfMemory (W.contents writer.old) (W.contents writer.new) result }
 {
-    report_text(writer, NO_MEMORY.as_bytes(), Ended::OutOfMemory)
+    report_text(writer, NO_MEMORY.as_bytes(), RunEnd::OutOfMemory)
 }
 
 /// Writes a text, and returns `ended`, or that the writer failed.
-pub fn report_text<W: Write>(writer: &mut W, text: &[u8], ended: Ended) -> Ended
+pub fn report_text<W: Write>(writer: &mut W, text: &[u8], ended: RunEnd) -> RunEnd
     ensures written { WritesText text.now ended (W.contents writer.old) (W.contents writer.new) result }
 {
     if write_out(writer, text) {
         ended
     } else {
-        Ended::WriteFailed
+        RunEnd::WriteFailed
     }
 }

@@ -10,16 +10,16 @@ use std::alloc::Global;
 use std::process::Abort;
 use tests_fixtures::{Outcome, Refusing, Source, each_refusal};
 use workload::Workload;
-use workload_run::Ended;
+use workload_run::RunEnd;
 
 // No run here makes this many requests.
 const MOST_TURNS: u64 = 5_000;
 
 // The outcome of runs that ended so, and whether what was written of them is right where none was refused.
-fn outcome_of(ended: Ended, is_right: bool) -> Outcome {
+fn outcome_of(ended: RunEnd, is_right: bool) -> Outcome {
     match ended {
-        Ended::Ran(None) if is_right => Outcome::Right,
-        Ended::OutOfMemory | Ended::Ran(Some(Fault::OutOfMemory)) => Outcome::Refused,
+        RunEnd::Ran(None) if is_right => Outcome::Right,
+        RunEnd::OutOfMemory | RunEnd::Ran(Some(Fault::OutOfMemory)) => Outcome::Refused,
         _ => Outcome::Wrong,
     }
 }

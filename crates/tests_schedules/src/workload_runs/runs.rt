@@ -9,12 +9,12 @@ use schedule_run::{drive_events, drive_seed, follow, search};
 use std::io::ErrorKind;
 use std::process::Abort;
 use tests_fixtures::Sink;
-use workload_run::Ended;
+use workload_run::RunEnd;
 
 // Whether a run by this seed has the text of the run over threads.
 fn tells(rt: &(impl Abort + AllocGlobal), seed: u64) -> bool {
     let (driven, text) = driven(rt, seed);
-    let done = driven.ended == Ended::Ran(None) && driven.status() == 0;
+    let done = driven.ended == RunEnd::Ran(None) && driven.status() == 0;
     let rounds = driven.into_driven().rounds().len() == 2;
     done && rounds && text.as_slice() == WORKED_TEXT.as_bytes()
 }
@@ -68,7 +68,7 @@ fn is_cut(rt: &(impl Abort + AllocGlobal), at: usize) -> bool {
     let workload = worked(rt, rt.alloc());
     let mut writer = Sink::new(rt, 7, at, Some(ErrorKind::Interrupted));
     let driven = drive_seed(rt.alloc(), &workload, Strategy::Least, 1, &mut writer);
-    let right = driven.ended == Ended::WriteFailed && driven.explored.is_some();
+    let right = driven.ended == RunEnd::WriteFailed && driven.explored.is_some();
     drop(driven);
     let prefix = WORKED_TEXT.as_bytes().starts_with(&writer.taken);
     right && prefix && writer.taken.len() == at.saturating_mul(7)

@@ -8,7 +8,7 @@ use pe_worker::Fault;
 use schedule_run::{drive_seeds, tell_seeds};
 use schedules::Schedule;
 use tests_fixtures::Sink;
-use workload_run::Ended;
+use workload_run::RunEnd;
 
 // A seed that is 39 in its lower 32 bits, and the events that a separate program draws by it in the worked workload,
 // benches/schedules/slow_schedule.py.
@@ -36,7 +36,7 @@ fn no_seed_of_the_worked_workload_ends_in_a_fault(rt: HostRuntime) {
     let workload = worked(&rt, rt.alloc());
     let mut text = Vec::new(rt.alloc());
     let ended = drive_seeds(rt.alloc(), &workload, Strategy::Least, 50, &mut text);
-    assert_for(&rt, ended == Ended::Ran(None), 50);
+    assert_for(&rt, ended == RunEnd::Ran(None), 50);
     assert_for(&rt, text.as_slice() == b"seeds 50 faults 0\n".as_slice(), 0);
 }
 
@@ -45,7 +45,7 @@ fn a_writer_that_fails(rt: HostRuntime) {
     let workload = worked(&rt, rt.alloc());
     let mut writer = Sink::new(&rt, 7, 1, None);
     let ended = drive_seeds(rt.alloc(), &workload, Strategy::Least, 2, &mut writer);
-    assert_for(&rt, ended == Ended::WriteFailed, 2);
+    assert_for(&rt, ended == RunEnd::WriteFailed, 2);
     assert_for(&rt, writer.taken.as_slice() == b"seeds 2".as_slice(), 7);
 }
 
@@ -61,6 +61,6 @@ const DESKS: &str = "seed 1 fault stranger held 2\nseed 2 fault stranger held 2\
 fn some_seeds_end_in_a_fault_and_others_do_not(rt: HostRuntime) {
     let mut text = Vec::new(rt.alloc());
     let ended = tell_seeds(rt.alloc(), &Schedule::usual(2), &Desks, 20, &mut text);
-    assert_for(&rt, ended == Ended::Ran(Some(Fault::Stranger)), 0);
+    assert_for(&rt, ended == RunEnd::Ran(Some(Fault::Stranger)), 0);
     assert_for(&rt, text.as_slice() == DESKS.as_bytes(), 20);
 }

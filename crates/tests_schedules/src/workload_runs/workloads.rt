@@ -6,7 +6,7 @@ use schedule_run::read_workload;
 use std::io::ErrorKind;
 use tests_fixtures::Source;
 use workload::WorkError;
-use workload_run::Ended;
+use workload_run::RunEnd;
 
 #[test]
 fn a_file_is_read(rt: HostRuntime) {
@@ -24,7 +24,7 @@ fn a_reader_that_fails(rt: HostRuntime) {
     let source = Source::new(WORKED, 9, Some((2, ErrorKind::Other)));
     let (workload, reason) = read_workload(rt.alloc(), Ok(source), &mut text);
     let ended = workload.err();
-    assert_for(&rt, ended == Some(Ended::Refused(WorkError::Read)), 0);
+    assert_for(&rt, ended == Some(RunEnd::Refused(WorkError::Read)), 0);
     assert_for(
         &rt,
         text.as_slice() == b"workload: read failed\n".as_slice(),

@@ -1,7 +1,7 @@
 use Rattle.std.proofs.Common.{subst}
 use Rattle.std.specs.Io.KnownBytes.{Appends}
 use Rattle.streams.specs.Writing.{WritesPrefix}
-use Rattle.lb_replay.specs.declared.ended.Ended.TheVariants.{Printed, WriteFailed}
+use Rattle.lb_replay.specs.declared.ended.SimEnd.TheVariants.{Printed, WriteFailed}
 use Rattle.lb_replay.proofs.Endings.{ends_check}
 use Rattle.lb_replay.proofs.OneEnds.{exact, one_end}
 use Rattle.lb_replay.proofs.verifying.verify.Goals as goal

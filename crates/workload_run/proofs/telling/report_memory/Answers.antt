@@ -1,6 +1,6 @@
 use Rattle.std.proofs.Common.{subst}
 use Rattle.workload_run.specs.Telling.{WritesText}
-use Rattle.workload_run.specs.declared.ended.Ended.TheVariants.{OutOfMemory}
+use Rattle.workload_run.specs.declared.ended.RunEnd.TheVariants.{OutOfMemory}
 use Rattle.workload_run.proofs.telling.report_memory.Goals as goal
 
 pub returns : goal.returns
