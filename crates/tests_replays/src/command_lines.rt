@@ -30,10 +30,10 @@ fn is_row(asked: &SimOptions<'_>, row: &Asking) -> bool {
 
 // Whether the arguments of a row ask for it.
 fn is_asked(alloc: Global, row: &Asking) -> bool {
-    match asked(alloc, row.0) {
-        Ok(asked) => is_row(&asked, row),
-        Err(_) => false,
-    }
+    let Ok(asked) = asked(alloc, row.0) else {
+        return false;
+    };
+    is_row(&asked, row)
 }
 
 const PLAIN: (bool, bool, bool) = (false, false, false);

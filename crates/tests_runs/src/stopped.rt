@@ -62,7 +62,7 @@ fn started_on<A: Allocator + Copy>(end: &PeEnd<Errand, A>) -> usize {
 }
 
 // Elements, each of which sends the first one two letters as it starts, and that wait for more.
-fn that_wait(rt: &(impl Abort + AllocGlobal), elements: usize) -> Vec<Errand> {
+pub(crate) fn that_wait(rt: &(impl Abort + AllocGlobal), elements: usize) -> Vec<Errand> {
     let mut errands = Vec::new(rt.alloc());
     for _ in 0..elements {
         let waits = Errand {
