@@ -2,12 +2,16 @@
 //!
 //! - [`carry_on`]: the elements where they are, the letters where they were held, the rounds counted on. The outcome is that of both runs
 //!   together.
+//! - [`run_in_parts`]: a run that pauses after each round, so that what was decided can be kept; [`Pauses`]: what is done then.
 //!
 //! docs/RUNS.md tells how PEs open again.
 #![tactic(auto)]
 
 mod carrying;
 mod opening;
+mod parts;
+mod pausing;
 mod reopening;
 
 pub use carrying::carry_on;
+pub use parts::{Pauses, run_in_parts};

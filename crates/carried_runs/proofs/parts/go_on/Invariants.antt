@@ -1,0 +1,7 @@
+use Rattle.rts_run.specs.Outcomes.{IsOutcome}
+use Rattle.carried_runs.proofs.parts.go_on.Given as goal
+
+-- what was left so far is an outcome of the run from its beginning
+abbrev pub invariant-loop : goal.invariant-loop
+invariant-loop g l =
+    IsOutcome g.C.Chare.step g.C.Pup.fits g.C.Pup.pack g.C.Chare.refuses l.opening.value.items l.config.pes l.config.strategy l.outcome

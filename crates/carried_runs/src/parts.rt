@@ -1,0 +1,90 @@
+//! Runs that pause after each round.
+
+ghost use Rattle.std.specs.Prelude.{IfOk, MatchResult, length};
+ghost use Rattle.rts_run.specs.Configs.{MayBegin, RefusesRun};
+ghost use Rattle.rts_run.specs.Outcomes.{IsOutcome};
+
+use crate::carrying::carry_on;
+use crate::pausing::Pausing;
+use chare_index::{Gate, Limits};
+use chares::Chare;
+use pe_worker::{Fault, Watch};
+use rts_run::{Config, Outcome, RunError, run_watched};
+use std::alloc::Allocator;
+use std::snapshot::Snapshot;
+use std::sync::Wait;
+use std::thread::Threads;
+
+/// What is done where a run pauses.
+pub trait Pauses<C: Chare<A>, A: Allocator> {
+    /// The run has paused after one or more rounds were decided, and goes on after this call. It is called on the thread that began the
+    /// run, while no worker runs.
+    fn paused(&mut self, outcome: &Outcome<C, A>);
+}
+
+/// Runs chares as [`run_watched`] does, and pauses after each round: the workers end, as where a watch asks the run to stop, `pauses` is
+/// told, and the run is carried on. A round that is decided while the workers end shares the pause of the one before it. The outcome is
+/// that of all parts together, and a run that its watch stops ends as it would without pauses.
+///
+/// # Errors
+///
+/// Those of [`run_watched`], and of [`carry_on`] after each pause.
+pub fn run_in_parts<
+    C: Chare<A> + Send,
+    G: Gate + Sync,
+    V: Watch + Sync,
+    P: Pauses<C, A>,
+    R: Threads + Wait + Sync,
+    A: Allocator + Copy + Send + Sync,
+>(
+    rt: &R,
+    alloc: A,
+    config: &Config,
+    gate: &G,
+    watch: &V,
+    pauses: &mut P,
+    chares: Vec<C, A>,
+) -> Result<Outcome<C, A>, RunError>
+    ensures answer { MatchResult result (λ _. MayBegin config.now (length chares.items)) (RefusesRun config.now (length chares.items)) }
+    ensures outcome { IfOk result (IsOutcome C.step C.fits C.pack C.refuses chares.items config.now.pes config.now.strategy) }
+{
+    let opening = Snapshot::of(&chares);
+    let pausing = Pausing::beside(watch);
+    let outcome = run_watched(rt, alloc, config, gate, &pausing, chares)?;
+    go_on(rt, alloc, config, gate, &pausing, pauses, &opening, outcome)
+}
+
+// Carries a run on after each pause, to its end.
+fn go_on<
+    C: Chare<A> + Send,
+    G: Gate + Sync,
+    V: Watch + Sync,
+    P: Pauses<C, A>,
+    R: Threads + Wait + Sync,
+    A: Allocator + Copy + Send + Sync,
+>(
+    rt: &R,
+    alloc: A,
+    config: &Config,
+    gate: &G,
+    pausing: &Pausing<'_, V>,
+    pauses: &mut P,
+    opening: &Snapshot<Vec<C, A>>,
+    outcome: Outcome<C, A>,
+) -> Result<Outcome<C, A>, RunError>
+    requires may_begin { MayBegin config.now (length opening.now.value.items) }
+    requires earlier { IsOutcome C.step C.fits C.pack C.refuses opening.now.value.items config.now.pes config.now.strategy outcome }
+    ensures answer { MatchResult result (λ _. MayBegin config.now (length opening.now.value.items))
+        (RefusesRun config.now (length opening.now.value.items)) }
+    ensures outcome { IfOk result (IsOutcome C.step C.fits C.pack C.refuses opening.now.value.items config.now.pes config.now.strategy) }
+{
+    let mut outcome = outcome;
+    for _ in 0..Limits::ROUND {
+        if outcome.fault() != Some(Fault::Stopped) || !pausing.withdraw() {
+            break;
+        }
+        pauses.paused(&outcome);
+        outcome = carry_on(rt, alloc, config, gate, pausing, opening, outcome)?;
+    }
+    Ok(outcome)
+}
