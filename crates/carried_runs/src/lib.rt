@@ -14,4 +14,4 @@ mod pausing;
 mod reopening;
 
 pub use carrying::carry_on;
-pub use parts::{Pauses, run_in_parts};
+pub use parts::{NoPauses, Pauses, run_in_parts};

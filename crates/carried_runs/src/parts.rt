@@ -17,12 +17,29 @@ use std::thread::Threads;
 
 /// What is done where a run pauses.
 pub trait Pauses<C: Chare<A>, A: Allocator> {
+    /// Whether the run is to pause at all. It is asked once, before the run.
+    fn are_wanted(&self) -> bool {
+        true
+    }
+
     /// The run has paused after one or more rounds were decided, and goes on after this call. It is called on the thread that began the
     /// run, while no worker runs.
     fn paused(&mut self, outcome: &Outcome<C, A>);
 }
 
-/// Runs chares as [`run_watched`] does, and pauses after each round: the workers end, as where a watch asks the run to stop, `pauses` is
+/// A run without pauses.
+#[derive(Clone, Copy, Debug, Drop)]
+pub struct NoPauses;
+
+impl<C: Chare<A>, A: Allocator> Pauses<C, A> for NoPauses {
+    fn are_wanted(&self) -> bool {
+        false
+    }
+
+    fn paused(&mut self, _outcome: &Outcome<C, A>) {}
+}
+
+/// Runs chares as [`run_watched`] does, and pauses after each round, where pauses are wanted: the workers end, as where a watch asks the run to stop, `pauses` is
 /// told, and the run is carried on. A round that is decided while the workers end shares the pause of the one before it. The outcome is
 /// that of all parts together, and a run that its watch stops ends as it would without pauses.
 ///
@@ -48,6 +65,9 @@ pub fn run_in_parts<
     ensures answer { MatchResult result (λ _. MayBegin config.now (length chares.items)) (RefusesRun config.now (length chares.items)) }
     ensures outcome { IfOk result (IsOutcome C.step C.fits C.pack C.refuses chares.items config.now.pes config.now.strategy) }
 {
+    if !pauses.are_wanted() {
+        return run_watched(rt, alloc, config, gate, watch, chares);
+    }
     let opening = Snapshot::of(&chares);
     let pausing = Pausing::beside(watch);
     let outcome = run_watched(rt, alloc, config, gate, &pausing, chares)?;

@@ -10,10 +10,11 @@ use crate::onlooker::Onlooker;
 use crate::tallies::tallies_of;
 use crate::telling::{report_fault, report_memory, tell_outcome};
 use at_sync::Strategy;
+use carried_runs::{NoPauses, Pauses, run_in_parts};
 use chare_index::{Limits, NoGate};
 use pe_worker::NoWatch;
 use pup_pack::Pup;
-use rts_run::{BodyLimit, Config, History, Outcome, run_watched};
+use rts_run::{BodyLimit, Config, History, Outcome};
 use std::alloc::{AllocError, Allocator};
 use std::io::{self, Read, Write};
 use std::sync::Wait;
@@ -51,18 +52,28 @@ pub fn drive<T: Threads + Wait + Sync, R: Read, W: Write, A: Allocator + Copy + 
 {
     let history = History::Kept;
     drive_watched(
-        rt, alloc, reader, writer, turns, strategy, history, &NoWatch,
+        rt,
+        alloc,
+        reader,
+        writer,
+        turns,
+        strategy,
+        history,
+        &NoWatch,
+        &mut NoPauses,
     )
 }
 
 /// Runs the workload in a file as [`drive`] does, observed by an [`Onlooker`], and returns also the system's reason where a
 /// read failed. A file that could not be opened is reported as a workload that was not read. Elements keep or drop what they have
-/// handled, as `history` says; the text is the same.
+/// handled, as `history` says; the text is the same. Where pauses are wanted the run pauses after each round, as by
+/// [`run_in_parts`], which changes nothing of the text either.
 pub fn drive_file<
     T: Threads + Wait + Sync,
     R: Read + Drop,
     W: Write,
     V: Onlooker + Sync,
+    P: Pauses<Tally<A>, A>,
     A: Allocator + Copy + Send + Sync,
 >(
     rt: &T,
@@ -73,6 +84,7 @@ pub fn drive_file<
     strategy: Strategy,
     history: History,
     watch: &V,
+    pauses: &mut P,
 ) -> (Driven<A>, Option<io::Error>)
     requires some_turn { 1 ≤ turns }
     requires few_turns { turns ≤ Limits.IDLE_TURNS }
@@ -89,7 +101,7 @@ pub fn drive_file<
         Ok(reader) => {
             let mut noted = Noted::new(reader);
             let driven = drive_watched(
-                rt, alloc, &mut noted, writer, turns, strategy, history, watch,
+                rt, alloc, &mut noted, writer, turns, strategy, history, watch, pauses,
             );
             (driven, noted.failure())
         }
@@ -106,6 +118,7 @@ fn drive_watched<
     R: Read,
     W: Write,
     V: Onlooker + Sync,
+    P: Pauses<Tally<A>, A>,
     A: Allocator + Copy + Send + Sync,
 >(
     rt: &T,
@@ -116,6 +129,7 @@ fn drive_watched<
     strategy: Strategy,
     history: History,
     watch: &V,
+    pauses: &mut P,
 ) -> Driven<A>
     requires some_turn { 1 ≤ turns }
     requires few_turns { turns ≤ Limits.IDLE_TURNS }
@@ -127,7 +141,9 @@ fn drive_watched<
     match Workload::read_from(alloc, reader) {
         Ok(workload) => {
             watch.expects(workload.rounds);
-            run_workload(rt, alloc, workload, writer, turns, strategy, history, watch)
+            run_workload(
+                rt, alloc, workload, writer, turns, strategy, history, watch, pauses,
+            )
         }
         Err(fault) => without_run(report_fault(alloc, writer, fault)),
     }
@@ -149,6 +165,7 @@ fn run_workload<
     T: Threads + Wait + Sync,
     W: Write,
     V: Onlooker + Sync,
+    P: Pauses<Tally<A>, A>,
     A: Allocator + Copy + Send + Sync,
 >(
     rt: &T,
@@ -159,6 +176,7 @@ fn run_workload<
     strategy: Strategy,
     history: History,
     watch: &V,
+    pauses: &mut P,
 ) -> Driven<A>
     requires some_turn { 1 ≤ turns }
     requires few_turns { turns ≤ Limits.IDLE_TURNS }
@@ -166,7 +184,7 @@ fn run_workload<
     ensures ran { EndsRun ⟦<Tally<A> as Pup<A>>⟧.fits strategy workload (W.contents writer.old) (W.contents writer.new) result.outcome result.ended }
 {
     let chares = workload.chares as usize;
-    match outcome_of(rt, alloc, workload, turns, strategy, history, watch) {
+    match outcome_of(rt, alloc, workload, turns, strategy, history, watch, pauses) {
         Ok(outcome) => {
             let ended = tell_outcome(alloc, chares, &outcome, writer);
             Driven {
@@ -179,7 +197,12 @@ fn run_workload<
 }
 
 // What the run of a workload left. The only error is that memory was refused.
-fn outcome_of<T: Threads + Wait + Sync, V: Onlooker + Sync, A: Allocator + Copy + Send + Sync>(
+fn outcome_of<
+    T: Threads + Wait + Sync,
+    V: Onlooker + Sync,
+    P: Pauses<Tally<A>, A>,
+    A: Allocator + Copy + Send + Sync,
+>(
     rt: &T,
     alloc: A,
     workload: Workload<A>,
@@ -187,6 +210,7 @@ fn outcome_of<T: Threads + Wait + Sync, V: Onlooker + Sync, A: Allocator + Copy 
     strategy: Strategy,
     history: History,
     watch: &V,
+    pauses: &mut P,
 ) -> Result<Outcome<Tally<A>, A>, AllocError>
     requires some_turn { 1 ≤ turns }
     requires few_turns { turns ≤ Limits.IDLE_TURNS }
@@ -204,7 +228,7 @@ fn outcome_of<T: Threads + Wait + Sync, V: Onlooker + Sync, A: Allocator + Copy 
     };
     let chares = tallies_of(alloc, &workload)?;
     drop(workload);
-    match run_watched(rt, alloc, &config, &NoGate, watch, chares) {
+    match run_in_parts(rt, alloc, &config, &NoGate, watch, pauses, chares) {
         Ok(outcome) => Ok(outcome),
         Err(_) => Err(AllocError),
     }

@@ -63,33 +63,6 @@ pub fn write_dumps<F: DumpFiles, A: Allocator + Copy, B: Allocator + Copy>(
     Ok(())
 }
 
-/// Writes the dump of one round to its file, as [`write_dumps`] does that of each round.
-///
-/// # Errors
-///
-/// Why it was not written, or its file was not flushed. A prefix of it may have been written.
-pub fn write_dump_of<F: DumpFiles, A: Allocator, B: Allocator + Copy>(
-    alloc: A,
-    snapshot: &Snapshot<B>,
-    decision: &Refined<B>,
-    format: DumpFormat,
-    prefix: &str,
-    files: &mut F,
-) -> Result<(), NotWritten>
-    ensures asked { AsksOnce prefix.now snapshot.now.step (F.names files.old) (F.names files.new) result }
-    ensures round { IfErr result (λ dump. dump.round ≡ snapshot.now.step) }
-    ensures fault { IfErr result (λ dump. MayFail dump.fault format snapshot.now) }
-{
-    match write_file(alloc, snapshot, decision, format, prefix, files) {
-        Ok(()) => Ok(()),
-        Err((fault, reason)) => Err(NotWritten {
-            round: snapshot.step(),
-            fault,
-            reason,
-        }),
-    }
-}
-
 // Makes the file of a round, and writes its dump there. An error is what was wrong, with the system's reason.
 fn write_file<F: DumpFiles, A: Allocator, B: Allocator + Copy>(
     alloc: A,

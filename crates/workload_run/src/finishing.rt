@@ -16,8 +16,8 @@ const NO_DUMP: &str = "dump: write failed\n";
 /// The status where a dump was not written.
 const NO_OUTPUT: u8 = 5;
 
-/// The status that a program exits with whose dumps were written as the rounds were decided, by
-/// [`write_dump_of`](crate::write_dump_of): that of the run, or 5 where one was not written. In that case the writer gets the line
+/// The status that a program exits with whose dumps were written as the rounds were decided, as by
+/// [`EarlyDumps`](crate::EarlyDumps): that of the run, or 5 where one was not written. In that case the writer gets the line
 /// `dump: write failed`, or a prefix of it where it fails.
 pub fn finish_dumped<W: Write, B: Allocator + Copy>(
     driven: &Driven<B>,

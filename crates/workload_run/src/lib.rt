@@ -4,8 +4,8 @@
 //!   [`Onlooker`].
 //! - [`Driven`]: the result: how it [`RunEnd`], the status for that, and the rounds.
 //! - [`write_round`]: the dump of a round, in a [`DumpFormat`]; [`write_dumps`]: that of each round, to a file of its own of
-//!   some [`DumpFiles`]; [`write_asked`]: the same where it is asked for, with the status of the whole; [`write_dump_of`] and
-//!   [`finish_dumped`]: the same for dumps that are written as the rounds are decided.
+//!   some [`DumpFiles`]; [`write_asked`]: the same where it is asked for, with the status of the whole; [`EarlyDumps`] and
+//!   [`finish_dumped`]: the same for dumps that are written as the run pauses after each round, by [`write_later`].
 //! - [`write_beside`]: a list of events or a trace, where it is asked for and there was a run; [`report_lost`], [`status_beside`]: the
 //!   line and the status where it was not written.
 //! - [`tallies_of`]: the tallies of a workload; [`tell_outcome`], [`report_fault`], [`report_memory`], [`report_text`]: what is
@@ -36,6 +36,7 @@ mod beside;
 mod driven;
 mod driving;
 mod dumps;
+mod early_dumps;
 mod ended;
 mod finishing;
 mod line;
@@ -47,7 +48,8 @@ mod telling;
 pub use beside::{Beside, BesideText, Lost, report_lost, status_beside, write_beside};
 pub use driven::Driven;
 pub use driving::{drive, drive_file};
-pub use dumps::{DumpFiles, NotWritten, write_dump_of, write_dumps};
+pub use dumps::{DumpFiles, NotWritten, write_dumps};
+pub use early_dumps::{EarlyDumps, write_later};
 pub use ended::RunEnd;
 pub use finishing::{finish_dumped, write_asked};
 pub use onlooker::Onlooker;
