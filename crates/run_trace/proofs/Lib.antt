@@ -1,4 +1,5 @@
 pub mod Adding
 pub mod Depths
+pub mod Kept
 pub mod Stepping
 pub mod Sums

@@ -50,15 +50,6 @@ fn numbers_got(outcome: &Outcome<Writer>, element: u32) -> Option<(u64, u64, u64
     Some((giver.first.number, giver.second.number, giver.third.number))
 }
 
-// Whether each element has got these numbers.
-fn have_got(outcome: &Outcome<Writer>, elements: u32, want: (u64, u64, u64)) -> bool {
-    let mut same = true;
-    for element in 0..elements {
-        same &= numbers_got(outcome, element) == Some(want);
-    }
-    same
-}
-
 // How many elements there are, the numbers of their digits modulo 2^64, and how many letters are posted: one that tells each, and for each
 // number one from each but element 0, and one to each.
 static SIZES: [(u32, (u64, u64, u64), u64); 6] = [
@@ -87,8 +78,11 @@ fn written<R: Threads + Wait + Sync + Abort + AllocGlobal>(
     want: (u64, u64, u64),
 ) -> (Option<Fault>, u64, bool) {
     let outcome = run_on(rt, 3, writers(rt, elements, told(3)));
-    let posted = outcome.account().posted;
-    let found = (outcome.fault(), posted, have_got(&outcome, elements, want));
+    let mut same = true;
+    for element in 0..elements {
+        same &= numbers_got(&outcome, element) == Some(want);
+    }
+    let found = (outcome.fault(), outcome.account().posted, same);
     drop(outcome);
     found
 }
@@ -118,8 +112,11 @@ fn were_placed(rounds: &[(Snapshot, Refined)]) -> bool {
 // How a run on three PEs ended whose elements rest at AtSync after each number, and whether they moved and got the numbers.
 fn rested<R: Threads + Wait + Sync + Abort + AllocGlobal>(rt: &R) -> (Option<Fault>, bool, bool) {
     let outcome = run_on(rt, 3, writers(rt, 9, RESTING));
-    let moved = were_placed(outcome.rounds());
-    let found = (outcome.fault(), moved, have_got(&outcome, 9, NINE));
+    let mut same = true;
+    for element in 0..9 {
+        same &= numbers_got(&outcome, element) == Some(NINE);
+    }
+    let found = (outcome.fault(), were_placed(outcome.rounds()), same);
     drop(outcome);
     found
 }
@@ -146,12 +143,11 @@ fn departures(explored: &Explored<Writer>) -> u64 {
 // How a run by this seed ended whose elements move at any time, how often they did, and whether they got the numbers.
 fn moved(rt: &(impl Abort + AllocGlobal), seed: u64) -> (Option<Fault>, u64, bool) {
     let explored = run_by(rt, seed, writers(rt, 9, MOVING));
-    let departed = departures(&explored);
-    let found = (
-        explored.fault(),
-        departed,
-        have_got(explored.outcome(), 9, NINE),
-    );
+    let mut same = true;
+    for element in 0..9 {
+        same &= numbers_got(explored.outcome(), element) == Some(NINE);
+    }
+    let found = (explored.fault(), departures(&explored), same);
     drop(explored);
     found
 }

@@ -55,24 +55,19 @@ fn bits_got(outcome: &Outcome<Adder>, element: u32) -> Option<(u64, u64, u64)> {
     ))
 }
 
-// Whether each element has got the sums.
-fn have_sums(outcome: &Outcome<Adder>) -> bool {
-    let mut same = true;
-    for element in 0..9 {
-        same &= bits_got(outcome, element) == Some(SUMS);
-    }
-    same
-}
-
 // How a run over threads ended, and whether each element got the sums.
 fn summed_on<R: Threads + Wait + Sync + Abort + AllocGlobal>(
     rt: &R,
     pes: u32,
 ) -> (Option<Fault>, bool) {
     let outcome = run_on(rt, pes, adders(rt, told(3)));
-    let found = (outcome.fault(), have_sums(&outcome));
+    let mut same = true;
+    for element in 0..9 {
+        same &= bits_got(&outcome, element) == Some(SUMS);
+    }
+    let fault = outcome.fault();
     drop(outcome);
-    found
+    (fault, same)
 }
 
 #[test]
@@ -86,9 +81,13 @@ fn the_same_bits_on_any_number_of_pes(rt: HostRuntime) {
 // How a run by this seed ended, and whether each element got the sums.
 fn summed_by(rt: &(impl Abort + AllocGlobal), way: Way, seed: u64) -> (Option<Fault>, bool) {
     let explored = run_by(rt, seed, adders(rt, way));
-    let found = (explored.fault(), have_sums(explored.outcome()));
+    let mut same = true;
+    for element in 0..9 {
+        same &= bits_got(explored.outcome(), element) == Some(SUMS);
+    }
+    let fault = explored.fault();
     drop(explored);
-    found
+    (fault, same)
 }
 
 #[test]

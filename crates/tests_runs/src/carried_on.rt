@@ -10,7 +10,7 @@ use chare_index::NoGate;
 use chares::Chare;
 use pe_worker::{Fault, NoWatch};
 use rts_run::{Config, History, Outcome, RunError, run_watched};
-use std::alloc::Global;
+use std::alloc::{Allocator, Global};
 use std::process::Abort;
 use std::snapshot::Snapshot;
 use std::sync::Wait;
@@ -113,28 +113,23 @@ fn letters_that_are_handed_on_in_parts(rt: HostRuntime) {
     }
 }
 
-// Runs two elements that wait for letters which nobody sends, and carries that on.
-fn run_twice<R: Threads + Wait + Sync + Abort + AllocGlobal>(rt: &R) -> Outcome<Errand> {
-    let errands = that_wait(rt, 2);
-    let config = patient(2, 4);
-    let opening = Snapshot::of(&errands);
-    let outcome = run_watched(rt, rt.alloc(), &config, &NoGate, &NoWatch, errands);
+// Runs these chares to the end of their run, and carries that on.
+fn run_again<C: Chare<Global> + Send, R: Threads + Wait + Sync + Abort + AllocGlobal>(
+    rt: &R,
+    config: &Config,
+    chares: Vec<C>,
+) -> Outcome<C> {
+    let opening = Snapshot::of(&chares);
+    let outcome = run_watched(rt, rt.alloc(), config, &NoGate, &NoWatch, chares);
     let outcome = outcome.expect(rt, "the run did not begin");
-    let outcome = carry_on(
-        rt,
-        rt.alloc(),
-        &config,
-        &NoGate,
-        &NoWatch,
-        &opening,
-        outcome,
-    );
+    let outcome = carry_on(rt, rt.alloc(), config, &NoGate, &NoWatch, &opening, outcome);
     outcome.expect(rt, "the run was not carried on")
 }
 
+// Two elements wait for letters which nobody sends.
 #[test]
 fn a_run_with_nothing_left_to_do_has_nothing_to_carry_on(rt: HostRuntime) {
-    let outcome = run_twice(&rt);
+    let outcome = run_again(&rt, &patient(2, 4), that_wait(&rt, 2));
     compare(&rt, &outcome, 2);
     let found = (outcome.fault(), outcome.account());
     drop(outcome);
@@ -171,17 +166,18 @@ fn expect_whole<'a>(
     }
 }
 
-// What both parts of a run leave, or `None` where the first did not begin. Says whether the second was refused.
-fn parts_of<'a, R: Threads + Wait + Sync + Abort + AllocGlobal>(
+// What both parts of a run leave, the first of which stops after so many questions, or `None` where it did not begin.
+fn parts_of<C: Chare<A> + Send, A: Allocator + Copy + Send + Sync, R: Threads + Wait + Sync>(
     rt: &R,
-    alloc: Lent<'a>,
-    chares: Vec<Tally<Lent<'a>>, Lent<'a>>,
-) -> Option<Result<Outcome<Tally<Lent<'a>>, Lent<'a>>, RunError>> {
+    alloc: A,
+    config: &Config,
+    questions: u64,
+    chares: Vec<C, A>,
+) -> Option<Result<Outcome<C, A>, RunError>> {
     let opening = Snapshot::of(&chares);
-    let config = patient(2, 1_024);
-    let watch = Patience::of(12);
-    match run_watched(rt, alloc, &config, &NoGate, &watch, chares) {
-        Ok(outcome) => Some(carry_on(rt, alloc, &config, &NoGate, &NoWatch, &opening, outcome)),
+    let watch = Patience::of(questions);
+    match run_watched(rt, alloc, config, &NoGate, &watch, chares) {
+        Ok(outcome) => Some(carry_on(rt, alloc, config, &NoGate, &NoWatch, &opening, outcome)),
         Err(_) => None,
     }
 }
@@ -196,7 +192,7 @@ fn refuses<R: Threads + Wait + Sync + Abort + AllocGlobal>(
     let Ok(chares) = tallies(&alloc, &EXAMPLE) else {
         return true;
     };
-    match parts_of(rt, &alloc, chares) {
+    match parts_of(rt, &alloc, &patient(2, 1_024), 12, chares) {
         Some(Ok(outcome)) => {
             expect_whole(rt, counts, &outcome, turn);
             drop(outcome);
