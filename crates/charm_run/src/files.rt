@@ -7,12 +7,13 @@ use std::alloc::Global;
 use std::fs::{File, Files};
 use std::io::{self, Write};
 use workload_run::{
-    Beside, BesideText, Driven, DumpFiles, DumpFormat, Lost, NotWritten, write_asked, write_beside,
+    Beside, BesideText, Driven, DumpFiles, DumpFormat, EarlyDumps, Lost, NotWritten, finish_dumped,
+    write_asked, write_beside,
 };
 
-// The files of the system.
+/// The files of the system.
 #[derive(Drop)]
-struct SystemFiles<'a, R>(&'a R);
+pub(crate) struct SystemFiles<'a, R>(&'a R);
 
 impl<R: Files> DumpFiles for SystemFiles<'_, R> {
     type File = R::File;
@@ -23,6 +24,33 @@ impl<R: Files> DumpFiles for SystemFiles<'_, R> {
     fn create(&mut self, name: &str) -> io::Result<R::File> {
         File::create(self.0, name)
     }
+}
+
+/// The dumps that are written where the run pauses after each round: those of a run without a journal. So they are there also if the run
+/// is killed.
+pub(crate) fn early_dumps<'a, R: Files + AllocGlobal>(
+    rt: &'a R,
+    asked: &CharmRunOptions<'a>,
+) -> EarlyDumps<'a, SystemFiles<'a, R>, Global> {
+    let prefix = if asked.no_journal { asked.dump } else { None };
+    let format = DumpFormat::asked(asked.lbd1);
+    EarlyDumps::new(rt.alloc(), SystemFiles(rt), prefix, format)
+}
+
+/// Writes the dumps of the last rounds, where those before were written early, and returns the status.
+pub(crate) fn finish_dumps<R: Files + Eprint, W: Write>(
+    rt: &R,
+    asked: &CharmRunOptions<'_>,
+    driven: &Driven<Global>,
+    dumps: EarlyDumps<'_, SystemFiles<'_, R>, Global>,
+    writer: &mut W,
+) -> u8 {
+    let failed = dumps.finish(driven.rounds());
+    let status = finish_dumped(driven, failed.is_some(), writer);
+    if let Some(dump) = failed {
+        tell_dump(rt, asked.dump.unwrap_or(""), dump);
+    }
+    status
 }
 
 /// Writes the dumps of the rounds that are asked for, and returns the status.

@@ -17,7 +17,7 @@ mod files;
 mod one_thread;
 mod traces;
 
-use crate::files::write_dumps;
+use crate::files::{early_dumps, finish_dumps, write_dumps};
 use crate::one_thread::{run_by_list, run_by_seed, run_by_seeds};
 use crate::traces::{Onlookers, keep_recorded, lose_trace};
 use at_sync::Strategy;
@@ -94,6 +94,7 @@ fn run_watched<R: Threads + Wait + Sync + Files + Clock + Print + Eprint + Alloc
     let strategy = Strategy::within(asked.tolerance);
     let file = File::open(rt, asked.file);
     let mut writer = io::writer(rt);
+    let mut dumps = early_dumps(rt, asked);
     let (driven, reason) = drive_file(
         rt,
         rt.alloc(),
@@ -103,13 +104,18 @@ fn run_watched<R: Threads + Wait + Sync + Files + Clock + Print + Eprint + Alloc
         strategy,
         history_of(asked),
         &onlookers,
+        &mut dumps,
     );
     let Onlookers { progress, tracing } = onlookers;
     progress.finish();
     let is_fault = driven.status() == BAD_FILE;
     let _told = ADVICE.tell(rt.alloc(), errors, asked.file, reason, is_fault);
     let is_lost = keep_recorded(rt, asked.trace, tracing, &driven, &mut writer);
-    let status = write_dumps(rt, asked, &driven, &mut writer);
+    let status = if dumps.is_on() {
+        finish_dumps(rt, asked, &driven, dumps, &mut writer)
+    } else {
+        write_dumps(rt, asked, &driven, &mut writer)
+    };
     status_beside(status, is_lost)
 }
 

@@ -5,7 +5,7 @@ use crate::fixtures::{account, assert_for, expect_text, patient};
 use crate::found::compare;
 use crate::stopped::{Patience, that_wait};
 use crate::tallies::{EXAMPLE, EXAMPLE_TEXT, tallies, text_of};
-use carried_runs::carry_on;
+use carried_runs::{Pauses, carry_on, run_in_parts};
 use chare_index::NoGate;
 use chares::Chare;
 use pe_worker::{Fault, NoWatch};
@@ -213,4 +213,56 @@ fn each_request_of_a_run_in_two_parts(rt: HostRuntime) {
     }
     let found = (counts.refused, counts.early, counts.well);
     assert_for(&rt, found.0 > 10 && found.1 > 3 && found.2 > 10, found);
+}
+
+// How often a run has paused, and how many rounds there were the last time.
+#[derive(Drop)]
+struct Counted {
+    pauses: u32,
+    rounds: usize,
+}
+
+impl<C: Chare<A>, A: Allocator> Pauses<C, A> for Counted {
+    fn paused(&mut self, outcome: &Outcome<C, A>) {
+        self.pauses = self.pauses.saturating_add(1);
+        self.rounds = outcome.rounds().len();
+    }
+}
+
+// The worked example with a pause after each round: how often it paused, and how many rounds it had then.
+fn expect_pauses<R: Threads + Wait + Sync + Abort + AllocGlobal>(
+    rt: &R,
+    pes: u32,
+    capacity: u32,
+) -> Counted {
+    let mut counted = Counted {
+        pauses: 0,
+        rounds: 0,
+    };
+    let chares = tallies(rt.alloc(), &EXAMPLE).expect(rt, "no tallies");
+    let config = patient(pes, capacity);
+    let outcome = run_in_parts(
+        rt,
+        rt.alloc(),
+        &config,
+        &NoGate,
+        &NoWatch,
+        &mut counted,
+        chares,
+    );
+    let outcome = outcome.expect(rt, "the run did not begin");
+    compare(rt, &outcome, 4);
+    let text = text_of(rt, &outcome);
+    drop(outcome);
+    expect_text(rt, text.as_str(), EXAMPLE_TEXT);
+    counted
+}
+
+#[test]
+fn the_worked_example_with_pauses(rt: HostRuntime) {
+    for capacity in &[1, 1_024] {
+        let counted = expect_pauses(&rt, 2, *capacity);
+        let found = (counted.pauses, counted.rounds);
+        assert_for(&rt, found.0 >= 1 && found.1 >= 1, found);
+    }
 }

@@ -2,6 +2,7 @@
 
 use crate::fixtures::{TURNS, WORKED, WORKED_TEXT, assert_for};
 use at_sync::Strategy;
+use carried_runs::NoPauses;
 use chare_index::Round;
 use pe_worker::Watch;
 use rts_run::History;
@@ -65,6 +66,7 @@ fn ends<R: Threads + Wait + Sync + Abort + AllocGlobal>(
         Strategy::Least,
         History::Kept,
         &seen,
+        &mut NoPauses,
     );
     let right = driven.ended == ended && found.map(|error| error.kind()) == reason;
     drop(driven);

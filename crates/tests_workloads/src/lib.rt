@@ -7,6 +7,8 @@ mod dump_failures;
 #[cfg(test)]
 mod dumps;
 #[cfg(test)]
+mod early_dumps;
+#[cfg(test)]
 mod examples;
 #[cfg(test)]
 mod failures;
