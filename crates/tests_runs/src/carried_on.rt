@@ -20,7 +20,7 @@ use tests_chares::Relay;
 use tests_fixtures::Refusing;
 
 // Stops a run of these chares after so many questions, carries it on for as many, and then to its end.
-fn run_in_parts<C: Chare<Global> + Send, R: Threads + Wait + Sync + Abort + AllocGlobal>(
+fn run_in_three<C: Chare<Global> + Send, R: Threads + Wait + Sync + Abort + AllocGlobal>(
     rt: &R,
     config: &Config,
     questions: u64,
@@ -70,7 +70,7 @@ fn expect_example<R: Threads + Wait + Sync + Abort + AllocGlobal>(
         ..patient(pes, capacity)
     };
     let chares = tallies(rt.alloc(), &EXAMPLE).expect(rt, "no tallies");
-    let outcome = run_in_parts(rt, &config, questions, chares);
+    let outcome = run_in_three(rt, &config, questions, chares);
     compare(rt, &outcome, 4);
     let text = text_of(rt, &outcome);
     drop(outcome);
@@ -99,7 +99,7 @@ fn expect_relays<R: Threads + Wait + Sync + Abort + AllocGlobal>(rt: &R, questio
         let next = Relay::with_body(rt.alloc(), 3, &body).expect(rt, "no relay");
         chares.push(next).expect(rt, "out of memory");
     }
-    let outcome = run_in_parts(rt, &patient(3, 4), questions, chares);
+    let outcome = run_in_three(rt, &patient(3, 4), questions, chares);
     compare(rt, &outcome, 7);
     let fault = outcome.fault();
     drop(outcome);
