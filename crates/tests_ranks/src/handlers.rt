@@ -11,6 +11,15 @@ use std::alloc::Global;
 use std::marker::Brand;
 use std::process::Abort;
 
+// Names handlers that each answer with 5 work units, and "ab" to element 0.
+struct FiveUnits;
+
+impl Script for FiveUnits {
+    ghost use Rattle.std.specs.Prelude.{◌∷◌, [], false};
+
+    ghost answers = { λ i v. record { effect = record { units = 5; at_sync = false; finished = false }; sends = (0, 97 ∷ 98 ∷ []) ∷ [] } };
+}
+
 // The only PE, with one element.
 fn alone<S: Script, H: Openings<Foreign<S>>>(
     rt: &(impl Abort + AllocGlobal),
@@ -119,6 +128,7 @@ fn handles<S: Script, H: Openings<Foreign<S>>>(
 
 #[test]
 fn a_handler_answers_what_was_handed_in(rt: HostRuntime) {
-    let (first, second) = (answer(&rt), answer(&rt));
-    handles::<Brand, Brand>(&rt, first, second);
+    let first = answer(&rt);
+    let second = answer(&rt);
+    handles::<FiveUnits, Brand>(&rt, first, second);
 }
