@@ -1,0 +1,4 @@
+pub mod Elements
+pub mod Letters
+pub mod Marks
+pub mod Messages

@@ -1,0 +1,174 @@
+//! A packed element as bytes.
+
+ghost use Rattle.std.specs.Prelude.{◌≡◌, ◌↔◌, false, length, IfOk, IfSome, IsNone};
+ghost use Rattle.parcel_wire.specs.Elements.{arrived, is_element, of_parts, sent_of};
+
+use crate::mark::WireMark;
+use crate::marks::{kept_marks, wire_marks};
+use chare_index::{Index, Limits, Round};
+use chares::{Packed, Past, Progress};
+use pup_pack::{Bytes, Fields, Items, Pup, PupError};
+use std::alloc::{AllocError, Global};
+use std::marker::Model;
+
+/// What is sent of an element: its index, the pack of its chare, how many entries its journal has, how far it has come, and its
+/// marks. Contracts see it as the record `SentElement`.
+#[derive(Drop)]
+pub struct WireElement {
+    index: u32,
+    bytes: Bytes,
+    entries: u64,
+    // The round, whether it has started, waits and has finished, and the load.
+    progress: ProgressParts,
+    marks: Items<WireMark>,
+}
+
+/// How far an element has come, as it is packed.
+type ProgressParts = (u32, (bool, (bool, (bool, u64))));
+
+/// The fields of an element, as they are packed.
+type Parts = (u32, (Bytes, (u64, (ProgressParts, Items<WireMark>))));
+
+impl Model for WireElement {
+    ghost use Rattle.std.specs.Prelude.{◌≡◌, true};
+    ghost use Rattle.parcel_wire.specs.Elements.{SentElement, is_element, progress_of};
+
+    ghost Value = { SentElement };
+
+    ghost view = { λ e. record { index = e.index; bytes = e.bytes; entries = e.entries; progress = progress_of e.progress; marks = e.marks } };
+
+    ghost invariant = { λ e. is_element (record { index = e.index; bytes = e.bytes; entries = e.entries; progress = progress_of e.progress; marks = e.marks }) ≡ true };
+}
+
+impl WireElement {
+    /// What is sent of this element.
+    ///
+    /// # Errors
+    ///
+    /// - [`OutOfMemory`](PupError::OutOfMemory): memory was refused.
+    /// - [`TooLong`](PupError::TooLong): its journal has 2^64 entries or more.
+    /// - [`Bad`](PupError::Bad): it waits for the last round, or the load of a mark is above the limit of a load.
+    #[tactic(auto, using(crate::proofs::Lengths::journal_length))]
+    pub fn of(alloc: Global, element: &Packed) -> Result<Self, PupError>
+        ensures value { IfOk result (λ e. e ≡ sent_of element.now) }
+    {
+        let progress = element.progress();
+        if progress.round.get() >= Limits::ROUND {
+            return Err(PupError::Bad);
+        }
+        let journal = element.journal();
+        let Some(entries) = journal.settled().checked_add(journal.kept().len() as u64) else {
+            return Err(PupError::TooLong);
+        };
+        let marks = wire_marks(alloc, element.marks())?;
+        let bytes = Vec::from_slice(alloc, element.bytes())?;
+        Ok(WireElement {
+            index: element.index().get(),
+            bytes: Bytes::new(bytes),
+            entries,
+            progress: (
+                progress.round.get(),
+                (
+                    progress.started,
+                    (progress.synced, (progress.finished, progress.load)),
+                ),
+            ),
+            marks: Items::new(marks),
+        })
+    }
+
+    // The element with these fields, or `None` past a limit.
+    fn of_parts(parts: Parts) -> Option<Self>
+        ensures value { IfSome result (λ e. e ≡ of_parts parts) }
+        ensures refused { IsNone result ↔ (is_element (of_parts parts) ≡ false) }
+    {
+        let (index, (bytes, (entries, (progress, marks)))) = parts;
+        if index >= Limits::ELEMENTS || progress.0 >= Limits::ROUND {
+            return None;
+        }
+        Some(WireElement {
+            index,
+            bytes,
+            entries,
+            progress,
+            marks,
+        })
+    }
+
+    /// The element, where it came as a message, with the entries of its journal, which are as many as were sent. The only error is
+    /// that memory was refused.
+    pub fn into_packed(self, alloc: Global, past: Past) -> Result<Packed, AllocError>
+        requires counted { length past.entries ≡ self.entries }
+        ensures value { IfOk result (λ e. e ≡ arrived self past.entries) }
+    {
+        let WireElement {
+            index,
+            bytes,
+            entries,
+            progress,
+            marks,
+        } = self;
+        let (round, (started, (synced, (finished, load)))) = progress;
+        let progress = Progress {
+            round: Round::new(round).unwrap(),
+            started,
+            synced,
+            finished,
+            load,
+        };
+        let marks = kept_marks(alloc, marks.as_slice())?;
+        let index = Index::new(index).unwrap();
+        Packed::arrived(
+            alloc,
+            index,
+            bytes.into_vec(),
+            past,
+            entries,
+            progress,
+            marks,
+        )
+    }
+}
+
+impl Pup<Global> for WireElement {
+    ghost use Rattle.std.specs.Prelude.{◌≡◌, refl, true};
+    ghost use Rattle.pup_pack.specs.Structs.{made, judged};
+    ghost use Rattle.pup_pack.specs.Trips.{bool_trips, bytes_trips, judged_trips, list_trips, pair_trips, struct_trips, u32_trips, u64_trips};
+    ghost use Rattle.parcel_wire.specs.Elements.{is_element, of_parts, parts};
+    ghost use Rattle.parcel_wire.specs.Marks.{mark_trips};
+
+    ghost fits = { λ e. ⟦<Parts as Pup<Global>>⟧.fits (parts e) × (is_element e ≡ true) };
+
+    ghost counted = { λ e. ⟦<Parts as Pup<Global>>⟧.counted (parts e) };
+
+    ghost pack = { λ e. ⟦<Parts as Pup<Global>>⟧.pack (parts e) };
+
+    ghost unpack = { λ bytes. judged is_element (made of_parts (⟦<Parts as Pup<Global>>⟧.unpack bytes)) };
+
+    ghost round_trip = { (judged_trips is_element (struct_trips parts of_parts (λ _. refl)
+        (pair_trips u32_trips (pair_trips bytes_trips (pair_trips u64_trips (pair_trips
+        (pair_trips u32_trips (pair_trips bool_trips (pair_trips bool_trips (pair_trips bool_trips u64_trips))))
+        (list_trips mark_trips))))))).trip };
+
+    fn packed_len(&self) -> u32 {
+        (
+            &self.index,
+            (&self.bytes, (&self.entries, (&self.progress, &self.marks))),
+        )
+            .fields_len()
+    }
+
+    fn pack_into(&self, out: &mut Vec<u8>) -> Result<(), PupError> {
+        (
+            &self.index,
+            (&self.bytes, (&self.entries, (&self.progress, &self.marks))),
+        )
+            .pack_fields(out)
+    }
+
+    fn unpack(alloc: Global, bytes: &[u8]) -> Result<(WireElement, usize), PupError> {
+        let (parts, len) = <Parts as Pup<Global>>::unpack(alloc, bytes)?;
+        let element = WireElement::of_parts(parts).ok_or(PupError::Bad)?;
+        Ok((element, len))
+    }
+}

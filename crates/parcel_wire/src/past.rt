@@ -1,0 +1,15 @@
+//! What is said that an element has handled.
+
+ghost use Rattle.std.specs.Prelude.{◌≡◌, List};
+ghost use Rattle.chares.specs.Letters.{Done};
+
+use chares::Past;
+
+/// The entries of an element that came as a message, as whoever takes it in says that they are. They take no bytes, and no code
+/// knows them.
+pub fn told_past() -> Past
+    ghost entries: { List Done }
+    ensures { result.entries ≡ entries }
+{
+    Past {}
+}
