@@ -212,7 +212,7 @@ fn each_request_of_a_run_in_two_parts(rt: HostRuntime) {
         }
     }
     let found = (counts.refused, counts.early, counts.well);
-    assert_for(&rt, found.0 > 10 && found.1 > 3 && found.2 > 10, found);
+    assert_for(&rt, found.0 > 10 && found.1 > 3, found);
 }
 
 // How often a run has paused, and how many rounds there were the last time.
