@@ -16,7 +16,7 @@ use Rattle.any_order.specs.declared.reordered.Reordered.{Reordered}
 use Rattle.any_order.specs.declared.row.At.{At}
 
 -- a chain, a limit, and bounds for each number of blocks, as steps
-pub record Chain : Type 0 where
+pub record BoundedChain : Type 0 where
   pub loads : List ℕ
   pub sizes : List (ℕ × ℕ)
   pub limit : ℕ
@@ -24,7 +24,7 @@ pub record Chain : Type 0 where
   pub free : List (List (ℕ × ℕ))
 
 -- what a reordered division claims of these elements
-abbrev pub bounded_of : {A : Type 0} → List ℕ → List (ℕ × ℕ) → Reordered A → Chain
+abbrev pub bounded_of : {A : Type 0} → List ℕ → List (ℕ × ℕ) → Reordered A → BoundedChain
 bounded_of loads sizes r =
     record { loads = loads; sizes = sizes; limit = reordered_limit r; any = r.any; free = r.free }
 
@@ -39,7 +39,7 @@ pub record Claimed : Type 0 where
   pub next_free : List (ℕ × ℕ)
 
 -- the bounds for b blocks and for one more
-abbrev pub claim_at : Chain → ℕ → Claimed
+abbrev pub claim_at : BoundedChain → ℕ → Claimed
 claim_at c b =
     record {
       loads = c.loads;
@@ -147,11 +147,11 @@ pub record IsFirstBlock (claim : Claimed) (block : ℕ × ℕ) : Type 0 where
   pub earlier : RisesBelow claim block.0
 
 -- they rise by no more up to the bounds for this number of blocks
-abbrev pub RisesUpTo : Chain → ℕ → Type 0
+abbrev pub RisesUpTo : BoundedChain → ℕ → Type 0
 RisesUpTo c blocks = (b : ℕ) → b < blocks → RisesBelow (claim_at c b) (length c.loads + 1)
 
 -- the first number of blocks from which they rise by more, with the first block
-pub record IsFirstSteep (c : Chain) (blocks : ℕ) (place : ℕ × ℕ × ℕ) : Type 0 where
+pub record IsFirstSteep (c : BoundedChain) (blocks : ℕ) (place : ℕ × ℕ × ℕ) : Type 0 where
   pub inside : place.0 < blocks
   pub first : IsFirstBlock (claim_at c place.0) (place.1, place.2)
   pub earlier : RisesUpTo c place.0

@@ -1,7 +1,7 @@
 ghost use Rattle.std.specs.Prelude.{◌≡◌, ◌+◌, ◌<◌, length};
 ghost use Rattle.any_order.specs.Internal.{claim_at};
 
-use crate::claim::Claim;
+use crate::claim::BoundsClaim;
 use crate::follow::steps_of;
 use crate::levels::Levels;
 use chare_index::Pe;
@@ -20,22 +20,22 @@ pub(crate) struct Bounded<'a, A: Allocator> {
 }
 
 impl<'a, A: Allocator> Model for Bounded<'a, A> {
-    ghost use Rattle.any_order.specs.Internal.{Chain};
+    ghost use Rattle.any_order.specs.Internal.{BoundedChain};
 
-    ghost Value = { Chain };
+    ghost Value = { BoundedChain };
 
     ghost view = { λ c. record { loads = c.loads.now; sizes = c.sizes.now; limit = c.limit; any = c.any.now; free = c.free.now } };
 }
 
 /// What is checked of b blocks.
-pub(crate) fn claim_of<'a, A: Allocator>(bounded: &Bounded<'a, A>, b: usize) -> Claim<'a>
+pub(crate) fn claim_of<'a, A: Allocator>(bounded: &Bounded<'a, A>, b: usize) -> BoundsClaim<'a>
     requires any { b + 1 < length bounded.now.any }
     requires free { b + 1 < length bounded.now.free }
     ensures { result ≡ claim_at bounded.now b }
 {
     let any = bounded.any;
     let free = bounded.free;
-    Claim {
+    BoundsClaim {
         loads: bounded.loads,
         sizes: bounded.sizes,
         limit: bounded.limit,

@@ -12,7 +12,7 @@ use std::marker::Model;
 
 /// A chain, a limit, and bounds for a number of blocks and for one more. Contracts see it as the record of the parts.
 #[derive(Drop)]
-pub(crate) struct Claim<'a> {
+pub(crate) struct BoundsClaim<'a> {
     pub(crate) loads: &'a [Units],
     pub(crate) sizes: &'a [(u32, Pe)],
     pub(crate) limit: u64,
@@ -22,7 +22,7 @@ pub(crate) struct Claim<'a> {
     pub(crate) next_free: &'a [(u32, u64)],
 }
 
-impl<'a> Model for Claim<'a> {
+impl<'a> Model for BoundsClaim<'a> {
     ghost use Rattle.any_order.specs.Internal.{Claimed};
 
     ghost Value = { Claimed };
@@ -39,21 +39,21 @@ impl<'a> Model for Claim<'a> {
 }
 
 /// The number of elements.
-pub(crate) fn elements(claim: &Claim<'_>) -> usize
+pub(crate) fn elements(claim: &BoundsClaim<'_>) -> usize
     ensures { result ≡ length claim.now.loads }
 {
     claim.loads.len()
 }
 
 /// The greatest load that a block may have.
-pub(crate) fn limit_of(claim: &Claim<'_>) -> u64
+pub(crate) fn limit_of(claim: &BoundsClaim<'_>) -> u64
     ensures { result ≡ claim.now.limit }
 {
     claim.limit
 }
 
 /// The load of an element.
-pub(crate) fn load_at(claim: &Claim<'_>, x: usize) -> u64
+pub(crate) fn load_at(claim: &BoundsClaim<'_>, x: usize) -> u64
     requires measured { AreMeasured claim.now.loads claim.now.sizes }
     requires inside { x < length claim.now.loads }
     ensures { result ≡ slice_index claim.now.loads x }
@@ -62,7 +62,7 @@ pub(crate) fn load_at(claim: &Claim<'_>, x: usize) -> u64
 }
 
 /// The size of an element, and the PE that it is on.
-pub(crate) fn element_at(claim: &Claim<'_>, x: usize) -> (u32, u32)
+pub(crate) fn element_at(claim: &BoundsClaim<'_>, x: usize) -> (u32, u32)
     requires measured { AreMeasured claim.now.loads claim.now.sizes }
     requires inside { x < length claim.now.loads }
     ensures value { result ≡ slice_index_or claim.now.sizes x (0, 0) }
@@ -73,7 +73,7 @@ pub(crate) fn element_at(claim: &Claim<'_>, x: usize) -> (u32, u32)
 }
 
 /// The PE that the element at a place is on, and 0 behind the last one.
-pub(crate) fn home_at(claim: &Claim<'_>, x: usize) -> u32
+pub(crate) fn home_at(claim: &BoundsClaim<'_>, x: usize) -> u32
     ensures value { result ≡ home claim.now.sizes x }
     ensures in_range { result < PES }
 {
@@ -84,21 +84,21 @@ pub(crate) fn home_at(claim: &Claim<'_>, x: usize) -> u32
 }
 
 /// The bounds at the beginning of the chain.
-pub(crate) fn low_start(claim: &Claim<'_>) -> At
+pub(crate) fn low_start(claim: &BoundsClaim<'_>) -> At
     ensures at { IsAt claim.now.any claim.now.free 0 result }
 {
     at_start(claim.any, claim.free)
 }
 
 /// The bounds for one more block there.
-pub(crate) fn high_start(claim: &Claim<'_>) -> At
+pub(crate) fn high_start(claim: &BoundsClaim<'_>) -> At
     ensures at { IsAt claim.now.next_any claim.now.next_free 0 result }
 {
     at_start(claim.next_any, claim.next_free)
 }
 
 /// The bounds followed on from a place to the next.
-pub(crate) fn low_on(claim: &Claim<'_>, at: At, x: usize) -> At
+pub(crate) fn low_on(claim: &BoundsClaim<'_>, at: At, x: usize) -> At
     requires at { IsAt claim.now.any claim.now.free x at }
     requires few { x < 2 ^ 32 }
     ensures at { IsAt claim.now.any claim.now.free (x + 1) result }
@@ -107,7 +107,7 @@ pub(crate) fn low_on(claim: &Claim<'_>, at: At, x: usize) -> At
 }
 
 /// The bounds for one more block followed on from a place to the next.
-pub(crate) fn high_on(claim: &Claim<'_>, at: At, x: usize) -> At
+pub(crate) fn high_on(claim: &BoundsClaim<'_>, at: At, x: usize) -> At
     requires at { IsAt claim.now.next_any claim.now.next_free x at }
     requires few { x < 2 ^ 32 }
     ensures at { IsAt claim.now.next_any claim.now.next_free (x + 1) result }

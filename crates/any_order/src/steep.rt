@@ -6,7 +6,7 @@ ghost use Rattle.any_order.specs.Internal.{AreMeasured, high_at, IsAt, IsFirstBl
 
 use crate::block::Pair;
 use crate::bounded::{Bounded, claim_of};
-use crate::claim::{Claim, elements, high_on, high_start, home_at, low_on, low_start};
+use crate::claim::{BoundsClaim, elements, high_on, high_start, home_at, low_on, low_start};
 use crate::row::{At, pair_at, same_bounds};
 use crate::walk::first_steep_end;
 use chare_index::Limits;
@@ -20,7 +20,7 @@ fn is_risen_here(low: Pair, high: Pair) -> bool
 }
 
 // Whether neither the home nor a bound changes behind element y.
-fn is_low_level_at(claim: &Claim<'_>, y: usize, here: At, next: At) -> bool
+fn is_low_level_at(claim: &BoundsClaim<'_>, y: usize, here: At, next: At) -> bool
     requires here { IsAt claim.now.any claim.now.free y here }
     requires next { IsAt claim.now.any claim.now.free (y + 1) next }
     requires inside { y < length claim.now.loads }
@@ -33,7 +33,7 @@ fn is_low_level_at(claim: &Claim<'_>, y: usize, here: At, next: At) -> bool
 
 // The first end of a block from y on.
 fn first_end(
-    claim: &Claim<'_>,
+    claim: &BoundsClaim<'_>,
     y: usize,
     lows: (At, At),
     high: At,
@@ -60,7 +60,7 @@ fn first_end(
 }
 
 // The first block, by where it begins and then where it ends.
-fn first_block(claim: &Claim<'_>, kept: &mut [u64]) -> Option<(u32, u32)>
+fn first_block(claim: &BoundsClaim<'_>, kept: &mut [u64]) -> Option<(u32, u32)>
     requires measured { AreMeasured claim.now.loads claim.now.sizes }
     requires counted { length kept.old ≡ PES }
     ensures counted { length kept.new ≡ PES }

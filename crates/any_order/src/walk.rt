@@ -6,12 +6,12 @@ ghost use Rattle.any_order.specs.AnyOrder.{home};
 ghost use Rattle.any_order.specs.Internal.{AreMeasured, high_at, IsAt, IsFirstEnd, is_high_level, is_low_level, IsRisen, low_at, RisesFrom};
 
 use crate::block::{Block, Pair, is_risen};
-use crate::claim::{Claim, element_at, elements, high_on, home_at, limit_of, load_at};
+use crate::claim::{BoundsClaim, element_at, elements, high_on, home_at, limit_of, load_at};
 use crate::most::{Most, joined};
 use crate::row::{At, pair_at, same_bounds};
 
 // Whether neither the home nor a bound for one more block changes behind element x.
-fn is_high_level_at(claim: &Claim<'_>, x: usize, here: At, next: At) -> bool
+fn is_high_level_at(claim: &BoundsClaim<'_>, x: usize, here: At, next: At) -> bool
     requires here { IsAt claim.now.next_any claim.now.next_free x here }
     requires next { IsAt claim.now.next_any claim.now.next_free (x + 1) next }
     requires inside { x < length claim.now.loads }
@@ -24,7 +24,7 @@ fn is_high_level_at(claim: &Claim<'_>, x: usize, here: At, next: At) -> bool
 
 // Whether bounds rise by no more than a block brings that ends behind element x, or nothing changes there.
 fn is_risen_behind(
-    claim: &Claim<'_>,
+    claim: &BoundsClaim<'_>,
     x: usize,
     low: Pair,
     highs: (At, At),
@@ -48,7 +48,7 @@ fn is_risen_behind(
 
 /// The first end of a block from y on, at which bounds rise by more than the block brings.
 pub(crate) fn first_steep_end(
-    claim: &Claim<'_>,
+    claim: &BoundsClaim<'_>,
     y: usize,
     low: Pair,
     high: At,

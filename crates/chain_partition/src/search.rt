@@ -21,13 +21,18 @@ pub(crate) enum Bound {
 
 /// Two limits: none below `low` can hold all elements, and `high` can.
 #[derive(Clone, Copy)]
-pub(crate) struct Bounds {
+pub(crate) struct SearchBounds {
     pub(crate) low: u64,
     pub(crate) high: u64,
 }
 
 /// The least limit within which `pes` blocks can hold all elements. It is within these bounds.
-pub(crate) fn least_bottleneck(loads: &[Units], samples: &[u64], pes: u32, bounds: Bounds) -> u64
+pub(crate) fn least_bottleneck(
+    loads: &[Units],
+    samples: &[u64],
+    pes: u32,
+    bounds: SearchBounds,
+) -> u64
     requires valid { IsSampled loads.now samples.now }
     requires some_pe { 1 ≤ pes }
     requires enclosed { Enclose loads.now pes bounds.low bounds.high }
@@ -77,7 +82,7 @@ pub(crate) fn bound_within(loads: &[Units], samples: &[u64], pes: u32, limit: u6
 /// And with an even share plus the greatest load as the limit, each block that cannot take the next element weighs more
 /// than such a share, so not all blocks can be of that kind.
 #[tactic(auto, using(crate::proofs::Bottlenecks::opening_encloses))]
-pub(crate) fn opening(loads: &[Units], total: u64, pes: u32) -> Bounds
+pub(crate) fn opening(loads: &[Units], total: u64, pes: u32) -> SearchBounds
     requires some_pe { 1 ≤ pes }
     requires all { total ≡ load loads.now 0 (length loads.now) }
     requires light { sum loads.now < 2 ^ 63 }
@@ -85,7 +90,7 @@ pub(crate) fn opening(loads: &[Units], total: u64, pes: u32) -> Bounds
 {
     let greatest = greatest(loads);
     let pes = u64::from(pes);
-    Bounds {
+    SearchBounds {
         low: greatest.max(total.div_ceil(pes)),
         high: total / pes + greatest,
     }

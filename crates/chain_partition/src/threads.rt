@@ -9,7 +9,7 @@ ghost use Rattle.chain_partition.specs.Sums.{IsSampled};
 
 use crate::chain::Chain;
 use crate::division::division_at;
-use crate::search::{Bound, Bounds, bound_within, opening};
+use crate::search::{Bound, SearchBounds, bound_within, opening};
 use chare_index::{Gate, Limits};
 use lb_certificates::Division;
 use lb_snapshot::{Loads, Units};
@@ -88,7 +88,7 @@ fn least_tried<R: Threads + Sync, G: Gate + Sync>(
     loads: &[Units],
     samples: &[u64],
     pes: u32,
-    bounds: Bounds,
+    bounds: SearchBounds,
     workers: usize,
     gate: &G,
 ) -> u64
@@ -115,7 +115,7 @@ fn try_all<R: Threads + Sync, G: Gate + Sync>(
     loads: &[Units],
     samples: &[u64],
     pes: u32,
-    bounds: Bounds,
+    bounds: SearchBounds,
     gate: &G,
     bounds_found: &mut [Bound],
 )
@@ -139,7 +139,7 @@ fn try_limit<G: Gate>(
     loads: &[Units],
     samples: &[u64],
     pes: u32,
-    bounds: Bounds,
+    bounds: SearchBounds,
     worker: usize,
     workers: usize,
     gate: &G,
@@ -162,7 +162,7 @@ fn try_limit<G: Gate>(
 
 // The limit of one of these workers. In 128 bits the product is in range, however far apart the bounds are.
 #[tactic(auto, using(crate::proofs::Limits::share_inside, crate::proofs::Limits::product_fits))]
-fn limit_of(bounds: Bounds, worker: u64, workers: u64) -> u64
+fn limit_of(bounds: SearchBounds, worker: u64, workers: u64) -> u64
     requires one_of { worker < workers }
     requires few_workers { workers ≤ Limits.PROBE_WORKERS }
     requires apart { bounds.low < bounds.high }
@@ -175,7 +175,7 @@ fn limit_of(bounds: Bounds, worker: u64, workers: u64) -> u64
 }
 
 // The bounds, narrowed by what the walks of one round found.
-fn narrowed(loads: &[Units], pes: u32, bounds: Bounds, bounds_found: &[Bound]) -> Bounds
+fn narrowed(loads: &[Units], pes: u32, bounds: SearchBounds, bounds_found: &[Bound]) -> SearchBounds
     requires some_worker { 1 ≤ length bounds_found.now }
     requires enclosed { Enclose loads.now pes bounds.low bounds.high }
     requires tried { (i : ℕ) (d : Bound) → i < length bounds_found.now → WasTried loads.now pes bounds.low bounds.high (slice_index_or bounds_found.now i d) }
@@ -190,5 +190,5 @@ fn narrowed(loads: &[Units], pes: u32, bounds: Bounds, bounds_found: &[Bound]) -
             Bound::Stops(next) => low = low.max(*next),
         }
     }
-    Bounds { low, high }
+    SearchBounds { low, high }
 }

@@ -9,7 +9,7 @@ use Rattle.chain_refinement.specs.Flaws.{IsSteep}
 use Rattle.chain_refinement.specs.Refinement.{cut_cost, height_at, refined_limit}
 use Rattle.chain_refinement.specs.Walks.{IsClimbed, IsWindow}
 use Rattle.chain_refinement.specs.declared.few_places.Base.{Base}
-use Rattle.chain_refinement.specs.declared.place.Place.{Place}
+use Rattle.chain_refinement.specs.declared.place.Cut.{Cut}
 use Rattle.chain_refinement.specs.declared.refinement.Refinement.{Refinement}
 
 -- what is claimed: that these heights bound what cuts within this limit cost, where the PEs have this order
@@ -72,7 +72,7 @@ pub record IsFirstSteep (claim : Claimed) (place : ℕ × ℕ) : Type 0 where
   pub earlier_blocks : AreGentle claim place.0
 
 -- what is known of place x for the cut between block b and the next
-pub record IsPlace (claim : Claimed) (b x : ℕ) (place : Place) : Type 0 where
+pub record IsPlace (claim : Claimed) (b x : ℕ) (place : Cut) : Type 0 where
   pub cost_is : place.cost ≡ cut_cost claim.sizes claim.names b x
   pub window : IsWindow claim.loads x claim.limit place.window.start place.window.weight
   pub low : IsClimbed (slice_index_or claim.heights b []) place.window.start place.low.next place.low.height

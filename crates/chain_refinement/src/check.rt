@@ -8,7 +8,7 @@ ghost use Rattle.chain_refinement.specs.Internal.{AreOrdered, claim_of, IsFirstH
 ghost use Rattle.chain_refinement.specs.Refinement.{AreFewest, AreWithin, height_at, IsRefinement, refined_limit};
 ghost use Rattle.chain_refinement.specs.Walks.{IsLeastStart};
 
-use crate::claim::Claim;
+use crate::claim::HeightsClaim;
 use crate::costs::cost_of_cuts;
 use crate::flaw::RefinementFlaw;
 use crate::order::stand_in_order;
@@ -177,14 +177,14 @@ fn claim_of<'a, A: Allocator, B: Allocator>(
     snapshot: &'a Snapshot<A>,
     pes: u32,
     refinement: &'a Refinement<B>,
-) -> Claim<'a, B>
+) -> HeightsClaim<'a, B>
     requires certified { IsCertified snapshot.now.loads pes refinement.now.least }
     ensures value { result ≡ claim_of snapshot.now.loads snapshot.now.sizes refinement.now }
     ensures loads { IsLoads snapshot.now.loads }
     ensures sizes { IsSizes snapshot.now.sizes }
     ensures paired { length snapshot.now.loads ≡ length snapshot.now.sizes }
 {
-    Claim {
+    HeightsClaim {
         loads: snapshot.loads().as_slice(),
         sizes: snapshot.sizes().as_slice(),
         names: refinement.order.as_slice(),

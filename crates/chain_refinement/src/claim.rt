@@ -7,7 +7,7 @@ use std::marker::Model;
 /// What a refinement claims: that these heights bound what cuts within this limit cost, where the PEs have this order.
 /// Contracts see it as the record of its parts.
 #[derive(Drop)]
-pub(crate) struct Claim<'a, A: Allocator> {
+pub(crate) struct HeightsClaim<'a, A: Allocator> {
     pub(crate) loads: &'a [Units],
     pub(crate) sizes: &'a [(u32, Pe)],
     pub(crate) names: &'a [u32],
@@ -15,7 +15,7 @@ pub(crate) struct Claim<'a, A: Allocator> {
     pub(crate) heights: &'a [Steps<A>],
 }
 
-impl<'a, A: Allocator> Model for Claim<'a, A> {
+impl<'a, A: Allocator> Model for HeightsClaim<'a, A> {
     ghost use Rattle.chain_refinement.specs.Internal.{Claimed};
 
     ghost Value = { Claimed };

@@ -7,13 +7,13 @@ ghost use Rattle.chain_refinement.specs.Internal.{IsClaim};
 ghost use Rattle.chain_refinement.specs.Orders.{StandInOrder};
 ghost use Rattle.chain_refinement.specs.Refinement.{cut_cost, cuts_cost};
 
-use crate::claim::Claim;
+use crate::claim::HeightsClaim;
 use crate::walk::held_by;
 use std::alloc::Allocator;
 
 /// What all cuts between blocks cost.
 pub(crate) fn cost_of_cuts<A: Allocator>(
-    claim: &Claim<'_, A>,
+    claim: &HeightsClaim<'_, A>,
     in_order: bool,
     present: &[u32],
     cuts: &[u32],
@@ -33,7 +33,7 @@ pub(crate) fn cost_of_cuts<A: Allocator>(
 
 // What the cut between block b and the next costs at a place.
 fn cost_of_cut<A: Allocator>(
-    claim: &Claim<'_, A>,
+    claim: &HeightsClaim<'_, A>,
     in_order: bool,
     present: &[u32],
     b: usize,
@@ -54,7 +54,7 @@ fn cost_of_cut<A: Allocator>(
 
 /// The same, where elements are in order: the bytes between the cut and the present one.
 pub(crate) fn cost_nearby<A: Allocator>(
-    claim: &Claim<'_, A>,
+    claim: &HeightsClaim<'_, A>,
     present: &[u32],
     b: usize,
     x: usize,

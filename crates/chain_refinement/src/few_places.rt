@@ -7,9 +7,9 @@ ghost use Rattle.std.specs.Bool.{OnTrue};
 ghost use Rattle.chain_refinement.specs.Internal.{AllGentle, IsBase, IsClaim, IsLevelBehind, IsPlace, IsWalked};
 ghost use Rattle.chain_refinement.specs.Orders.{StandInOrder};
 
-use crate::claim::Claim;
+use crate::claim::HeightsClaim;
 use crate::costs::cost_nearby;
-use crate::place::{Place, climbed_to, is_steep, next_place, steps_of};
+use crate::place::{Cut, climbed_to, is_steep, next_place, steps_of};
 use crate::walk::{Window, slid};
 use std::alloc::Allocator;
 
@@ -22,7 +22,12 @@ pub(crate) struct Base {
 
 /// The base for the cut between block b and the next: the last place up to the present cut, up to which a block begins where
 /// the heights of block b have not risen. Where that place is behind the base, the base stays.
-pub(crate) fn moved_on<A: Allocator>(claim: &Claim<'_, A>, b: u32, cut: usize, base: Base) -> Base
+pub(crate) fn moved_on<A: Allocator>(
+    claim: &HeightsClaim<'_, A>,
+    b: u32,
+    cut: usize,
+    base: Base,
+) -> Base
     requires claimed { IsClaim claim.now }
     requires inside { b < length claim.now.names }
     requires within { cut ≤ length claim.now.loads }
@@ -38,7 +43,7 @@ pub(crate) fn moved_on<A: Allocator>(claim: &Claim<'_, A>, b: u32, cut: usize, b
 }
 
 // The base moved up to the cut, as long as the block that ends there begins before this place.
-fn slid_to<A: Allocator>(claim: &Claim<'_, A>, cut: usize, rise: usize, base: Base) -> Base
+fn slid_to<A: Allocator>(claim: &HeightsClaim<'_, A>, cut: usize, rise: usize, base: Base) -> Base
     requires claimed { IsClaim claim.now }
     requires within { cut ≤ length claim.now.loads }
     requires before { IsBase claim.now base }
@@ -60,7 +65,7 @@ fn slid_to<A: Allocator>(claim: &Claim<'_, A>, cut: usize, rise: usize, base: Ba
 /// Whether the places around the present cut show that the cut between block b and the next has no steep place. `false` leaves
 /// that open.
 pub(crate) fn is_gentle_nearby<A: Allocator>(
-    claim: &Claim<'_, A>,
+    claim: &HeightsClaim<'_, A>,
     present: &[u32],
     b: u32,
     base: Base,
@@ -76,7 +81,7 @@ pub(crate) fn is_gentle_nearby<A: Allocator>(
     if base.end > cut || low.height > climbed_to(claim, b, 0).height {
         return false;
     }
-    let place = Place {
+    let place = Cut {
         cost: cost_nearby(claim, present, b as usize, base.end),
         window: base.window,
         low,
@@ -86,7 +91,7 @@ pub(crate) fn is_gentle_nearby<A: Allocator>(
 }
 
 // The last step of the heights of the block behind the cut, or the cut itself.
-fn last_rise<A: Allocator>(claim: &Claim<'_, A>, b: u32, cut: usize) -> usize
+fn last_rise<A: Allocator>(claim: &HeightsClaim<'_, A>, b: u32, cut: usize) -> usize
     requires claimed { IsClaim claim.now }
     requires inside { b + 1 < length claim.now.names }
     requires within { cut ≤ length claim.now.loads }
@@ -103,10 +108,10 @@ fn last_rise<A: Allocator>(claim: &Claim<'_, A>, b: u32, cut: usize) -> usize
 
 // Whether no place from one to another is steep, and the heights of the block behind the cut do not rise any more.
 fn is_gentle_walk<A: Allocator>(
-    claim: &Claim<'_, A>,
+    claim: &HeightsClaim<'_, A>,
     b: u32,
     from: usize,
-    first: Place,
+    first: Cut,
     to: usize,
 ) -> bool
     requires claimed { IsClaim claim.now }
@@ -130,7 +135,7 @@ fn is_gentle_walk<A: Allocator>(
 }
 
 // Whether the heights of the block behind the cut rise no more behind this place.
-fn is_level_behind<A: Allocator>(claim: &Claim<'_, A>, b: u32, x: usize, place: Place) -> bool
+fn is_level_behind<A: Allocator>(claim: &HeightsClaim<'_, A>, b: u32, x: usize, place: Cut) -> bool
     requires claimed { IsClaim claim.now }
     requires inside { b + 1 < length claim.now.names }
     requires within { x ≤ length claim.now.loads }

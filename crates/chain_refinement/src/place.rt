@@ -6,13 +6,13 @@ ghost use Rattle.chain_refinement.specs.Refinement.{height_at};
 ghost use Rattle.chain_refinement.specs.Internal.{IsClaim, IsPlace};
 ghost use Rattle.chain_refinement.specs.Walks.{IsClimbed};
 
-use crate::claim::Claim;
+use crate::claim::HeightsClaim;
 use crate::walk::{Climb, Window, climbed, cost_after, held_by, slid};
 use std::alloc::Allocator;
 
 /// What the cut costs at a place, the widest block that ends there, and the heights where that block begins and ends.
 #[derive(Clone, Copy)]
-pub(crate) struct Place {
+pub(crate) struct Cut {
     pub(crate) cost: u64,
     pub(crate) window: Window,
     pub(crate) low: Climb,
@@ -20,7 +20,7 @@ pub(crate) struct Place {
 }
 
 /// The steps of a block's heights.
-pub(crate) fn steps_of<'a, A: Allocator>(claim: &Claim<'a, A>, b: u32) -> &'a [(u32, u64)]
+pub(crate) fn steps_of<'a, A: Allocator>(claim: &HeightsClaim<'a, A>, b: u32) -> &'a [(u32, u64)]
     requires inside { b < length claim.now.heights }
     ensures value { result.now ≡ slice_index_or claim.now.heights b [] }
 {
@@ -29,7 +29,7 @@ pub(crate) fn steps_of<'a, A: Allocator>(claim: &Claim<'a, A>, b: u32) -> &'a [(
 }
 
 /// The climb of a block's heights from the beginning of the chain to a place.
-pub(crate) fn climbed_to<A: Allocator>(claim: &Claim<'_, A>, b: u32, x: usize) -> Climb
+pub(crate) fn climbed_to<A: Allocator>(claim: &HeightsClaim<'_, A>, b: u32, x: usize) -> Climb
     requires inside { b < length claim.now.heights }
     requires few { b < PES }
     ensures climbed { IsClimbed (slice_index_or claim.now.heights b []) x result.next result.height }
@@ -40,7 +40,7 @@ pub(crate) fn climbed_to<A: Allocator>(claim: &Claim<'_, A>, b: u32, x: usize) -
 }
 
 /// The beginning of the chain, for the cut between block b and the next.
-pub(crate) fn first_place<A: Allocator>(claim: &Claim<'_, A>, b: u32) -> Place
+pub(crate) fn first_place<A: Allocator>(claim: &HeightsClaim<'_, A>, b: u32) -> Cut
     requires claimed { IsClaim claim.now }
     requires inside { b + 1 < length claim.now.names }
     ensures place { IsPlace claim.now b 0 result }
@@ -49,7 +49,7 @@ pub(crate) fn first_place<A: Allocator>(claim: &Claim<'_, A>, b: u32) -> Place
         start: 0,
         weight: 0,
     };
-    Place {
+    Cut {
         cost: held_by(claim.sizes, claim.names[b as usize]),
         window,
         low: climbed_to(claim, b, 0),
@@ -59,11 +59,11 @@ pub(crate) fn first_place<A: Allocator>(claim: &Claim<'_, A>, b: u32) -> Place
 
 /// The place behind this one.
 pub(crate) fn next_place<A: Allocator>(
-    claim: &Claim<'_, A>,
+    claim: &HeightsClaim<'_, A>,
     b: u32,
     x: usize,
-    place: Place,
-) -> Place
+    place: Cut,
+) -> Cut
     requires claimed { IsClaim claim.now }
     requires inside { b + 1 < length claim.now.names }
     requires within { x < length claim.now.loads }
@@ -81,7 +81,7 @@ pub(crate) fn next_place<A: Allocator>(
         window.start,
     );
     let high = climbed(steps_of(claim, b + 1), place.high, x, x + 1);
-    Place {
+    Cut {
         cost,
         window,
         low,
@@ -90,7 +90,7 @@ pub(crate) fn next_place<A: Allocator>(
 }
 
 /// Whether the height rises to this place by more than the cut costs.
-pub(crate) fn is_steep(place: Place) -> bool
+pub(crate) fn is_steep(place: Cut) -> bool
     ensures steep { IsTrue result ↔ (place.low.height + place.cost < place.high.height) }
 {
     place.low.height < place.high.height

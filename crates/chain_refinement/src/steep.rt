@@ -5,7 +5,7 @@ ghost use Rattle.std.specs.Bool.{OnTrue};
 ghost use Rattle.chain_refinement.specs.Internal.{AllGentle, AreGentle, IsBase, IsClaim, IsFirstSteep, RisesAt};
 ghost use Rattle.chain_refinement.specs.Orders.{StandInOrder};
 
-use crate::claim::Claim;
+use crate::claim::HeightsClaim;
 use crate::few_places::{Base, is_gentle_nearby, moved_on};
 use crate::place::{first_place, is_steep, next_place};
 use crate::walk::Window;
@@ -14,7 +14,7 @@ use std::alloc::Allocator;
 /// The first steep place of all cuts, by block and then place. It is found fast where the elements are in the order of the
 /// names.
 pub(crate) fn first_steep<A: Allocator>(
-    claim: &Claim<'_, A>,
+    claim: &HeightsClaim<'_, A>,
     in_order: bool,
     present: &[u32],
 ) -> Option<(u32, u32)>
@@ -29,7 +29,10 @@ pub(crate) fn first_steep<A: Allocator>(
 }
 
 // The same, where elements are in order.
-fn first_steep_in_order<A: Allocator>(claim: &Claim<'_, A>, present: &[u32]) -> Option<(u32, u32)>
+fn first_steep_in_order<A: Allocator>(
+    claim: &HeightsClaim<'_, A>,
+    present: &[u32],
+) -> Option<(u32, u32)>
     requires claimed { IsClaim claim.now }
     requires order { StandInOrder claim.now.sizes claim.now.names present.now }
     ensures first { MatchOption result (AreGentle claim.now (length claim.now.names - 1)) (IsFirstSteep claim.now) }
@@ -50,7 +53,7 @@ fn first_steep_in_order<A: Allocator>(claim: &Claim<'_, A>, present: &[u32]) -> 
 
 // The first steep place for the cut between block b and the next, where the places around the present cut leave that open.
 fn first_steep_from<A: Allocator>(
-    claim: &Claim<'_, A>,
+    claim: &HeightsClaim<'_, A>,
     present: &[u32],
     b: u32,
     base: Base,
@@ -68,7 +71,7 @@ fn first_steep_from<A: Allocator>(
 }
 
 // The same, wherever elements are.
-fn first_steep_anywhere<A: Allocator>(claim: &Claim<'_, A>) -> Option<(u32, u32)>
+fn first_steep_anywhere<A: Allocator>(claim: &HeightsClaim<'_, A>) -> Option<(u32, u32)>
     requires claimed { IsClaim claim.now }
     ensures first { MatchOption result (AreGentle claim.now (length claim.now.names - 1)) (IsFirstSteep claim.now) }
 {
@@ -82,7 +85,7 @@ fn first_steep_anywhere<A: Allocator>(claim: &Claim<'_, A>) -> Option<(u32, u32)
 
 // The first steep place for the cut between block b and the next, found by a look at each place.
 #[tactic(auto, using(crate::proofs::Steeps::gentle_at_first, crate::proofs::Steeps::gentle_so_far, crate::proofs::Steeps::rises_here))]
-fn first_steep_place<A: Allocator>(claim: &Claim<'_, A>, b: u32) -> Option<usize>
+fn first_steep_place<A: Allocator>(claim: &HeightsClaim<'_, A>, b: u32) -> Option<usize>
     requires claimed { IsClaim claim.now }
     requires inside { b + 1 < length claim.now.names }
     ensures first { MatchOption result (AllGentle claim.now b (length claim.now.loads + 1)) (λ x. RisesAt claim.now b x × AllGentle claim.now b x) }

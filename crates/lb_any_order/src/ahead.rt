@@ -5,8 +5,8 @@
 //! elements of each PE are consecutive, the PEs that keep something stay in their present order. So a block has to know one
 //! thing of those before it: whether the PE of its first element is used.
 
-use crate::chain::{Chain, begin_of, bytes_of, farthest, run_at, run_bytes, start_of};
-use crate::row::{NONE, Row, any_at, free_at};
+use crate::chain::{SearchedChain, begin_of, bytes_of, farthest, run_at, run_bytes, start_of};
+use crate::row::{CostRow, NONE, any_at, free_at};
 use std::alloc::{AllocError, Allocator};
 
 /// The cheapest known way to continue: what it costs, the run whose PE the next block runs on, where that block ends, and
@@ -49,7 +49,7 @@ fn cheaper(one: Way, other: Way) -> Way {
 }
 
 // The same where the block extends to place x. The run before that of x is inside once the block reaches past its end.
-fn reached<A: Allocator>(chain: &Chain<'_, A>, own: u32, inside: Inside, x: u32) -> Inside {
+fn reached<A: Allocator>(chain: &SearchedChain<'_, A>, own: u32, inside: Inside, x: u32) -> Inside {
     let run = run_at(chain, x);
     if run == inside.run || inside.run == own {
         return Inside { run, ..inside };
@@ -67,8 +67,8 @@ fn reached<A: Allocator>(chain: &Chain<'_, A>, own: u32, inside: Inside, x: u32)
 
 // The ways by a block y..x that ends in the run where it begins: on another PE, or on its own.
 fn ways_within<A: Allocator>(
-    chain: &Chain<'_, A>,
-    next: &Row<A>,
+    chain: &SearchedChain<'_, A>,
+    next: &CostRow<A>,
     y: u32,
     x: u32,
     own: u32,
@@ -101,8 +101,8 @@ fn ways_within<A: Allocator>(
 // The ways by a block y..x that ends in another run: on the PE of its first element, on that of the element at x, on that of
 // the greatest run inside, or on one that has nothing of it.
 fn ways_across<A: Allocator>(
-    chain: &Chain<'_, A>,
-    next: &Row<A>,
+    chain: &SearchedChain<'_, A>,
+    next: &CostRow<A>,
     y: u32,
     x: u32,
     inside: Inside,
@@ -145,8 +145,8 @@ fn ways_across<A: Allocator>(
 
 /// The cheapest ways from place y on, by a block within the limit that ends no later than at `last`.
 pub(crate) fn ways_from<A: Allocator>(
-    chain: &Chain<'_, A>,
-    next: &Row<A>,
+    chain: &SearchedChain<'_, A>,
+    next: &CostRow<A>,
     y: u32,
     last: u32,
 ) -> Ways {
@@ -188,11 +188,11 @@ pub(crate) fn ways_from<A: Allocator>(
 /// Memory was refused.
 fn row_before<A: Allocator + Copy>(
     alloc: A,
-    chain: &Chain<'_, A>,
-    next: &Row<A>,
+    chain: &SearchedChain<'_, A>,
+    next: &CostRow<A>,
     first: u32,
     ends: (u32, u32),
-) -> Result<Row<A>, AllocError> {
+) -> Result<CostRow<A>, AllocError> {
     let (last, next_last) = ends;
     let mut any = Vec::new(alloc);
     let mut free = Vec::new(alloc);
@@ -201,7 +201,7 @@ fn row_before<A: Allocator + Copy>(
         any.push(ways.used.cost)?;
         free.push(ways.free.cost)?;
     }
-    Ok(Row { first, any, free })
+    Ok(CostRow { first, any, free })
 }
 
 /// The costs ahead before each block, from the last to the first, with those behind the last one at the beginning of the list.
@@ -211,15 +211,15 @@ fn row_before<A: Allocator + Copy>(
 /// Memory was refused.
 pub(crate) fn rows_ahead<A: Allocator + Copy>(
     alloc: A,
-    chain: &Chain<'_, A>,
+    chain: &SearchedChain<'_, A>,
     spans: &[(u32, u32)],
-) -> Result<Vec<Row<A>, A>, AllocError> {
+) -> Result<Vec<CostRow<A>, A>, AllocError> {
     let mut rows = Vec::new(alloc);
     let mut any = Vec::new(alloc);
     let mut free = Vec::new(alloc);
     any.push(0)?;
     free.push(0)?;
-    rows.push(Row {
+    rows.push(CostRow {
         first: chain.end,
         any,
         free,
@@ -244,7 +244,7 @@ pub(crate) fn rows_ahead<A: Allocator + Copy>(
 /// Memory was refused.
 pub(crate) fn spans_of<A: Allocator>(
     alloc: A,
-    chain: &Chain<'_, A>,
+    chain: &SearchedChain<'_, A>,
     pes: u32,
 ) -> Result<Vec<(u32, u32), A>, AllocError> {
     let mut spans = Vec::new(alloc);

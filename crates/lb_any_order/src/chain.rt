@@ -8,7 +8,7 @@ use std::alloc::{AllocError, Allocator};
 
 /// A chain of elements, the runs of them on each PE, and the widest blocks within a limit.
 #[derive(Drop)]
-pub(crate) struct Chain<'a, A: Allocator> {
+pub(crate) struct SearchedChain<'a, A: Allocator> {
     /// The place behind the last element.
     pub(crate) end: u32,
     /// The bytes of the elements before each place.
@@ -38,22 +38,22 @@ fn bytes_before(before: &[u64], place: u32) -> u64 {
 }
 
 /// The bytes of the elements y..x.
-pub(crate) fn bytes_of<A: Allocator>(chain: &Chain<'_, A>, y: u32, x: u32) -> u64 {
+pub(crate) fn bytes_of<A: Allocator>(chain: &SearchedChain<'_, A>, y: u32, x: u32) -> u64 {
     bytes_before(&chain.before, x).saturating_sub(bytes_before(&chain.before, y))
 }
 
 /// The run of a place.
-pub(crate) fn run_at<A: Allocator>(chain: &Chain<'_, A>, x: u32) -> u32 {
+pub(crate) fn run_at<A: Allocator>(chain: &SearchedChain<'_, A>, x: u32) -> u32 {
     item(&chain.runs, x)
 }
 
 /// Where a run begins.
-pub(crate) fn begin_of<A: Allocator>(chain: &Chain<'_, A>, run: u32) -> u32 {
+pub(crate) fn begin_of<A: Allocator>(chain: &SearchedChain<'_, A>, run: u32) -> u32 {
     item(chain.begins, run)
 }
 
 /// The bytes of a run.
-pub(crate) fn run_bytes<A: Allocator>(chain: &Chain<'_, A>, run: u32) -> u64 {
+pub(crate) fn run_bytes<A: Allocator>(chain: &SearchedChain<'_, A>, run: u32) -> u64 {
     bytes_of(
         chain,
         begin_of(chain, run),
@@ -62,12 +62,12 @@ pub(crate) fn run_bytes<A: Allocator>(chain: &Chain<'_, A>, run: u32) -> u64 {
 }
 
 /// The first place at which a block within the limit may begin that ends at x.
-pub(crate) fn start_of<A: Allocator>(chain: &Chain<'_, A>, x: u32) -> u32 {
+pub(crate) fn start_of<A: Allocator>(chain: &SearchedChain<'_, A>, x: u32) -> u32 {
     item(&chain.starts, x)
 }
 
 /// The last place at which a block within the limit may end that begins at y.
-pub(crate) fn farthest<A: Allocator>(chain: &Chain<'_, A>, y: u32) -> u32 {
+pub(crate) fn farthest<A: Allocator>(chain: &SearchedChain<'_, A>, y: u32) -> u32 {
     let mut last = y;
     for x in y..chain.end.saturating_add(1) {
         if start_of(chain, x) > y {
@@ -89,10 +89,10 @@ pub(crate) fn chain_of<'a, A: Allocator + Copy>(
     sizes: &[(u32, Pe)],
     begins: &'a [u32],
     limit: u64,
-) -> Result<Chain<'a, A>, AllocError>
+) -> Result<SearchedChain<'a, A>, AllocError>
     requires few { length loads.now < 2 ^ 32 }
 {
-    Ok(Chain {
+    Ok(SearchedChain {
         end: loads.len() as u32,
         before: sums_of(alloc, sizes)?,
         starts: starts_within(alloc, loads, limit)?,

@@ -4,8 +4,8 @@
 //! bounds before the last block and that block allow. Between the two it keeps its level as long as it can, so that there are
 //! few steps.
 
-use crate::chain::{Chain, begin_of, bytes_of, run_at, run_bytes, start_of};
-use crate::row::{NONE, Row, any_at, free_at};
+use crate::chain::{SearchedChain, begin_of, bytes_of, run_at, run_bytes, start_of};
+use crate::row::{CostRow, NONE, any_at, free_at};
 use any_order::{ByteBounds, Levels};
 use std::alloc::{AllocError, Allocator};
 
@@ -20,8 +20,8 @@ struct Caps {
 
 // What a block y..x allows.
 fn with_block<A: Allocator>(
-    chain: &Chain<'_, A>,
-    low: &Row<A>,
+    chain: &SearchedChain<'_, A>,
+    low: &CostRow<A>,
     y: u32,
     x: u32,
     caps: Caps,
@@ -62,7 +62,7 @@ fn with_block<A: Allocator>(
 }
 
 // What is allowed by the bounds before the last block and all blocks within the limit that end at x.
-fn caps_at<A: Allocator>(chain: &Chain<'_, A>, low: &Row<A>, x: u32) -> Caps {
+fn caps_at<A: Allocator>(chain: &SearchedChain<'_, A>, low: &CostRow<A>, x: u32) -> Caps {
     let mut caps = Caps {
         any: NONE,
         free: NONE,
@@ -82,11 +82,11 @@ fn caps_at<A: Allocator>(chain: &Chain<'_, A>, low: &Row<A>, x: u32) -> Caps {
 // falls, and one for a free PE never falls within a run.
 fn caps_of<A: Allocator + Copy>(
     alloc: A,
-    chain: &Chain<'_, A>,
-    low: &Row<A>,
+    chain: &SearchedChain<'_, A>,
+    low: &CostRow<A>,
     span: (u32, u32),
     least: u64,
-) -> Result<Row<A>, AllocError> {
+) -> Result<CostRow<A>, AllocError> {
     let (first, last) = span;
     let mut any = Vec::new(alloc);
     let mut free = Vec::new(alloc);
@@ -106,7 +106,7 @@ fn caps_of<A: Allocator + Copy>(
     }
     any.reverse();
     free.reverse();
-    Ok(Row { first, any, free })
+    Ok(CostRow { first, any, free })
 }
 
 // The same level as before, or the cap where what is needed is above that level.
@@ -117,12 +117,12 @@ fn raised(level: u64, needed: u64, cap: u64) -> u64 {
 // The bounds at these places.
 fn bounds_between<A: Allocator + Copy>(
     alloc: A,
-    chain: &Chain<'_, A>,
-    caps: &Row<A>,
-    ahead: &Row<A>,
+    chain: &SearchedChain<'_, A>,
+    caps: &CostRow<A>,
+    ahead: &CostRow<A>,
     span: (u32, u32),
     least: u64,
-) -> Result<Row<A>, AllocError> {
+) -> Result<CostRow<A>, AllocError> {
     let (first, last) = span;
     let mut any = Vec::new(alloc);
     let mut free = Vec::new(alloc);
@@ -146,7 +146,7 @@ fn bounds_between<A: Allocator + Copy>(
         any.push(any_level)?;
         free.push(free_level)?;
     }
-    Ok(Row { first, any, free })
+    Ok(CostRow { first, any, free })
 }
 
 // These levels as steps: 0 before the first place, and the whole cost behind the last.
@@ -184,7 +184,7 @@ struct Both<A: Allocator> {
 fn with_row<A: Allocator + Copy>(
     alloc: A,
     both: Both<A>,
-    row: &Row<A>,
+    row: &CostRow<A>,
     end: u32,
     least: u64,
 ) -> Result<Both<A>, AllocError> {
@@ -202,9 +202,9 @@ fn with_row<A: Allocator + Copy>(
 /// Memory was refused.
 pub(crate) fn bounds_of<A: Allocator + Copy>(
     alloc: A,
-    chain: &Chain<'_, A>,
+    chain: &SearchedChain<'_, A>,
     spans: &[(u32, u32)],
-    ahead: &[Row<A>],
+    ahead: &[CostRow<A>],
     least: u64,
 ) -> Result<(ByteBounds<A>, ByteBounds<A>), AllocError> {
     let mut low = start_row(alloc)?;
@@ -226,12 +226,12 @@ pub(crate) fn bounds_of<A: Allocator + Copy>(
 }
 
 // The bounds for no blocks.
-fn start_row<A: Allocator + Copy>(alloc: A) -> Result<Row<A>, AllocError> {
+fn start_row<A: Allocator + Copy>(alloc: A) -> Result<CostRow<A>, AllocError> {
     let mut any = Vec::new(alloc);
     let mut free = Vec::new(alloc);
     any.push(0)?;
     free.push(0)?;
-    Ok(Row {
+    Ok(CostRow {
         first: 0,
         any,
         free,

@@ -1,8 +1,8 @@
 //! The plan that is read off the costs ahead.
 
 use crate::ahead::{Way, ways_from};
-use crate::chain::Chain;
-use crate::row::Row;
+use crate::chain::SearchedChain;
+use crate::row::CostRow;
 use lb_certificates::{Cuts, Naming};
 use std::alloc::{AllocError, Allocator};
 
@@ -16,9 +16,9 @@ struct Blocks<A: Allocator> {
 // The blocks of a cheapest plan, by the costs ahead, from the last row to the first.
 fn blocks_of<A: Allocator + Copy>(
     alloc: A,
-    chain: &Chain<'_, A>,
+    chain: &SearchedChain<'_, A>,
     spans: &[(u32, u32)],
-    ahead: &[Row<A>],
+    ahead: &[CostRow<A>],
 ) -> Result<Blocks<A>, AllocError> {
     let mut cuts = Vec::new(alloc);
     let mut kept = Vec::new(alloc);
@@ -40,8 +40,8 @@ fn blocks_of<A: Allocator + Copy>(
 
 // The cheapest way to continue from a place, whose PE is free or used.
 fn next_way<A: Allocator>(
-    chain: &Chain<'_, A>,
-    costs: &Row<A>,
+    chain: &SearchedChain<'_, A>,
+    costs: &CostRow<A>,
     start: u32,
     last: u32,
     free: bool,
@@ -112,9 +112,9 @@ fn names_of<A: Allocator + Copy>(
 /// Memory was refused.
 pub(crate) fn plan_of<A: Allocator + Copy>(
     alloc: A,
-    chain: &Chain<'_, A>,
+    chain: &SearchedChain<'_, A>,
     spans: &[(u32, u32)],
-    ahead: &[Row<A>],
+    ahead: &[CostRow<A>],
     order: &[u32],
     pes: u32,
 ) -> Result<(Cuts<A>, Naming<A>), AllocError> {

@@ -2,7 +2,7 @@ use std::alloc::Allocator;
 
 /// Two costs, or two bounds, for each place of a stretch of the chain.
 #[derive(Drop)]
-pub(crate) struct Row<A: Allocator> {
+pub(crate) struct CostRow<A: Allocator> {
     /// The first of the places.
     pub(crate) first: u32,
     /// The one where the PE of the element at the place may be used.
@@ -26,11 +26,11 @@ fn item(list: &[u64], first: u32, x: u32) -> u64 {
 }
 
 /// The first of the two at a place.
-pub(crate) fn any_at<A: Allocator>(row: &Row<A>, x: u32) -> u64 {
+pub(crate) fn any_at<A: Allocator>(row: &CostRow<A>, x: u32) -> u64 {
     item(&row.any, row.first, x)
 }
 
 /// The second of the two at a place.
-pub(crate) fn free_at<A: Allocator>(row: &Row<A>, x: u32) -> u64 {
+pub(crate) fn free_at<A: Allocator>(row: &CostRow<A>, x: u32) -> u64 {
     item(&row.free, row.first, x)
 }

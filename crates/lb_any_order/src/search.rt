@@ -3,7 +3,7 @@ ghost use Rattle.lb_certificates.specs.Certificate.{IsCertified};
 ghost use Rattle.any_order.specs.AnyOrder.{AreFewestOfAll, IsReordered, reordered_limit};
 
 use crate::ahead::{rows_ahead, spans_of};
-use crate::chain::{Chain, chain_of};
+use crate::chain::{SearchedChain, chain_of};
 use crate::levels::bounds_of;
 use crate::plan::plan_of;
 use crate::row::{NONE, free_at};
@@ -104,7 +104,7 @@ fn search<A: Allocator + Copy, B: Allocator>(
 // The plan and the bounds, where each number of blocks ends between these places.
 fn with_bounds<A: Allocator + Copy>(
     alloc: A,
-    chain: &Chain<'_, A>,
+    chain: &SearchedChain<'_, A>,
     spans: &[(u32, u32)],
     order: &[u32],
     pes: u32,

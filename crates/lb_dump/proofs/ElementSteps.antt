@@ -15,13 +15,13 @@ use Rattle.lb_dump.specs.Heads.{element_len, load_width}
 use Rattle.lb_dump.specs.declared.head.Format.{Format}
 use Rattle.lb_dump.specs.declared.head.Format.TheVariants.{Lbd1, Lbd2}
 use Rattle.lb_dump.specs.declared.head.Head.{Head}
-use Rattle.lb_dump.specs.declared.plan.Plan.{Plan}
-use Rattle.lb_dump.specs.declared.plan.Plan.TheVariants.{Begun, Nothing, Made}
+use Rattle.lb_dump.specs.declared.plan.DecisionPart.{DecisionPart}
+use Rattle.lb_dump.specs.declared.plan.DecisionPart.TheVariants.{Begun, Nothing, Made}
 use Rattle.lb_dump.specs.Held.{AreSome, HasBegunElement, IsAt, IsAtElements, front_text}
 use Rattle.lb_dump.proofs.Steps.{broken_behind, comes_behind, elements_break, elements_come, fresh_elements}
 
 -- where an element is missing, one may have begun, and no plan has
-pub at_elements : {A : Type 0} (head : Option Head) (loads : List ℕ) (sizes : List (ℕ × ℕ)) (plan : Plan A) (list : List (ℕ × ℕ × ℕ))
+pub at_elements : {A : Type 0} (head : Option Head) (loads : List ℕ) (sizes : List (ℕ × ℕ)) (plan : DecisionPart A) (list : List (ℕ × ℕ × ℕ))
     (begun : List ℕ) (h : Head) → IsAt head loads sizes plan list begun → head ≡ Some h → length loads < h.count
     → (plan ≡ Begun) × IsAtElements h loads sizes list begun
 at_elements None loads sizes plan list begun h at is missing = absurd (let e = is in cc)
@@ -84,7 +84,7 @@ pub no_bytes : (bytes : List ℕ) → length bytes ≡ 0 → bytes ≡ []
 no_bytes [] none = refl
 no_bytes (byte ∷ bytes) none = absurd (omega (arith, none))
 
-module _ (A : Type 0) (head : Option Head) (loads : List ℕ) (sizes : List (ℕ × ℕ)) (plan : Plan A) (list : List (ℕ × ℕ × ℕ)) (begun bytes : List ℕ) (h : Head)
+module _ (A : Type 0) (head : Option Head) (loads : List ℕ) (sizes : List (ℕ × ℕ)) (plan : DecisionPart A) (list : List (ℕ × ℕ × ℕ)) (begun bytes : List ℕ) (h : Head)
     (at : IsAt head loads sizes plan list begun) (headed : head ≡ Some h) (missing : length loads < h.count) where
   pub old : IsAtElements h loads sizes list begun
   old = (at_elements head loads sizes plan list begun h at headed missing).1

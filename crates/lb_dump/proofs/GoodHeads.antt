@@ -8,8 +8,8 @@ use Rattle.dump_format.specs.Layout.{Unfinished, judge}
 use Rattle.dump_format.specs.Text.{elements_text}
 use Rattle.lb_dump.specs.Heads.{IsHead, head_text}
 use Rattle.lb_dump.specs.declared.head.Head.{Head}
-use Rattle.lb_dump.specs.declared.plan.Plan.{Plan}
-use Rattle.lb_dump.specs.declared.plan.Plan.TheVariants.{Begun, Nothing, Made}
+use Rattle.lb_dump.specs.declared.plan.DecisionPart.{DecisionPart}
+use Rattle.lb_dump.specs.declared.plan.DecisionPart.TheVariants.{Begun, Nothing, Made}
 use Rattle.lb_dump.specs.Held.{IsAt, elements_part, front_text, plan_part}
 use Rattle.lb_dump.specs.Reading.{HasGoodHead}
 use Rattle.lb_dump.specs.Moves.{moves_text}
@@ -26,7 +26,7 @@ good_head A h is =
     subst IsGood alone (held_good A (Some h) [] [] Begun [] [] (fresh_elements h [] [] (none_yet h is)))
 
 -- a text with its head begins with it
-starts_with_head : (A : Type 0) (h : Head) (loads : List ℕ) (sizes : List (ℕ × ℕ)) (plan : Plan A) (list : List (ℕ × ℕ × ℕ)) (begun bytes : List ℕ)
+starts_with_head : (A : Type 0) (h : Head) (loads : List ℕ) (sizes : List (ℕ × ℕ)) (plan : DecisionPart A) (list : List (ℕ × ℕ × ℕ)) (begun bytes : List ℕ)
     → take 16 ((front_text (Some h) loads sizes plan list ++ begun) ++ bytes) ≡ head_text h
 unfolding front_text
 starts_with_head A h loads sizes plan list begun bytes =
@@ -36,14 +36,14 @@ starts_with_head A h loads sizes plan list begun bytes =
     ∙ take-append_seam (head_text h) (behind ++ (begun ++ bytes)))
 
 -- the numbers of a head that is whole keep their rules
-head_kept : {A : Type 0} (h : Head) (loads : List ℕ) (sizes : List (ℕ × ℕ)) (plan : Plan A) (list : List (ℕ × ℕ × ℕ)) (begun : List ℕ)
+head_kept : {A : Type 0} (h : Head) (loads : List ℕ) (sizes : List (ℕ × ℕ)) (plan : DecisionPart A) (list : List (ℕ × ℕ × ℕ)) (begun : List ℕ)
     → IsAt (Some h) loads sizes plan list begun → IsHead h
 head_kept h loads sizes Begun list begun at = at.some.head
 head_kept h loads sizes Nothing list begun at = at.some.head
 head_kept h loads sizes (Made r all) list begun at = at.some.head
 
 -- once the head is whole
-pub good_behind_head : (A : Type 0) (head : Option Head) (loads : List ℕ) (sizes : List (ℕ × ℕ)) (plan : Plan A) (list : List (ℕ × ℕ × ℕ))
+pub good_behind_head : (A : Type 0) (head : Option Head) (loads : List ℕ) (sizes : List (ℕ × ℕ)) (plan : DecisionPart A) (list : List (ℕ × ℕ × ℕ))
     (begun bytes : List ℕ) (h : Head) → IsAt head loads sizes plan list begun → head ≡ Some h
     → HasGoodHead ((front_text head loads sizes plan list ++ begun) ++ bytes)
 good_behind_head A None loads sizes plan list begun bytes h at headed = absurd (let e = headed in cc)
@@ -51,7 +51,7 @@ good_behind_head A (Some k) loads sizes plan list begun bytes h at headed =
     subst IsGood (sym (starts_with_head A k loads sizes plan list begun bytes)) (good_head A k (head_kept k loads sizes plan list begun at))
 
 -- before the head is whole there are only its bytes
-no_front : {A : Type 0} (head : Option Head) (loads : List ℕ) (sizes : List (ℕ × ℕ)) (plan : Plan A) (list : List (ℕ × ℕ × ℕ))
+no_front : {A : Type 0} (head : Option Head) (loads : List ℕ) (sizes : List (ℕ × ℕ)) (plan : DecisionPart A) (list : List (ℕ × ℕ × ℕ))
     (begun : List ℕ) → IsAt head loads sizes plan list begun → head ≡ None → front_text head loads sizes plan list ≡ []
 no_front {A} None loads sizes Begun list begun at none = rw at.no_moves (front_none A loads sizes)
 no_front None loads sizes Nothing list begun at none = absurd at
@@ -59,7 +59,7 @@ no_front None loads sizes (Made r all) list begun at none = absurd at
 no_front (Some h) loads sizes plan list begun at none = absurd (let e = none in cc)
 
 -- before the head is whole
-pub good_in_head : (A : Type 0) (head : Option Head) (loads : List ℕ) (sizes : List (ℕ × ℕ)) (plan : Plan A) (list : List (ℕ × ℕ × ℕ))
+pub good_in_head : (A : Type 0) (head : Option Head) (loads : List ℕ) (sizes : List (ℕ × ℕ)) (plan : DecisionPart A) (list : List (ℕ × ℕ × ℕ))
     (begun bytes start rest : List ℕ) → IsAt head loads sizes plan list begun → head ≡ None
     → bytes ≡ start ++ rest → length start ≡ min (length bytes) (16 - length begun) → length (begun ++ start) < 16
     → judge dump (begun ++ start) ≡ Unfinished → HasGoodHead ((front_text head loads sizes plan list ++ begun) ++ bytes)

@@ -11,8 +11,8 @@ use Rattle.lb_dump.specs.declared.head.Format.TheVariants.{Lbd1, Lbd2}
 use Rattle.lb_dump.specs.declared.head.Head.{Head}
 use Rattle.lb_dump.specs.Plans.{IsMade, plan_bytes}
 use Rattle.lb_dump.proofs.MadePlans.{made_length}
-use Rattle.lb_dump.specs.declared.plan.Plan.{Plan}
-use Rattle.lb_dump.specs.declared.plan.Plan.TheVariants.{Begun, Nothing, Made}
+use Rattle.lb_dump.specs.declared.plan.DecisionPart.{DecisionPart}
+use Rattle.lb_dump.specs.declared.plan.DecisionPart.TheVariants.{Begun, Nothing, Made}
 use Rattle.lb_dump.specs.Held.{IsAt, front_text, plan_part}
 use Rattle.lb_dump.specs.Made.{plan_size}
 
@@ -25,7 +25,7 @@ lengths_of : (format : Format) (loads : List ℕ) (sizes : List (ℕ × ℕ)) �
 lengths_of Lbd1 loads sizes paired = elements_length_word loads sizes (sym paired)
 lengths_of Lbd2 loads sizes paired = elements_length_long loads sizes (sym paired)
 
-plan_length : {A : Type 0} (h : Head) (loads : List ℕ) (sizes : List (ℕ × ℕ)) (plan : Plan A) (list : List (ℕ × ℕ × ℕ)) (begun : List ℕ)
+plan_length : {A : Type 0} (h : Head) (loads : List ℕ) (sizes : List (ℕ × ℕ)) (plan : DecisionPart A) (list : List (ℕ × ℕ × ℕ)) (begun : List ℕ)
     → IsAt (Some h) loads sizes plan list begun → length (plan_part plan) ≡ plan_size plan
 plan_length h loads sizes Begun list begun at = refl
 plan_length h loads sizes Nothing list begun at = refl
@@ -35,13 +35,13 @@ plan_length h loads sizes (Made r all) list begun at =
     made_length (word 1 ++ plan_bytes r all) h.count r all made
 
 -- in each stage after the head some elements are whole
-some_kept : {A : Type 0} (h : Head) (loads : List ℕ) (sizes : List (ℕ × ℕ)) (plan : Plan A) (list : List (ℕ × ℕ × ℕ)) (begun : List ℕ)
+some_kept : {A : Type 0} (h : Head) (loads : List ℕ) (sizes : List (ℕ × ℕ)) (plan : DecisionPart A) (list : List (ℕ × ℕ × ℕ)) (begun : List ℕ)
     → IsAt (Some h) loads sizes plan list begun → (length sizes ≡ length loads) × (length loads ≤ ELEMENTS) × (length list ≤ ELEMENTS)
 some_kept h loads sizes Begun list begun at = (at.some.kept.paired, omega (arith, at.some.few, at.some.head.few), omega (arith, ap length at.no_moves))
 some_kept h loads sizes Nothing list begun at = (at.some.kept.paired, omega (arith, at.some.few, at.some.head.few), omega (arith, ap length at.no_moves))
 some_kept h loads sizes (Made r all) list begun at = (at.some.kept.paired, omega (arith, at.some.few, at.some.head.few), omega (arith, at.few_moves, at.few_told, at.some.head.few))
 
-pub front_length : (A : Type 0) (head : Option Head) (loads : List ℕ) (sizes : List (ℕ × ℕ)) (plan : Plan A) (list : List (ℕ × ℕ × ℕ))
+pub front_length : (A : Type 0) (head : Option Head) (loads : List ℕ) (sizes : List (ℕ × ℕ)) (plan : DecisionPart A) (list : List (ℕ × ℕ × ℕ))
     (begun : List ℕ) (h : Head) → IsAt head loads sizes plan list begun → head ≡ Some h
     → length (front_text head loads sizes plan list) ≡ 16 + element_len h.format * length loads + plan_size plan + 12 * length list
 unfolding front_text
@@ -64,7 +64,7 @@ front_length A (Some k) loads sizes plan list begun h at is =
     x.format * length loads + plan_size plan + 12 * length list) same len
 
 -- before the head is whole, the text is what has begun
-pub none_length : (A : Type 0) (head : Option Head) (loads : List ℕ) (sizes : List (ℕ × ℕ)) (plan : Plan A) (list : List (ℕ × ℕ × ℕ))
+pub none_length : (A : Type 0) (head : Option Head) (loads : List ℕ) (sizes : List (ℕ × ℕ)) (plan : DecisionPart A) (list : List (ℕ × ℕ × ℕ))
     (begun : List ℕ) → IsAt head loads sizes plan list begun → head ≡ None
     → length (front_text head loads sizes plan list ++ begun) ≡ length begun
 unfolding front_text

@@ -12,15 +12,15 @@ use Rattle.dump_format.specs.declared.error.DumpError.{DumpError}
 use Rattle.dump_format.specs.declared.recorded.Recorded.{Recorded}
 use Rattle.lb_dump.specs.Moves.{AreMoves, BreaksMove, moves_text}
 use Rattle.lb_dump.specs.declared.head.Head.{Head}
-use Rattle.lb_dump.specs.declared.plan.Plan.{Plan}
-use Rattle.lb_dump.specs.declared.plan.Plan.TheVariants.{Begun, Nothing, Made}
+use Rattle.lb_dump.specs.declared.plan.DecisionPart.{DecisionPart}
+use Rattle.lb_dump.specs.declared.plan.DecisionPart.TheVariants.{Begun, Nothing, Made}
 use Rattle.lb_dump.specs.Held.{HasBegunMove, HasMoves, IsAt, IsAtMoves, front_text}
 use Rattle.lb_dump.proofs.ElementSteps.{no_bytes}
 use Rattle.lb_dump.proofs.MoveTexts.{next_move_read}
 use Rattle.lb_dump.proofs.Steps.{broken_behind, comes_behind, moves_break, moves_come, no_move_begun}
 
 -- after a plan with moves
-pub record AtMoves (A : Type 0) (head : Option Head) (loads : List ℕ) (sizes : List (ℕ × ℕ)) (plan : Plan A) (list : List (ℕ × ℕ × ℕ))
+pub record AtMoves (A : Type 0) (head : Option Head) (loads : List ℕ) (sizes : List (ℕ × ℕ)) (plan : DecisionPart A) (list : List (ℕ × ℕ × ℕ))
     (begun : List ℕ) (count all : ℕ) : Type 0 where
   pub h : Head
   pub r : Recorded A
@@ -29,7 +29,7 @@ pub record AtMoves (A : Type 0) (head : Option Head) (loads : List ℕ) (sizes :
   pub counted : h.count ≡ count
   pub stands : IsAtMoves h loads sizes r all list begun
 
-pub at_moves : {A : Type 0} (head : Option Head) (loads : List ℕ) (sizes : List (ℕ × ℕ)) (plan : Plan A) (list : List (ℕ × ℕ × ℕ))
+pub at_moves : {A : Type 0} (head : Option Head) (loads : List ℕ) (sizes : List (ℕ × ℕ)) (plan : DecisionPart A) (list : List (ℕ × ℕ × ℕ))
     (begun : List ℕ) (count all : ℕ) → IsAt head loads sizes plan list begun
     → IfSome head (λ h. h.count ≡ count) → HasMoves plan all → AtMoves A head loads sizes plan list begun count all
 at_moves None loads sizes Begun list begun count all at counted told = absurd told
@@ -40,20 +40,20 @@ at_moves (Some h) loads sizes Nothing list begun count all at counted told = abs
 at_moves (Some h) loads sizes (Made r n) list begun count all at counted told =
     record { h = h; r = r; headed = refl; planned = ap (Made r) told; counted = counted; stands = subst (λ n. IsAtMoves h loads sizes r n list begun) told at }
 
-pub few_elements : {A : Type 0} {head : Option Head} {loads : List ℕ} {sizes : List (ℕ × ℕ)} {plan : Plan A} {list : List (ℕ × ℕ × ℕ)}
+pub few_elements : {A : Type 0} {head : Option Head} {loads : List ℕ} {sizes : List (ℕ × ℕ)} {plan : DecisionPart A} {list : List (ℕ × ℕ × ℕ)}
     {begun : List ℕ} {count all : ℕ} → AtMoves A head loads sizes plan list begun count all → count ≤ ELEMENTS
 few_elements at = omega (arith, at.counted, at.stands.some.head.few)
 
-pub kept_moves : {A : Type 0} {head : Option Head} {loads : List ℕ} {sizes : List (ℕ × ℕ)} {plan : Plan A} {list : List (ℕ × ℕ × ℕ)}
+pub kept_moves : {A : Type 0} {head : Option Head} {loads : List ℕ} {sizes : List (ℕ × ℕ)} {plan : DecisionPart A} {list : List (ℕ × ℕ × ℕ)}
     {begun : List ℕ} {count all : ℕ} → AtMoves A head loads sizes plan list begun count all → AreMoves count list
 kept_moves {list = list} at = subst (λ n. AreMoves n list) at.counted at.stands.kept
 
 -- a fault among the moves is the fault of the text
-break_at : (A : Type 0) (head : Option Head) (loads : List ℕ) (sizes : List (ℕ × ℕ)) (plan : Plan A) (list : List (ℕ × ℕ × ℕ))
+break_at : (A : Type 0) (head : Option Head) (loads : List ℕ) (sizes : List (ℕ × ℕ)) (plan : DecisionPart A) (list : List (ℕ × ℕ × ℕ))
     (begun bytes : List ℕ) (count all : ℕ) (e : DumpError) → AtMoves A head loads sizes plan list begun count all
     → judge (moves count 0 all) (moves_text list ++ bytes) ≡ Broken e → IsBroken (front_text head loads sizes plan list ++ bytes) e
 break_at A head loads sizes plan list begun bytes count all e at broken =
-    subst (λ (p : Plan A). IsBroken (front_text head loads sizes p list ++ bytes) e) (sym at.planned)
+    subst (λ (p : DecisionPart A). IsBroken (front_text head loads sizes p list ++ bytes) e) (sym at.planned)
     (subst (λ (x : Option Head). IsBroken (front_text x loads sizes (Made at.r all) list ++ bytes) e) (sym at.headed)
     (moves_break A at.h loads sizes at.r all list begun bytes e at.stands (subst (λ n. judge (moves n 0 all) (moves_text list ++ bytes) ≡ Broken e) (sym at.counted) broken)))
 
@@ -77,7 +77,7 @@ run_shorter list next rest bytes joined more =
     ∙ ap length joined ∙ length-append (moves_text list) bytes in
     omega (arith, same, moves_length next, moves_length list)
 
-module _ (A : Type 0) (head : Option Head) (loads : List ℕ) (sizes : List (ℕ × ℕ)) (plan : Plan A) (list : List (ℕ × ℕ × ℕ)) (begun bytes : List ℕ) (count all : ℕ)
+module _ (A : Type 0) (head : Option Head) (loads : List ℕ) (sizes : List (ℕ × ℕ)) (plan : DecisionPart A) (list : List (ℕ × ℕ × ℕ)) (begun bytes : List ℕ) (count all : ℕ)
     (held : IsAt head loads sizes plan list begun) (counted : IfSome head (λ h. h.count ≡ count)) (told : HasMoves plan all) (missing : length list < all) where
   pub at : AtMoves A head loads sizes plan list begun count all
   at = at_moves head loads sizes plan list begun count all held counted told
@@ -100,7 +100,7 @@ module _ (A : Type 0) (head : Option Head) (loads : List ℕ) (sizes : List (ℕ
         no_bytes = whole;
       } in
       subst (λ (x : Option Head). IsAt x loads sizes plan next next_begun) (sym at.headed)
-      (subst (λ (p : Plan A). IsAt (Some at.h) loads sizes p next next_begun) (sym at.planned) stands)
+      (subst (λ (p : DecisionPart A). IsAt (Some at.h) loads sizes p next next_begun) (sym at.planned) stands)
 
   -- all moves are whole
   pub all_come : (next : List (ℕ × ℕ × ℕ)) (rest : List ℕ) → begun ≡ [] → moves_text next ++ rest ≡ moves_text list ++ bytes → AreMoves count next → length next ≡ all

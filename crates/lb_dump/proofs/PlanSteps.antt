@@ -13,14 +13,14 @@ use Rattle.lb_dump.specs.declared.head.Format.{Format}
 use Rattle.lb_dump.specs.declared.head.Format.TheVariants.{Lbd1, Lbd2}
 use Rattle.lb_dump.specs.declared.head.Head.{Head}
 use Rattle.lb_dump.specs.Plans.{IsBegun, IsPlan}
-use Rattle.lb_dump.specs.declared.plan.Plan.{Plan}
-use Rattle.lb_dump.specs.declared.plan.Plan.TheVariants.{Begun, Nothing, Made}
+use Rattle.lb_dump.specs.declared.plan.DecisionPart.{DecisionPart}
+use Rattle.lb_dump.specs.declared.plan.DecisionPart.TheVariants.{Begun, Nothing, Made}
 use Rattle.lb_dump.specs.Held.{HasBegunPlan, IsAt, IsAtElements, IsAtHead, front_text, plan_part}
 use Rattle.lb_dump.proofs.Standing.{left, no_element}
 use Rattle.lb_dump.proofs.Steps.{broken_behind, comes_behind, fresh_elements, head_comes, left_breaks, no_move_begun, none_yet, plan_comes}
 
 -- before the head is whole there is no other part
-pub at_head : {A : Type 0} (head : Option Head) (loads : List ℕ) (sizes : List (ℕ × ℕ)) (plan : Plan A) (list : List (ℕ × ℕ × ℕ))
+pub at_head : {A : Type 0} (head : Option Head) (loads : List ℕ) (sizes : List (ℕ × ℕ)) (plan : DecisionPart A) (list : List (ℕ × ℕ × ℕ))
     (begun : List ℕ) → IsAt head loads sizes plan list begun → head ≡ None
     → (plan ≡ Begun) × IsAtHead loads sizes list begun
 at_head None loads sizes Begun list begun at none = (refl, at)
@@ -28,7 +28,7 @@ at_head None loads sizes Nothing list begun at none = absurd at
 at_head None loads sizes (Made r all) list begun at none = absurd at
 at_head (Some h) loads sizes plan list begun at none = absurd (let e = none in cc)
 
-module _ (A : Type 0) (head : Option Head) (loads : List ℕ) (sizes : List (ℕ × ℕ)) (plan : Plan A) (list : List (ℕ × ℕ × ℕ)) (begun bytes : List ℕ)
+module _ (A : Type 0) (head : Option Head) (loads : List ℕ) (sizes : List (ℕ × ℕ)) (plan : DecisionPart A) (list : List (ℕ × ℕ × ℕ)) (begun bytes : List ℕ)
     (held : IsAt head loads sizes plan list begun) (headless : head ≡ None) where
   old : IsAtHead loads sizes list begun
   old = (at_head head loads sizes plan list begun held headless).1
@@ -46,7 +46,7 @@ module _ (A : Type 0) (head : Option Head) (loads : List ℕ) (sizes : List (ℕ
   head_goes_on start rest next_begun parts grown short unfinished = (
     ap (λ (t : List ℕ). (front_text head loads sizes plan list ++ t) ++ rest) grown ∙ comes_behind (front_text head loads sizes plan list) begun start rest bytes parts,
     subst (λ (x : Option Head). IsAt x loads sizes plan list next_begun) (sym headless)
-        (subst (λ (p : Plan A). IsAt None loads sizes p list next_begun) (sym fresh)
+        (subst (λ (p : DecisionPart A). IsAt None loads sizes p list next_begun) (sym fresh)
         (record {
           no_loads = old.no_loads;
           no_sizes = old.no_sizes;
@@ -62,9 +62,9 @@ module _ (A : Type 0) (head : Option Head) (loads : List ℕ) (sizes : List (ℕ
   head_ends h start rest parts is spelled = (
     rw (old.no_loads, old.no_sizes, old.no_moves)
         (subst (λ (x : Option Head). (front_text (Some h) [] [] plan [] ++ []) ++ rest ≡ (front_text x [] [] plan [] ++ begun) ++ bytes) (sym headless)
-        (subst (λ (p : Plan A). (front_text (Some h) [] [] p [] ++ []) ++ rest ≡ (front_text None [] [] p [] ++ begun) ++ bytes) (sym fresh)
+        (subst (λ (p : DecisionPart A). (front_text (Some h) [] [] p [] ++ []) ++ rest ≡ (front_text None [] [] p [] ++ begun) ++ bytes) (sym fresh)
         (ap (λ (t : List ℕ). t ++ rest) (head_comes A h (begun ++ start) spelled) ∙ comes_behind (front_text {A = A} None [] [] Begun []) begun start rest bytes parts))),
-    subst (λ (p : Plan A). IsAt (Some h) loads sizes p list []) (sym fresh)
+    subst (λ (p : DecisionPart A). IsAt (Some h) loads sizes p list []) (sym fresh)
         (rw (old.no_loads, old.no_sizes, old.no_moves) (fresh_elements h [] [] (none_yet h is))),
   )
 
@@ -77,7 +77,7 @@ module _ (A : Type 0) (head : Option Head) (loads : List ℕ) (sizes : List (ℕ
       (subst (λ (x : Option Head). judge (left x (length loads) plan (length list)) (begun ++ start) ≡ Broken e) (sym headless) broken))
 
 -- after all elements of LBD2 a plan has begun
-pub at_plan : {A : Type 0} (head : Option Head) (loads : List ℕ) (sizes : List (ℕ × ℕ)) (plan : Plan A) (list : List (ℕ × ℕ × ℕ))
+pub at_plan : {A : Type 0} (head : Option Head) (loads : List ℕ) (sizes : List (ℕ × ℕ)) (plan : DecisionPart A) (list : List (ℕ × ℕ × ℕ))
     (begun : List ℕ) (h : Head) → IsAt head loads sizes plan list begun → head ≡ Some h → plan ≡ Begun
     → IsAtElements h loads sizes list begun
 at_plan None loads sizes plan list begun h at headed none = absurd (let e = headed in cc)
@@ -95,7 +95,7 @@ plan_of_wide : (format : Format) (count : ℕ) (begun : List ℕ) → format ≡
 plan_of_wide Lbd1 count begun wide is unfinished = cc
 plan_of_wide Lbd2 count begun wide is unfinished = (is, unfinished)
 
-module _ (A : Type 0) (head : Option Head) (loads : List ℕ) (sizes : List (ℕ × ℕ)) (plan : Plan A) (list : List (ℕ × ℕ × ℕ)) (begun bytes : List ℕ) (h : Head)
+module _ (A : Type 0) (head : Option Head) (loads : List ℕ) (sizes : List (ℕ × ℕ)) (plan : DecisionPart A) (list : List (ℕ × ℕ × ℕ)) (begun bytes : List ℕ) (h : Head)
     (held : IsAt head loads sizes plan list begun) (headed : head ≡ Some h) (all : length loads ≡ h.count) (wide : h.format ≡ Lbd2) (none : plan ≡ Begun) where
   at : IsAtElements h loads sizes list begun
   at = at_plan head loads sizes plan list begun h held headed none
@@ -107,15 +107,15 @@ module _ (A : Type 0) (head : Option Head) (loads : List ℕ) (sizes : List (ℕ
   few_elements = at.some.head.few
 
   -- more bytes of the plan
-  pub plan_goes_on : (next : Plan A) (start rest next_begun : List ℕ) → bytes ≡ start ++ rest → next_begun ≡ begun ++ start → next ≡ Begun → IsPlan next_begun h.count next
+  pub plan_goes_on : (next : DecisionPart A) (start rest next_begun : List ℕ) → bytes ≡ start ++ rest → next_begun ≡ begun ++ start → next ≡ Begun → IsPlan next_begun h.count next
       → ((front_text head loads sizes next list ++ next_begun) ++ rest ≡ (front_text head loads sizes plan list ++ begun) ++ bytes) × IsAt head loads sizes next list next_begun
   plan_goes_on next start rest next_begun parts grown more is =
       let same : next ≡ plan = more ∙ sym none in
-      let begins : IsPlan {A = A} next_begun h.count Begun = subst (λ (p : Plan A). IsPlan next_begun h.count p) more is in (
-        ap (λ (p : Plan A). (front_text head loads sizes p list ++ next_begun) ++ rest) same
+      let begins : IsPlan {A = A} next_begun h.count Begun = subst (λ (p : DecisionPart A). IsPlan next_begun h.count p) more is in (
+        ap (λ (p : DecisionPart A). (front_text head loads sizes p list ++ next_begun) ++ rest) same
             ∙ ap (λ (t : List ℕ). (front_text head loads sizes plan list ++ t) ++ rest) grown ∙ comes_behind (front_text head loads sizes plan list) begun start rest bytes parts,
         subst (λ (x : Option Head). IsAt x loads sizes next list next_begun) (sym headed)
-            (subst (λ (p : Plan A). IsAt (Some h) loads sizes p list next_begun) (sym more)
+            (subst (λ (p : DecisionPart A). IsAt (Some h) loads sizes p list next_begun) (sym more)
             (record {
               some = at.some;
               no_moves = at.no_moves;
@@ -131,29 +131,29 @@ module _ (A : Type 0) (head : Option Head) (loads : List ℕ) (sizes : List (ℕ
       broken_behind (front_text head loads sizes plan list) begun start rest bytes e parts
       (left_breaks A head loads sizes plan list begun (begun ++ start) e held
       (subst (λ (x : Option Head). judge (left x (length loads) plan (length list)) (begun ++ start) ≡ Broken e) (sym headed)
-      (subst (λ (p : Plan A). judge (left (Some h) (length loads) p (length list)) (begun ++ start) ≡ Broken e) (sym none)
+      (subst (λ (p : DecisionPart A). judge (left (Some h) (length loads) p (length list)) (begun ++ start) ≡ Broken e) (sym none)
       (ap (λ l. judge l (begun ++ start)) (no_element (load_width h.format) h.procs (length loads) (h.count - length loads) (behind h.format h.count) (omega (arith, all)))
       ∙ ap (λ f. judge (behind f h.count) (begun ++ start)) wide
       ∙ subst (λ (t : List ℕ). judge (ending h.count) t ≡ Broken e) grown broken))))
 
   -- the plan is whole
-  pub plan_ends : (next : Plan A) (start rest whole : List ℕ) → bytes ≡ start ++ rest → whole ≡ begun ++ start → (next ≢ Begun) → IsPlan whole h.count next
+  pub plan_ends : (next : DecisionPart A) (start rest whole : List ℕ) → bytes ≡ start ++ rest → whole ≡ begun ++ start → (next ≢ Begun) → IsPlan whole h.count next
       → ((front_text head loads sizes next list ++ []) ++ rest ≡ (front_text head loads sizes plan list ++ begun) ++ bytes) × IsAt head loads sizes next list []
   plan_ends next start rest whole parts grown made is = (
     subst (λ (x : Option Head). (front_text x loads sizes next list ++ []) ++ rest ≡ (front_text x loads sizes plan list ++ begun) ++ bytes) (sym headed)
-        (subst (λ (p : Plan A). (front_text (Some h) loads sizes next list ++ []) ++ rest ≡ (front_text (Some h) loads sizes p list ++ begun) ++ bytes) (sym none)
+        (subst (λ (p : DecisionPart A). (front_text (Some h) loads sizes next list ++ []) ++ rest ≡ (front_text (Some h) loads sizes p list ++ begun) ++ bytes) (sym none)
         (rw at.no_moves
         (ap (λ (t : List ℕ). t ++ rest) (plan_comes A h loads sizes next (begun ++ start) (spells next is made ∙ grown))
         ∙ comes_behind (front_text {A = A} (Some h) loads sizes Begun []) begun start rest bytes parts))),
     subst (λ (x : Option Head). IsAt x loads sizes next list []) (sym headed) (stands next is made),
   )
     where
-      spells : (p : Plan A) → IsPlan whole h.count p → (p ≢ Begun) → plan_part p ≡ whole
+      spells : (p : DecisionPart A) → IsPlan whole h.count p → (p ≢ Begun) → plan_part p ≡ whole
       spells Begun is made = absurd (made refl)
       spells Nothing is made = sym is
       spells (Made r n) is made = sym is.spelled
 
-      stands : (p : Plan A) → IsPlan whole h.count p → (p ≢ Begun) → IsAt (Some h) loads sizes p list []
+      stands : (p : DecisionPart A) → IsPlan whole h.count p → (p ≢ Begun) → IsAt (Some h) loads sizes p list []
       stands Begun is made = absurd (made refl)
       stands Nothing is made = record { some = at.some; all = all; wide = wide; no_moves = at.no_moves; no_bytes = refl }
       stands (Made r n) is made =

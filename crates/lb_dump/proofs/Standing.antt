@@ -17,8 +17,8 @@ use Rattle.lb_dump.specs.declared.head.Format.{Format}
 use Rattle.lb_dump.specs.declared.head.Format.TheVariants.{Lbd1, Lbd2}
 use Rattle.lb_dump.specs.declared.head.Head.{Head}
 use Rattle.lb_dump.specs.Plans.{IsMade, plan_bytes}
-use Rattle.lb_dump.specs.declared.plan.Plan.{Plan}
-use Rattle.lb_dump.specs.declared.plan.Plan.TheVariants.{Begun, Nothing, Made}
+use Rattle.lb_dump.specs.declared.plan.DecisionPart.{DecisionPart}
+use Rattle.lb_dump.specs.declared.plan.DecisionPart.TheVariants.{Begun, Nothing, Made}
 use Rattle.lb_dump.specs.Held.{AreSome, HasBegunElement, HasBegunMove, HasBegunPlan, IsAt, IsAtElements, front_text}
 use Rattle.lb_dump.proofs.Heads.{head_read}
 use Rattle.lb_dump.proofs.ElementTexts.{elements_read, next_element}
@@ -27,7 +27,7 @@ use Rattle.lb_dump.proofs.Partial.{element_unfinished, move_unfinished}
 use Rattle.lb_dump.proofs.MadePlans.{made_judged, none_judged}
 
 -- the fields that are left after the parts that are whole
-abbrev pub left : {A : Type 0} → Option Head → ℕ → Plan A → ℕ → Layout
+abbrev pub left : {A : Type 0} → Option Head → ℕ → DecisionPart A → ℕ → Layout
 left None j plan k = dump
 left (Some h) j Begun k = elements (load_width h.format) h.procs j (h.count - j) (behind h.format h.count)
 left (Some h) j Nothing k = End
@@ -60,7 +60,7 @@ behind_all h loads sizes more some all =
     ∙ ap (λ l. judge l more) (no_element (load_width h.format) h.procs (length loads) (h.count - length loads) (behind h.format h.count) (omega arith))
 
 -- the fields that are left are the ones to judge what follows by
-pub front_judged : {A : Type 0} (head : Option Head) (loads : List ℕ) (sizes : List (ℕ × ℕ)) (plan : Plan A) (list : List (ℕ × ℕ × ℕ))
+pub front_judged : {A : Type 0} (head : Option Head) (loads : List ℕ) (sizes : List (ℕ × ℕ)) (plan : DecisionPart A) (list : List (ℕ × ℕ × ℕ))
     (begun more : List ℕ) → IsAt head loads sizes plan list begun
     → judge dump (front_text head loads sizes plan list ++ more) ≡ judge (left head (length loads) plan (length list)) more
 unfolding front_text
@@ -110,13 +110,13 @@ plan_left Lbd2 count begun wide is = is.1
 
 -- What is found in the text so far, by where the reader is in it.
 module _ (A : Type 0) where
-  pub head_found : (loads : List ℕ) (sizes : List (ℕ × ℕ)) (plan : Plan A) (list : List (ℕ × ℕ × ℕ)) (begun : List ℕ) → IsAt None loads sizes plan list begun
+  pub head_found : (loads : List ℕ) (sizes : List (ℕ × ℕ)) (plan : DecisionPart A) (list : List (ℕ × ℕ × ℕ)) (begun : List ℕ) → IsAt None loads sizes plan list begun
       → judge dump (front_text None loads sizes plan list ++ begun) ≡ Unfinished
   head_found loads sizes Begun list begun at = front_judged None loads sizes Begun list begun begun at ∙ at.unfinished
   head_found loads sizes Nothing list begun at = absurd at
   head_found loads sizes (Made r all) list begun at = absurd at
 
-  pub element_found : (h : Head) (loads : List ℕ) (sizes : List (ℕ × ℕ)) (plan : Plan A) (list : List (ℕ × ℕ × ℕ)) (begun : List ℕ)
+  pub element_found : (h : Head) (loads : List ℕ) (sizes : List (ℕ × ℕ)) (plan : DecisionPart A) (list : List (ℕ × ℕ × ℕ)) (begun : List ℕ)
       → IsAt (Some h) loads sizes plan list begun → length loads < h.count
       → judge dump (front_text (Some h) loads sizes plan list ++ begun) ≡ Unfinished
   element_found h loads sizes Begun list begun at missing = front_judged (Some h) loads sizes Begun list begun begun at ∙ element_left h loads begun missing (at.element missing)
@@ -159,13 +159,13 @@ module _ (A : Type 0) where
 
 -- The same, where what the reader holds is given by equations.
 module _ (A : Type 0) where
-  pub found_head : (head : Option Head) (loads : List ℕ) (sizes : List (ℕ × ℕ)) (plan : Plan A) (list : List (ℕ × ℕ × ℕ)) (begun : List ℕ)
+  pub found_head : (head : Option Head) (loads : List ℕ) (sizes : List (ℕ × ℕ)) (plan : DecisionPart A) (list : List (ℕ × ℕ × ℕ)) (begun : List ℕ)
       → IsAt head loads sizes plan list begun → head ≡ None
       → judge dump (front_text head loads sizes plan list ++ begun) ≡ Unfinished
   found_head None loads sizes plan list begun at none = head_found A loads sizes plan list begun at
   found_head (Some h) loads sizes plan list begun at none = absurd (let e = none in cc)
 
-  pub found_element : (head : Option Head) (loads : List ℕ) (sizes : List (ℕ × ℕ)) (plan : Plan A) (list : List (ℕ × ℕ × ℕ))
+  pub found_element : (head : Option Head) (loads : List ℕ) (sizes : List (ℕ × ℕ)) (plan : DecisionPart A) (list : List (ℕ × ℕ × ℕ))
       (begun : List ℕ) (h : Head) → IsAt head loads sizes plan list begun → head ≡ Some h → length loads < h.count
       → judge dump (front_text head loads sizes plan list ++ begun) ≡ Unfinished
   found_element None loads sizes plan list begun h at is missing = absurd (let e = is in cc)
@@ -173,7 +173,7 @@ module _ (A : Type 0) where
       let same : h ≡ k = cc in
       element_found A k loads sizes plan list begun at (subst (λ (x : Head). length loads < x.count) same missing)
 
-  pub found_narrow : (head : Option Head) (loads : List ℕ) (sizes : List (ℕ × ℕ)) (plan : Plan A) (list : List (ℕ × ℕ × ℕ)) (begun : List ℕ)
+  pub found_narrow : (head : Option Head) (loads : List ℕ) (sizes : List (ℕ × ℕ)) (plan : DecisionPart A) (list : List (ℕ × ℕ × ℕ)) (begun : List ℕ)
       (h : Head) → IsAt head loads sizes plan list begun → head ≡ Some h → h.count ≤ length loads → plan ≡ Begun → h.format ≡ Lbd1
       → judge dump (front_text head loads sizes plan list ++ begun) ≡ Whole
   found_narrow None loads sizes plan list begun h at is enough fresh narrow = absurd (let e = is in cc)
@@ -183,7 +183,7 @@ module _ (A : Type 0) where
   found_narrow (Some k) loads sizes Nothing list begun h at is enough fresh narrow = absurd (let e = fresh in cc)
   found_narrow (Some k) loads sizes (Made r all) list begun h at is enough fresh narrow = absurd (let e = fresh in cc)
 
-  pub found_plan : (head : Option Head) (loads : List ℕ) (sizes : List (ℕ × ℕ)) (plan : Plan A) (list : List (ℕ × ℕ × ℕ)) (begun : List ℕ)
+  pub found_plan : (head : Option Head) (loads : List ℕ) (sizes : List (ℕ × ℕ)) (plan : DecisionPart A) (list : List (ℕ × ℕ × ℕ)) (begun : List ℕ)
       (h : Head) → IsAt head loads sizes plan list begun → head ≡ Some h → h.count ≤ length loads → plan ≡ Begun → h.format ≡ Lbd2
       → judge dump (front_text head loads sizes plan list ++ begun) ≡ Unfinished
   found_plan None loads sizes plan list begun h at is enough fresh wide = absurd (let e = is in cc)
@@ -193,7 +193,7 @@ module _ (A : Type 0) where
   found_plan (Some k) loads sizes Nothing list begun h at is enough fresh wide = absurd (let e = fresh in cc)
   found_plan (Some k) loads sizes (Made r all) list begun h at is enough fresh wide = absurd (let e = fresh in cc)
 
-  pub found_nothing : (head : Option Head) (loads : List ℕ) (sizes : List (ℕ × ℕ)) (plan : Plan A) (list : List (ℕ × ℕ × ℕ))
+  pub found_nothing : (head : Option Head) (loads : List ℕ) (sizes : List (ℕ × ℕ)) (plan : DecisionPart A) (list : List (ℕ × ℕ × ℕ))
       (begun : List ℕ) → IsAt head loads sizes plan list begun → plan ≡ Nothing
       → judge dump (front_text head loads sizes plan list ++ begun) ≡ Whole
   found_nothing head loads sizes Begun list begun at none = absurd (let e = none in cc)
@@ -201,7 +201,7 @@ module _ (A : Type 0) where
   found_nothing (Some h) loads sizes Nothing list begun at none = nothing_found A h loads sizes list begun at
   found_nothing head loads sizes (Made r all) list begun at none = absurd (let e = none in cc)
 
-  pub found_moves : (head : Option Head) (loads : List ℕ) (sizes : List (ℕ × ℕ)) (plan : Plan A) (list : List (ℕ × ℕ × ℕ)) (begun : List ℕ)
+  pub found_moves : (head : Option Head) (loads : List ℕ) (sizes : List (ℕ × ℕ)) (plan : DecisionPart A) (list : List (ℕ × ℕ × ℕ)) (begun : List ℕ)
       (r : Recorded A) (all : ℕ) → IsAt head loads sizes plan list begun → plan ≡ Made r all
       → MatchBool (nat_le all (length list)) (judge dump (front_text head loads sizes plan list ++ begun) ≡ Whole)
       (judge dump (front_text head loads sizes plan list ++ begun) ≡ Unfinished)
@@ -218,7 +218,7 @@ module _ (A : Type 0) where
       ])
 
   -- a text that is not whole lacks a move, or a plan
-  pub move_missing : (head : Option Head) (loads : List ℕ) (sizes : List (ℕ × ℕ)) (plan : Plan A) (list : List (ℕ × ℕ × ℕ)) (begun : List ℕ)
+  pub move_missing : (head : Option Head) (loads : List ℕ) (sizes : List (ℕ × ℕ)) (plan : DecisionPart A) (list : List (ℕ × ℕ × ℕ)) (begun : List ℕ)
       (r : Recorded A) (all : ℕ) → IsAt head loads sizes plan list begun → plan ≡ Made r all
       → judge dump (front_text head loads sizes plan list ++ begun) ≡ Unfinished → length list < all
   move_missing head loads sizes Begun list begun r all at made unfinished = absurd (let e = made in cc)
@@ -231,7 +231,7 @@ module _ (A : Type 0) where
         | inr enough ↦ absurd (let found = all_found A h loads sizes q n list begun at (omega (arith, at.few_moves, enough)) in cc)
       ]
 
-  pub all_elements : (head : Option Head) (loads : List ℕ) (sizes : List (ℕ × ℕ)) (plan : Plan A) (list : List (ℕ × ℕ × ℕ)) (begun : List ℕ)
+  pub all_elements : (head : Option Head) (loads : List ℕ) (sizes : List (ℕ × ℕ)) (plan : DecisionPart A) (list : List (ℕ × ℕ × ℕ)) (begun : List ℕ)
       (h : Head) → IsAt head loads sizes plan list begun → head ≡ Some h → h.count ≤ length loads → length loads ≡ h.count
   all_elements None loads sizes plan list begun h at is enough = absurd (let e = is in cc)
   all_elements (Some k) loads sizes Begun list begun h at is enough =
@@ -244,7 +244,7 @@ module _ (A : Type 0) where
       let same : h ≡ k = cc in
       omega (arith, ap (λ (x : Head). x.count) same, at.all)
 
-  pub plan_missing : (head : Option Head) (loads : List ℕ) (sizes : List (ℕ × ℕ)) (plan : Plan A) (list : List (ℕ × ℕ × ℕ)) (begun : List ℕ)
+  pub plan_missing : (head : Option Head) (loads : List ℕ) (sizes : List (ℕ × ℕ)) (plan : DecisionPart A) (list : List (ℕ × ℕ × ℕ)) (begun : List ℕ)
       (h : Head) → IsAt head loads sizes plan list begun → head ≡ Some h → h.count ≤ length loads → plan ≡ Begun
       → judge dump (front_text head loads sizes plan list ++ begun) ≡ Unfinished → h.format ≡ Lbd2
   plan_missing head loads sizes plan list begun h at is enough fresh unfinished = by_format h.format refl
@@ -253,7 +253,7 @@ module _ (A : Type 0) where
       by_format Lbd1 narrow = absurd (let found = found_narrow head loads sizes plan list begun h at is enough fresh narrow in cc)
       by_format Lbd2 wide = wide
 
-  pub plan_begun : (head : Option Head) (loads : List ℕ) (sizes : List (ℕ × ℕ)) (plan : Plan A) (list : List (ℕ × ℕ × ℕ)) (begun : List ℕ)
+  pub plan_begun : (head : Option Head) (loads : List ℕ) (sizes : List (ℕ × ℕ)) (plan : DecisionPart A) (list : List (ℕ × ℕ × ℕ)) (begun : List ℕ)
       → IsAt head loads sizes plan list begun → (plan ≡ Begun) ⊎ (plan ≡ Nothing)
       → judge dump (front_text head loads sizes plan list ++ begun) ≡ Unfinished → plan ≡ Begun
   plan_begun head loads sizes plan list begun at (inl fresh) unfinished = fresh
@@ -265,7 +265,7 @@ told_by true P Q R S told if_so if_not = if_so told
 told_by false P Q R S told if_so if_not = if_not told
 
 -- nothing is wrong with the text so far
-pub held_good : (A : Type 0) (head : Option Head) (loads : List ℕ) (sizes : List (ℕ × ℕ)) (plan : Plan A) (list : List (ℕ × ℕ × ℕ))
+pub held_good : (A : Type 0) (head : Option Head) (loads : List ℕ) (sizes : List (ℕ × ℕ)) (plan : DecisionPart A) (list : List (ℕ × ℕ × ℕ))
     (begun : List ℕ) → IsAt head loads sizes plan list begun → IsGood (front_text head loads sizes plan list ++ begun)
 held_good A None loads sizes plan list begun at = inr (head_found A loads sizes plan list begun at)
 held_good A (Some h) loads sizes Begun list begun at =

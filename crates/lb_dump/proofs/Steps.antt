@@ -19,8 +19,8 @@ use Rattle.lb_dump.specs.Moves.{moves_text}
 use Rattle.lb_dump.specs.declared.head.Format.{Format}
 use Rattle.lb_dump.specs.declared.head.Format.TheVariants.{Lbd1, Lbd2}
 use Rattle.lb_dump.specs.declared.head.Head.{Head}
-use Rattle.lb_dump.specs.declared.plan.Plan.{Plan}
-use Rattle.lb_dump.specs.declared.plan.Plan.TheVariants.{Begun, Made}
+use Rattle.lb_dump.specs.declared.plan.DecisionPart.{DecisionPart}
+use Rattle.lb_dump.specs.declared.plan.DecisionPart.TheVariants.{Begun, Made}
 use Rattle.lb_dump.specs.Held.{AreSome, HasBegunElement, HasBegunMove, HasBegunPlan, IsAt, IsAtElements, IsAtMoves, elements_part, front_text, head_part, plan_part}
 use Rattle.lb_dump.proofs.Heads.{head_read}
 use Rattle.lb_dump.proofs.BegunPlans.{none_begun}
@@ -98,13 +98,13 @@ module _ (A : Type 0) where
       rw (front_elements A h loads sizes, append_assoc (head_text h) (elements_of h loads sizes) bytes) (head_read h is (elements_of h loads sizes ++ bytes) ∙ broken)
 
   -- a fault of what has begun, judged by the fields that are left, is the fault of the text
-  pub left_breaks : (head : Option Head) (loads : List ℕ) (sizes : List (ℕ × ℕ)) (plan : Plan A) (list : List (ℕ × ℕ × ℕ))
+  pub left_breaks : (head : Option Head) (loads : List ℕ) (sizes : List (ℕ × ℕ)) (plan : DecisionPart A) (list : List (ℕ × ℕ × ℕ))
       (begun bytes : List ℕ) (e : DumpError) → IsAt head loads sizes plan list begun
       → judge (left head (length loads) plan (length list)) bytes ≡ Broken e → IsBroken (front_text head loads sizes plan list ++ bytes) e
   left_breaks head loads sizes plan list begun bytes e at broken = front_judged head loads sizes plan list begun bytes at ∙ broken
 
   -- the text once the plan is whole
-  pub plan_comes : (h : Head) (loads : List ℕ) (sizes : List (ℕ × ℕ)) (plan : Plan A) (bytes : List ℕ) → plan_part plan ≡ bytes
+  pub plan_comes : (h : Head) (loads : List ℕ) (sizes : List (ℕ × ℕ)) (plan : DecisionPart A) (bytes : List ℕ) → plan_part plan ≡ bytes
       → front_text (Some h) loads sizes plan [] ++ [] ≡ front_text {A = A} (Some h) loads sizes Begun [] ++ bytes
   unfolding front_text
   plan_comes h loads sizes plan bytes e =
@@ -117,7 +117,7 @@ module _ (A : Type 0) where
       ) refl
 
   -- the text once more moves are whole
-  pub moves_come : (head : Option Head) (loads : List ℕ) (sizes : List (ℕ × ℕ)) (plan : Plan A) (list next : List (ℕ × ℕ × ℕ))
+  pub moves_come : (head : Option Head) (loads : List ℕ) (sizes : List (ℕ × ℕ)) (plan : DecisionPart A) (list next : List (ℕ × ℕ × ℕ))
       (rest bytes : List ℕ) → moves_text next ++ rest ≡ moves_text list ++ bytes
       → front_text head loads sizes plan next ++ rest ≡ front_text head loads sizes plan list ++ bytes
   unfolding front_text

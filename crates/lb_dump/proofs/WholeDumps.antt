@@ -14,8 +14,8 @@ use Rattle.lb_dump.specs.declared.head.Format.{Format}
 use Rattle.lb_dump.specs.declared.head.Format.TheVariants.{Lbd1, Lbd2}
 use Rattle.lb_dump.specs.declared.head.Head.{Head}
 use Rattle.lb_dump.specs.Plans.{plan_bytes}
-use Rattle.lb_dump.specs.declared.plan.Plan.{Plan}
-use Rattle.lb_dump.specs.declared.plan.Plan.TheVariants.{Begun, Nothing, Made}
+use Rattle.lb_dump.specs.declared.plan.DecisionPart.{DecisionPart}
+use Rattle.lb_dump.specs.declared.plan.DecisionPart.TheVariants.{Begun, Nothing, Made}
 use Rattle.lb_dump.specs.Held.{AreSome, IsAt, IsAtElements, IsAtMoves, IsAtNothing, front_text}
 use Rattle.lb_dump.specs.Made.{recorded_with, taken_of, with_moves}
 use Rattle.lb_dump.proofs.Standing.{element_found, front_elements, head_found, move_found, plan_found}
@@ -132,7 +132,7 @@ module _ {A : Type 0} where
       }
 
   -- a text that is whole has all its elements and all its moves
-  all_elements : (h : Head) (loads : List ℕ) (sizes : List (ℕ × ℕ)) (plan : Plan A) (list : List (ℕ × ℕ × ℕ)) (begun : List ℕ)
+  all_elements : (h : Head) (loads : List ℕ) (sizes : List (ℕ × ℕ)) (plan : DecisionPart A) (list : List (ℕ × ℕ × ℕ)) (begun : List ℕ)
       → IsAt (Some h) loads sizes plan list begun → length loads ≤ h.count
       → IsWhole (front_text (Some h) loads sizes plan list ++ begun) → length loads ≡ h.count
   all_elements h loads sizes plan list begun at few whole =
@@ -142,7 +142,7 @@ module _ {A : Type 0} where
       ]
 
   -- the text is that of the dump that is made of it
-  pub text_made : (head : Option Head) (loads : List ℕ) (sizes : List (ℕ × ℕ)) (plan : Plan A) (list : List (ℕ × ℕ × ℕ)) (begun : List ℕ) → IsAt head loads sizes plan list begun
+  pub text_made : (head : Option Head) (loads : List ℕ) (sizes : List (ℕ × ℕ)) (plan : DecisionPart A) (list : List (ℕ × ℕ × ℕ)) (begun : List ℕ) → IsAt head loads sizes plan list begun
       → IsWhole (front_text head loads sizes plan list ++ begun)
       → (h : Head) × (head ≡ Some h) × AreSome h loads sizes × MayRecord (length loads) (recorded_with plan list)
       × IsText {A = A} (record { snapshot = taken_of h loads sizes; recorded = recorded_with plan list }) (front_text head loads sizes plan list ++ begun)

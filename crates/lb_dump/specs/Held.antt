@@ -15,8 +15,8 @@ use Rattle.lb_dump.specs.declared.head.Format.{Format}
 use Rattle.lb_dump.specs.declared.head.Format.TheVariants.{Lbd1, Lbd2}
 use Rattle.lb_dump.specs.declared.head.Head.{Head}
 use Rattle.lb_dump.specs.Plans.{IsBegun, plan_bytes}
-use Rattle.lb_dump.specs.declared.plan.Plan.{Plan}
-use Rattle.lb_dump.specs.declared.plan.Plan.TheVariants.{Begun, Nothing, Made}
+use Rattle.lb_dump.specs.declared.plan.DecisionPart.{DecisionPart}
+use Rattle.lb_dump.specs.declared.plan.DecisionPart.TheVariants.{Begun, Nothing, Made}
 use Rattle.lb_dump.specs.declared.held.Held.{Held}
 
 -- the bytes of the parts that are whole
@@ -28,13 +28,13 @@ abbrev pub elements_part : Option Head → List ℕ → List (ℕ × ℕ) → Li
 elements_part None loads sizes = []
 elements_part (Some h) loads sizes = elements_of h loads sizes
 
-abbrev pub plan_part : {A : Type 0} → Plan A → List ℕ
+abbrev pub plan_part : {A : Type 0} → DecisionPart A → List ℕ
 plan_part Begun = []
 plan_part Nothing = word 0
 plan_part (Made r moves) = word 1 ++ plan_bytes r moves
 
 -- the text up to the last part that is whole
-unfoldable pub front_text : {A : Type 0} → Option Head → List ℕ → List (ℕ × ℕ) → Plan A → List (ℕ × ℕ × ℕ) → List ℕ
+unfoldable pub front_text : {A : Type 0} → Option Head → List ℕ → List (ℕ × ℕ) → DecisionPart A → List (ℕ × ℕ × ℕ) → List ℕ
 front_text head loads sizes plan moves =
     head_part head ++ (elements_part head loads sizes ++ (plan_part plan ++ moves_text moves))
 
@@ -103,7 +103,7 @@ pub record IsAtMoves {A : Type 0} (h : Head) (loads : List ℕ) (sizes : List (�
   pub no_bytes : length moves ≡ all_moves → begun ≡ []
 
 -- where a reader is in its text, and that nothing is wrong so far
-abbrev pub IsAt : {A : Type 0} → Option Head → List ℕ → List (ℕ × ℕ) → Plan A → List (ℕ × ℕ × ℕ) → List ℕ → Type 0
+abbrev pub IsAt : {A : Type 0} → Option Head → List ℕ → List (ℕ × ℕ) → DecisionPart A → List (ℕ × ℕ × ℕ) → List ℕ → Type 0
 IsAt None loads sizes Begun moves begun = IsAtHead loads sizes moves begun
 IsAt None loads sizes Nothing moves begun = ⊥
 IsAt None loads sizes (Made r all) moves begun = ⊥
@@ -115,7 +115,7 @@ abbrev pub IsHeld : {A : Type 0} → Held A → Type 0
 IsHeld held = IsAt held.head held.loads.items held.sizes.items held.plan held.moves.items held.begun.items
 
 -- the plan is whole, and says that this number of moves follow
-abbrev pub HasMoves : {A : Type 0} → Plan A → ℕ → Type 0
+abbrev pub HasMoves : {A : Type 0} → DecisionPart A → ℕ → Type 0
 HasMoves Begun all = ⊥
 HasMoves Nothing all = ⊥
 HasMoves (Made r moves) all = moves ≡ all

@@ -5,8 +5,8 @@ use Rattle.lb_snapshot.specs.Measured.{Taken}
 use Rattle.lb_dump.specs.Plans.{floor_kind, plan_len}
 use Rattle.dump_format.specs.declared.recorded.Recorded.{Recorded}
 use Rattle.lb_dump.specs.declared.head.Head.{Head}
-use Rattle.lb_dump.specs.declared.plan.Plan.{Plan}
-use Rattle.lb_dump.specs.declared.plan.Plan.TheVariants.{Begun, Nothing, Made}
+use Rattle.lb_dump.specs.declared.plan.DecisionPart.{DecisionPart}
+use Rattle.lb_dump.specs.declared.plan.DecisionPart.TheVariants.{Begun, Nothing, Made}
 
 -- the snapshot of a head and its elements
 abbrev pub taken_of : Head → List ℕ → List (ℕ × ℕ) → Taken
@@ -17,19 +17,19 @@ abbrev pub with_moves : {A : Type 0} → Recorded A → List (ℕ × ℕ × ℕ)
 with_moves r moves = record r { decision = record r.decision { moves = moves } }
 
 -- what was recorded: a plan that is made, with its moves
-abbrev pub recorded_with : {A : Type 0} → Plan A → List (ℕ × ℕ × ℕ) → Option (Recorded A)
+abbrev pub recorded_with : {A : Type 0} → DecisionPart A → List (ℕ × ℕ × ℕ) → Option (Recorded A)
 recorded_with Begun moves = None
 recorded_with Nothing moves = None
 recorded_with (Made r all) moves = Some (with_moves r moves)
 
 -- the length of a plan that is whole
-abbrev pub plan_size : {A : Type 0} → Plan A → ℕ
+abbrev pub plan_size : {A : Type 0} → DecisionPart A → ℕ
 plan_size Begun = 0
 plan_size Nothing = 4
 plan_size (Made r all) = plan_len r.target (floor_kind r.decision.division.floor)
 
 -- where there is a decision, its target is at most 256
-abbrev pub HasTarget : {A : Type 0} → Plan A → Type 0
+abbrev pub HasTarget : {A : Type 0} → DecisionPart A → Type 0
 HasTarget Begun = Unit {0}
 HasTarget Nothing = Unit {0}
 HasTarget (Made r all) = r.target ≤ PES

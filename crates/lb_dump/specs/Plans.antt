@@ -9,8 +9,8 @@ use Rattle.dump_format.specs.Fields.{ending}
 use Rattle.dump_format.specs.Layout.{Unfinished, judge}
 use Rattle.dump_format.specs.Text.{word, long, price, floor_text}
 use Rattle.dump_format.specs.declared.recorded.Recorded.{Recorded}
-use Rattle.lb_dump.specs.declared.plan.Plan.{Plan}
-use Rattle.lb_dump.specs.declared.plan.Plan.TheVariants.{Begun, Nothing, Made}
+use Rattle.lb_dump.specs.declared.plan.DecisionPart.{DecisionPart}
+use Rattle.lb_dump.specs.declared.plan.DecisionPart.TheVariants.{Begun, Nothing, Made}
 
 -- the number in the four bytes from an offset on
 abbrev pub word_at : List ℕ → ℕ → ℕ
@@ -77,7 +77,7 @@ pub record IsMade {A : Type 0} (bytes : List ℕ) (count : ℕ) (r : Recorded A)
   pub few_moves : moves ≤ count
 
 -- what these bytes are, which follow this number of elements
-abbrev pub IsPlan : {A : Type 0} → List ℕ → ℕ → Plan A → Type 0
+abbrev pub IsPlan : {A : Type 0} → List ℕ → ℕ → DecisionPart A → Type 0
 IsPlan bytes count Begun = IsBegun bytes × (judge (ending count) bytes ≡ Unfinished)
 IsPlan bytes count Nothing = bytes ≡ word 0
 IsPlan bytes count (Made r moves) = IsMade bytes count r moves

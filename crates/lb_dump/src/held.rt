@@ -6,14 +6,14 @@ ghost use Rattle.dump_format.specs.Fields.{dump};
 ghost use Rattle.dump_format.specs.Layout.{judge, Unfinished};
 ghost use Rattle.lb_dump.specs.Heads.{IsHead, head_text};
 ghost use Rattle.lb_dump.specs.declared.head.Format.TheVariants.{Lbd2};
-ghost use Rattle.lb_dump.specs.declared.plan.Plan.TheVariants.{Begun};
+ghost use Rattle.lb_dump.specs.declared.plan.DecisionPart.TheVariants.{Begun};
 ghost use Rattle.lb_dump.specs.Held.{HasMoves, IsHeld, text_of};
 ghost use Rattle.lb_dump.specs.Reading.{HasGoodHead};
 
 use crate::elements::{judge_element, take_elements};
 use crate::head::{HEAD_LEN, Head, read_head};
 use crate::moves::{MOVE_LEN, judge_move, take_moves};
-use crate::plan::Plan;
+use crate::plan::DecisionPart;
 use crate::plan_reading::{plan_end, read_plan};
 use crate::whole_dump::is_whole;
 use chare_index::{Index, Pe};
@@ -32,7 +32,7 @@ pub(crate) struct Held<A: Allocator = Global> {
     /// Their sizes and places.
     pub(crate) sizes: Vec<(u32, Pe), A>,
     /// What follows the elements of LBD2, up to the moves.
-    pub(crate) plan: Plan<A>,
+    pub(crate) plan: DecisionPart<A>,
     /// The moves that are whole.
     pub(crate) moves: Vec<(Index, Pe, Pe), A>,
     /// The bytes of the part that has begun: the head, an element, a plan or a move.
@@ -84,8 +84,8 @@ fn take_next<'a, A: Allocator + Copy>(
         return take_element_bytes(held, head, bytes);
     }
     match held.plan {
-        Plan::Made(_, all) => take_move_bytes(held, head.count, all, bytes),
-        Plan::Begun | Plan::Nothing => take_plan(held, head, bytes),
+        DecisionPart::Made(_, all) => take_move_bytes(held, head.count, all, bytes),
+        DecisionPart::Begun | DecisionPart::Nothing => take_plan(held, head, bytes),
     }
 }
 
@@ -200,7 +200,7 @@ fn take_plan<'a, A: Allocator + Copy>(
     let (start, rest) = bytes.split_at(bytes.len().min(missing));
     held.begun.extend_from_slice(start)?;
     let plan = read_plan(alloc, &held.begun, head.count)?;
-    if let Plan::Begun = plan {
+    if let DecisionPart::Begun = plan {
         return Ok(rest);
     }
     held.begun.clear();

@@ -4,7 +4,7 @@ use std::alloc::{Allocator, Global};
 /// What the bytes after the elements are.
 #[derive(Drop)]
 #[derive_where(Debug)]
-pub(crate) enum Plan<A: Allocator = Global> {
+pub(crate) enum DecisionPart<A: Allocator = Global> {
     /// More bytes have to come.
     Begun,
     /// The flag 0: the text ends here.

@@ -8,7 +8,7 @@ ghost use Rattle.dump_format.specs.Layout.{judge, Broken};
 ghost use Rattle.lb_dump.specs.Plans.{IsBegun, IsPlan, IsRuleEnd, MayBegin, flag_in, kind_at, kind_in, plan_len, target_in};
 
 use crate::numbers::{WORD_LEN, word};
-use crate::plan::Plan;
+use crate::plan::DecisionPart;
 use crate::plan_lists::{after_floor, recorded_of};
 use chare_index::Limits;
 use dump_format::DumpError;
@@ -41,7 +41,7 @@ pub(crate) fn plan_end(begun: &[u8]) -> usize
     plan_len(target, word(&begun[kind_at..]))
 }
 
-/// The plan in these bytes, or [`Plan::Begun`] where more have to come. No memory is requested before all have come.
+/// The plan in these bytes, or [`DecisionPart::Begun`] where more have to come. No memory is requested before all have come.
 ///
 /// # Errors
 ///
@@ -50,7 +50,7 @@ pub(crate) fn read_plan<A: Allocator + Copy>(
     alloc: A,
     bytes: &[u8],
     count: u32,
-) -> Result<Plan<A>, DumpError>
+) -> Result<DecisionPart<A>, DumpError>
     requires begun { MayBegin bytes.now }
     requires few { count ≤ Limits.ELEMENTS }
     ensures plan { IfOk result (IsPlan bytes.now count) }
@@ -58,15 +58,15 @@ pub(crate) fn read_plan<A: Allocator + Copy>(
     ensures all_come { result ≡ Err DumpError.OutOfMemory → length bytes.now ≡ plan_len (target_in bytes.now) (kind_in bytes.now) }
 {
     if bytes.len() < TARGET_AT {
-        return Ok(Plan::Begun);
+        return Ok(DecisionPart::Begun);
     }
     match word(bytes) {
-        0 => return Ok(Plan::Nothing),
+        0 => return Ok(DecisionPart::Nothing),
         1 => {}
         _ => return Err(DumpError::Flag),
     }
     if bytes.len() < TARGET_AT + WORD_LEN {
-        return Ok(Plan::Begun);
+        return Ok(DecisionPart::Begun);
     }
     let target = word(&bytes[TARGET_AT..]);
     if !is_target(target) {
@@ -81,7 +81,7 @@ fn read_lists<A: Allocator + Copy>(
     bytes: &[u8],
     target: usize,
     count: u32,
-) -> Result<Plan<A>, DumpError>
+) -> Result<DecisionPart<A>, DumpError>
     requires begun { MayBegin bytes.now }
     requires flag { flag_in bytes.now ≡ 1 }
     requires long { 8 ≤ length bytes.now }
@@ -95,7 +95,7 @@ fn read_lists<A: Allocator + Copy>(
 {
     let kind_at = kind_at(target);
     if bytes.len() < kind_at + WORD_LEN {
-        return Ok(Plan::Begun);
+        return Ok(DecisionPart::Begun);
     }
     let kind = word(&bytes[kind_at..]);
     if !is_kind(kind) {
@@ -103,14 +103,14 @@ fn read_lists<A: Allocator + Copy>(
     }
     let len = plan_len(target, kind);
     if bytes.len() < len {
-        return Ok(Plan::Begun);
+        return Ok(DecisionPart::Begun);
     }
     let moves = word(&bytes[len - WORD_LEN..]);
     if moves > count {
         return Err(DumpError::MoveCount);
     }
     let recorded = recorded_of(alloc, bytes, target)?;
-    Ok(Plan::Made(recorded, moves))
+    Ok(DecisionPart::Made(recorded, moves))
 }
 
 // Whether this number of PEs is 1 to [`Limits::PES`].

@@ -2,7 +2,7 @@ ghost use Rattle.std.specs.Prelude.{◌≡◌, ◌≢◌, [], ◌++◌, Ok, Err,
 ghost use Rattle.lb_dump.specs.Reading.{EndsReading, Feeds, HasGoodHead, NeedsNone};
 
 use crate::held::{Held, take_in};
-use crate::plan::Plan;
+use crate::plan::DecisionPart;
 use crate::whole_dump::dump_at_end;
 use dump_format::{Dump, DumpError};
 use std::alloc::{Allocator, Global};
@@ -43,7 +43,7 @@ impl<A: Allocator> DumpReader<A> {
                 head: None,
                 loads: Vec::new(alloc),
                 sizes: Vec::new(alloc),
-                plan: Plan::Begun,
+                plan: DecisionPart::Begun,
                 moves: Vec::new(alloc),
                 begun: Vec::new(alloc),
             },

@@ -15,7 +15,7 @@ use crate::head::{Format, HEAD_LEN, Head};
 use crate::held::Held;
 use crate::moves::MOVE_LEN;
 use crate::numbers::WORD_LEN;
-use crate::plan::Plan;
+use crate::plan::DecisionPart;
 use crate::plan_reading::plan_len;
 use chare_index::{Index, Pe};
 use dump_format::{Dump, DumpError, Recorded};
@@ -45,9 +45,9 @@ pub(crate) fn is_whole<A: Allocator>(held: &Held<A>) -> bool
         return false;
     }
     match held.plan {
-        Plan::Begun => is_narrow(head.format),
-        Plan::Nothing => true,
-        Plan::Made(_, all) => held.moves.len() >= all as usize,
+        DecisionPart::Begun => is_narrow(head.format),
+        DecisionPart::Nothing => true,
+        DecisionPart::Made(_, all) => held.moves.len() >= all as usize,
     }
 }
 
@@ -76,14 +76,14 @@ fn text_len<A: Allocator>(held: &Held<A>) -> usize
 }
 
 // The length of a plan that is whole.
-fn plan_size<A: Allocator>(plan: &Plan<A>) -> usize
+fn plan_size<A: Allocator>(plan: &DecisionPart<A>) -> usize
     requires { HasTarget plan.now }
     ensures { result ≡ plan_size plan.now }
 {
     match plan {
-        Plan::Begun => 0,
-        Plan::Nothing => WORD_LEN,
-        Plan::Made(recorded, _) => {
+        DecisionPart::Begun => 0,
+        DecisionPart::Nothing => WORD_LEN,
+        DecisionPart::Made(recorded, _) => {
             plan_len(
                 recorded.target as usize,
                 kind_of(&recorded.decision.division.floor),
@@ -136,12 +136,15 @@ fn snapshot_of<A: Allocator>(
 }
 
 // The decision that was recorded, with its moves.
-fn recorded_of<A: Allocator>(plan: Plan<A>, moves: Vec<(Index, Pe, Pe), A>) -> Option<Recorded<A>>
+fn recorded_of<A: Allocator>(
+    plan: DecisionPart<A>,
+    moves: Vec<(Index, Pe, Pe), A>,
+) -> Option<Recorded<A>>
     ensures { result ≡ recorded_with plan moves.items }
 {
     match plan {
-        Plan::Made(recorded, _) => Some(with_moves(recorded, moves)),
-        Plan::Begun | Plan::Nothing => None,
+        DecisionPart::Made(recorded, _) => Some(with_moves(recorded, moves)),
+        DecisionPart::Begun | DecisionPart::Nothing => None,
     }
 }
 

@@ -4,7 +4,7 @@ ghost use Rattle.std.specs.Prelude.{◌≡◌, ◌+◌, ◌-◌, ◌^◌, ◌<�
 ghost use Rattle.merged_refinement.specs.Rows.{AreSmall, ArePiledUp, IsTable};
 
 use crate::cost::Standing;
-use crate::row::{Row, Sums, row_over};
+use crate::row::{HeightRow, Sums, row_over};
 use chain_partition::Chain;
 use std::alloc::{AllocError, Allocator};
 
@@ -33,7 +33,7 @@ pub(crate) fn rows_of<A: Allocator + Copy, B: Allocator>(
     alloc: A,
     bytes: &Chain<'_, B>,
     table: &Table<'_>,
-) -> Result<Vec<Row<A>, A>, AllocError>
+) -> Result<Vec<HeightRow<A>, A>, AllocError>
     requires table { IsTable bytes.now table.now }
     ensures counted { IfOk result (λ rows. vec_len rows ≡ length table.now.near.now - 1) }
     ensures piled { IfOk result (λ rows. ArePiledUp bytes.now table.now (length table.now.near.now - 1) rows.items) }
@@ -45,13 +45,13 @@ pub(crate) fn rows_of<A: Allocator + Copy, B: Allocator>(
 }
 
 // The row of the first block, which begins at the beginning of the chain.
-fn first_row<A: Allocator>(alloc: A) -> Result<Row<A>, AllocError>
+fn first_row<A: Allocator>(alloc: A) -> Result<HeightRow<A>, AllocError>
     ensures row { IfOk result (λ row. row ≡ (0, 0 ∷ 2 ^ 62 ∷ [])) }
 {
     let mut heights = Vec::new(alloc);
     heights.push(0)?;
     heights.push(NONE)?;
-    Ok(Row::new(0, heights))
+    Ok(HeightRow::new(0, heights))
 }
 
 // Piles a row for each further block.
@@ -59,7 +59,7 @@ fn pile<A: Allocator + Copy, B: Allocator>(
     alloc: A,
     bytes: &Chain<'_, B>,
     table: &Table<'_>,
-    rows: &mut Vec<Row<A>, A>,
+    rows: &mut Vec<HeightRow<A>, A>,
 ) -> Result<(), AllocError>
     requires table { IsTable bytes.now table.now }
     requires room { vec_capacity rows.old ≡ length table.now.near.now - 1 }

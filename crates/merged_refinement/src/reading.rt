@@ -4,7 +4,7 @@ ghost use Rattle.std.specs.Prelude.{◌≡◌, ℕ, ◌+◌, ◌-◌, ◌^◌, �
 ghost use Rattle.refinement_search.specs.Tables.{AreRead, IsLevelTo};
 ghost use Rattle.merged_refinement.specs.Rows.{row_at, rows_at};
 
-use crate::row::Row;
+use crate::row::HeightRow;
 use std::alloc::{AllocError, Allocator};
 
 /// The cuts of so many elements, read off the rows of the blocks from the last one on.
@@ -14,7 +14,7 @@ use std::alloc::{AllocError, Allocator};
 /// Memory for the list was refused.
 pub(crate) fn read_cuts<A: Allocator>(
     alloc: A,
-    rows: &[Row<A>],
+    rows: &[HeightRow<A>],
     starts: &[u32],
     present: &[u32],
     elements: u32,
@@ -35,7 +35,7 @@ pub(crate) fn read_cuts<A: Allocator>(
 
 // Writes these cuts.
 fn write_cuts<A: Allocator>(
-    rows: &[Row<A>],
+    rows: &[HeightRow<A>],
     starts: &[u32],
     present: &[u32],
     elements: u32,
@@ -63,7 +63,7 @@ fn write_cuts<A: Allocator>(
 }
 
 // The last place from one on, up to another, to which a row that never falls does not rise.
-fn last_on_level<A: Allocator>(row: &Row<A>, low: usize, far: usize) -> usize
+fn last_on_level<A: Allocator>(row: &HeightRow<A>, low: usize, far: usize) -> usize
     requires onward { low ≤ far }
     requires rises { (x y : ℕ) → x ≤ y → row_at row.now x ≤ row_at row.now y }
     ensures level { IsLevelTo (row_at row.now) low far result }

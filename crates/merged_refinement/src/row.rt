@@ -11,12 +11,12 @@ use std::marker::Model;
 
 /// A row. Contracts see it as its first place and its heights from there on, of which there is one.
 #[derive(Drop)]
-pub(crate) struct Row<A: Allocator> {
+pub(crate) struct HeightRow<A: Allocator> {
     first: u32,
     heights: Vec<u64, A>,
 }
 
-impl<A: Allocator> Model for Row<A> {
+impl<A: Allocator> Model for HeightRow<A> {
     ghost use Rattle.std.specs.Prelude.{ℕ, ◌<◌, List, length};
 
     ghost Value = { ℕ × List ℕ };
@@ -26,13 +26,13 @@ impl<A: Allocator> Model for Row<A> {
     ghost invariant = { λ r. 0 < length r.heights.items };
 }
 
-impl<A: Allocator> Row<A> {
+impl<A: Allocator> HeightRow<A> {
     /// The row with these heights.
     pub(crate) fn new(first: u32, heights: Vec<u64, A>) -> Self
         requires some { 0 < vec_len heights }
         ensures value { result ≡ (first, heights.items) }
     {
-        Row { first, heights }
+        HeightRow { first, heights }
     }
 
     /// The height at a place; before the first place it is that of this one, and behind the last place that of that one.
@@ -63,22 +63,22 @@ pub(crate) struct Sums<'a> {
 /// Memory for the one list was refused.
 pub(crate) fn row_over<A: Allocator, B: Allocator>(
     alloc: A,
-    below: &Row<A>,
+    below: &HeightRow<A>,
     bytes: &Chain<'_, B>,
     sums: &Sums<'_>,
-) -> Result<Row<A>, AllocError>
+) -> Result<HeightRow<A>, AllocError>
     requires sums { AreSums bytes.now sums.now }
     requires small { (x : ℕ) → row_at below.now x ≤ 2 ^ 63 }
     ensures row { IfOk result (λ row. IsRow sums.now.near sums.now.far (slice_index sums.now.starts.now) (cost_by bytes.now sums.now) (row_at below.now) (row_at row)) }
 {
     let heights = heights_over(alloc, below, bytes, sums)?;
-    Ok(Row::new(sums.near, heights))
+    Ok(HeightRow::new(sums.near, heights))
 }
 
 // Its heights.
 fn heights_over<A: Allocator, B: Allocator>(
     alloc: A,
-    below: &Row<A>,
+    below: &HeightRow<A>,
     bytes: &Chain<'_, B>,
     sums: &Sums<'_>,
 ) -> Result<Vec<u64, A>, AllocError>
@@ -95,7 +95,7 @@ fn heights_over<A: Allocator, B: Allocator>(
 // Writes its heights, from the last one to the first: each is the least, over the places from there on, of the row below at the
 // least start of a block that ends there and of what the cut costs.
 fn write_heights<A: Allocator, B: Allocator>(
-    below: &Row<A>,
+    below: &HeightRow<A>,
     bytes: &Chain<'_, B>,
     sums: &Sums<'_>,
     heights: &mut [u64],
@@ -118,7 +118,7 @@ fn write_heights<A: Allocator, B: Allocator>(
 
 // The sum at place number i of the row.
 fn sum_at<A: Allocator, B: Allocator>(
-    below: &Row<A>,
+    below: &HeightRow<A>,
     bytes: &Chain<'_, B>,
     sums: &Sums<'_>,
     i: usize,

@@ -9,7 +9,7 @@ use Rattle.chain_refinement.specs.Refinement.{AreNearest, AreProved, AreWithin, 
 use Rattle.refinement_search.specs.Chains.{ArePiledOn, IsSpanned}
 use Rattle.refinement_search.specs.Tables.{AreRead, AreSpans, IsSearch, Searched}
 use Rattle.refinement_search.specs.Windows.{AreStarts}
-use Rattle.refinement_search.specs.declared.rows.Chain.{Chain}
+use Rattle.refinement_search.specs.declared.rows.RowInputs.{RowInputs}
 use Rattle.refinement_search.proofs.CostsBack.{cost_few}
 use Rattle.refinement_search.proofs.Nearest.{read_nearest}
 use Rattle.refinement_search.specs.Spans.{AreFars, AreNears}
@@ -17,7 +17,7 @@ use Rattle.refinement_search.proofs.RowPlaces.{spans_of}
 use Rattle.refinement_search.proofs.Tables.{read_begins, read_bound, read_within, starts_rise}
 
 -- what is searched, with these heights as its table
-abbrev searched : Chain → List ℕ → ℕ → List (List (ℕ × ℕ)) → Searched
+abbrev searched : RowInputs → List ℕ → ℕ → List (List (ℕ × ℕ)) → Searched
 searched c loads limit heights =
     record {
       loads = loads;
@@ -33,7 +33,7 @@ searched c loads limit heights =
     }
 
 -- what a search has found
-pub record AreFound (c : Chain) (loads : List ℕ) (limit : ℕ) (heights : List (List (ℕ × ℕ))) (cuts : List ℕ) : Type 0 where
+pub record AreFound (c : RowInputs) (loads : List ℕ) (limit : ℕ) (heights : List (List (ℕ × ℕ))) (cuts : List ℕ) : Type 0 where
   pub chain : IsSpanned c
   pub paired : length loads ≡ length c.sizes.now
   pub starts : AreStarts loads limit (slice_index c.starts.now)
@@ -42,7 +42,7 @@ pub record AreFound (c : Chain) (loads : List ℕ) (limit : ℕ) (heights : List
   pub read : AreRead (length heights) c.present.now (length c.starts.now - 1) (slice_index c.starts.now) (height_at heights) cuts
   pub some_within : (others : List ℕ) × AreWithin loads c.names.now limit others
 
-is_search : (c : Chain) (loads : List ℕ) (limit : ℕ) (heights : List (List (ℕ × ℕ))) (cuts : List ℕ) → AreFound c loads limit heights cuts
+is_search : (c : RowInputs) (loads : List ℕ) (limit : ℕ) (heights : List (List (ℕ × ℕ))) (cuts : List ℕ) → AreFound c loads limit heights cuts
     → IsSearch (searched c loads limit heights)
 is_search c loads limit heights cuts h =
     record {
@@ -55,7 +55,7 @@ is_search c loads limit heights cuts h =
       table = h.piled;
     }
 
-reading : (c : Chain) (loads : List ℕ) (limit : ℕ) (heights : List (List (ℕ × ℕ))) (cuts : List ℕ) → AreFound c loads limit heights cuts
+reading : (c : RowInputs) (loads : List ℕ) (limit : ℕ) (heights : List (List (ℕ × ℕ))) (cuts : List ℕ) → AreFound c loads limit heights cuts
     → AreRead (length c.names.now) c.present.now (length loads) (slice_index c.starts.now) (height_at heights) cuts
 reading c loads limit heights cuts h =
     let elements : length c.starts.now - 1 ≡ length loads = omega (arith, h.chain.counted, h.paired) in
@@ -67,7 +67,7 @@ costs_by sizes names cuts zero valid = omega arith
 costs_by sizes names cuts (suc n) valid =
     omega (arith, costs_by sizes names cuts n valid, cost_few sizes (slice_index names n) (slice_index names (n + 1)) (slice_index cuts (n + 1)) valid)
 
-begins : (c : Chain) (loads : List ℕ) (limit : ℕ) (heights : List (List (ℕ × ℕ))) (cuts : List ℕ) → AreFound c loads limit heights cuts
+begins : (c : RowInputs) (loads : List ℕ) (limit : ℕ) (heights : List (List (ℕ × ℕ))) (cuts : List ℕ) → AreFound c loads limit heights cuts
     → slice_index c.starts.now (slice_index cuts 1) ≡ 0
 begins c loads limit heights cuts h =
     let others : List ℕ = h.some_within.0 in
@@ -75,7 +75,7 @@ begins c loads limit heights cuts h =
     (arith, costs_by c.sizes.now c.names.now others (length c.names.now - 1) h.chain.sized, h.chain.few_blocks) in
     read_begins (searched c loads limit heights) cuts others (is_search c loads limit heights cuts h) (reading c loads limit heights cuts h) h.some_within.1 few
 
-pub proved_where_found : (c : Chain) (loads : List ℕ) (limit : ℕ) (heights : List (List (ℕ × ℕ))) (cuts : List ℕ)
+pub proved_where_found : (c : RowInputs) (loads : List ℕ) (limit : ℕ) (heights : List (List (ℕ × ℕ))) (cuts : List ℕ)
     → AreFound c loads limit heights cuts → AreProved loads c.sizes.now c.names.now limit cuts heights
 proved_where_found c loads limit heights cuts h =
     let one = is_search c loads limit heights cuts h in
@@ -89,7 +89,7 @@ proved_where_found c loads limit heights cuts h =
       bound = read_bound (searched c loads limit heights) cuts one read from;
     }
 
-pub nearest_where_found : (c : Chain) (loads : List ℕ) (limit : ℕ) (heights : List (List (ℕ × ℕ))) (cuts : List ℕ)
+pub nearest_where_found : (c : RowInputs) (loads : List ℕ) (limit : ℕ) (heights : List (List (ℕ × ℕ))) (cuts : List ℕ)
     → AreFound c loads limit heights cuts → AreNearest loads c.sizes.now c.names.now c.present.now limit cuts
 nearest_where_found c loads limit heights cuts h =
     read_nearest (searched c loads limit heights) cuts (is_search c loads limit heights cuts h) (reading c loads limit heights cuts h) (begins c loads limit heights cuts h)
@@ -101,7 +101,7 @@ starts_onward loads limit starts x y counted are onward inside =
     starts_rise loads limit (slice_index starts) x y are onward (omega arith)
 
 -- the lists of a chain fit together, where each is what its maker promises
-pub spanned : (c : Chain) (loads : List ℕ) (limit : ℕ) → IsSizes c.sizes.now → length loads ≡ length c.sizes.now → 0 < length c.names.now
+pub spanned : (c : RowInputs) (loads : List ℕ) (limit : ℕ) → IsSizes c.sizes.now → length loads ≡ length c.sizes.now → 0 < length c.names.now
     → length c.names.now ≤ PES → IsNaming (length c.names.now) c.names.now → StandInOrder c.sizes.now c.names.now c.present.now
     → length c.starts.now ≡ length loads + 1 → AreStarts loads limit (slice_index c.starts.now) → length c.near.now ≡ length c.names.now
     → AreNears c.present.now (length c.names.now) (slice_index c.starts.now) (slice_index c.near.now)

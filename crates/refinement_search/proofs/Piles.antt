@@ -6,7 +6,7 @@ use Rattle.chain_refinement.specs.Refinement.{cut_cost, height, height_at}
 use Rattle.refinement_search.specs.Chains.{ArePiledOn, IsSpanned}
 use Rattle.refinement_search.specs.Rows.{AreStepsOf, AreTopped, IsWrittenFrom, sum_at}
 use Rattle.refinement_search.specs.Tables.{IsRow}
-use Rattle.refinement_search.specs.declared.rows.Chain.{Chain}
+use Rattle.refinement_search.specs.declared.rows.RowInputs.{RowInputs}
 use Rattle.chain_refinement.proofs.Climbs.{height_rises}
 use Rattle.refinement_search.proofs.CostsBack.{cost_few}
 
@@ -42,7 +42,7 @@ first_heights rise row first elsewhere (suc x) inside =
     first_height rise (suc x) (omega arith) ∙ sym (elsewhere (suc x) (omega arith) inside)
 
 -- the pile that has only the first row
-pub piled_first : (c : Chain) → ArePiledOn c 1 (height_at (((1, 2 ^ 62) ∷ []) ∷ []))
+pub piled_first : (c : RowInputs) → ArePiledOn c 1 (height_at (((1, 2 ^ 62) ∷ []) ∷ []))
 piled_first c =
     record {
       first = refl;
@@ -65,14 +65,14 @@ topped_first near far row inside first elsewhere =
     }
 
 -- up to its first place a row is level
-flat_on : (c : Chain) (blocks : ℕ) (at : ℕ → ℕ → ℕ) (b x : ℕ) → IsSpanned c → ArePiledOn c blocks at → b < blocks
+flat_on : (c : RowInputs) (blocks : ℕ) (at : ℕ → ℕ → ℕ) (b x : ℕ) → IsSpanned c → ArePiledOn c blocks at → b < blocks
     → x ≤ slice_index c.near.now b → at b x ≡ at b (slice_index c.near.now b)
 flat_on c blocks at zero x h piled inside early = ap (at 0) (omega (arith, h.spans.first, early))
 flat_on c blocks at (suc b) x h piled inside early =
     subst (λ n. x ≤ slice_index c.near.now n → at n x ≡ at n (slice_index c.near.now n)) (add-one b) (λ there. (piled.rows b (omega arith)).flat x there) early
 
 -- what is compared at a place of a row is the height of the row below and what the cut costs
-sum_is : (c : Chain) (b : ℕ) (rows : List (List (ℕ × ℕ))) (below : List ℕ) (x : ℕ) → IsSpanned c → b + 1 < length c.names.now
+sum_is : (c : RowInputs) (b : ℕ) (rows : List (List (ℕ × ℕ))) (below : List ℕ) (x : ℕ) → IsSpanned c → b + 1 < length c.names.now
     → ArePiledOn c (b + 1) (height_at rows) → AreTopped (slice_index c.near.now b) (slice_index c.far.now b) b rows below
     → x ≤ slice_index c.far.now (b + 1) → sum_at c.sizes.now c.starts.now below (slice_index c.near.now b) (slice_index c.names.now b)
     (slice_index c.names.now (b + 1)) x ≡ height_at rows b (slice_index c.starts.now x) + cut_cost c.sizes.now c.names.now b x
@@ -94,12 +94,12 @@ sum_is c b rows below x h inside piled topped to =
     ap (λ n. n + cut_cost c.sizes.now c.names.now b x) there
 
 -- a row is written over the one below it
-abbrev pub IsWrittenOn : Chain → ℕ → List ℕ → List ℕ → Type 0
+abbrev pub IsWrittenOn : RowInputs → ℕ → List ℕ → List ℕ → Type 0
 IsWrittenOn c b below above =
     IsWrittenFrom (slice_index c.far.now (b + 1)) (sum_at c.sizes.now c.starts.now below (slice_index c.near.now b)
     (slice_index c.names.now b) (slice_index c.names.now (b + 1))) below above (slice_index c.near.now (b + 1))
 
-row_on : (c : Chain) (b : ℕ) (rows : List (List (ℕ × ℕ))) (below above : List ℕ) (steps : List (ℕ × ℕ)) → IsSpanned c
+row_on : (c : RowInputs) (b : ℕ) (rows : List (List (ℕ × ℕ))) (below above : List ℕ) (steps : List (ℕ × ℕ)) → IsSpanned c
     → b + 1 < length c.names.now → ArePiledOn c (b + 1) (height_at rows)
     → AreTopped (slice_index c.near.now b) (slice_index c.far.now b) b rows below → IsWrittenOn c b below above
     → AreStepsOf above (slice_index c.near.now (b + 1)) (slice_index c.far.now (b + 1)) steps
@@ -120,7 +120,7 @@ row_on c b rows below above steps h inside piled topped written stepped =
     }
 
 -- a pile with one more row
-pub piled_more : (c : Chain) (b : ℕ) (rows : List (List (ℕ × ℕ))) (below above : List ℕ) (steps : List (ℕ × ℕ)) → IsSpanned c
+pub piled_more : (c : RowInputs) (b : ℕ) (rows : List (List (ℕ × ℕ))) (below above : List ℕ) (steps : List (ℕ × ℕ)) → IsSpanned c
     → b + 1 < length c.names.now → length rows ≡ b + 1 → ArePiledOn c (b + 1) (height_at rows)
     → AreTopped (slice_index c.near.now b) (slice_index c.far.now b) b rows below → IsWrittenOn c b below above
     → AreStepsOf above (slice_index c.near.now (b + 1)) (slice_index c.far.now (b + 1)) steps → ArePiledOn c (b + 1 + 1) (height_at (rows ++ steps ∷ []))
@@ -146,7 +146,7 @@ piled_more c b rows below above steps h inside counted piled topped written step
     }
 
 -- the last row of a pile with one more row
-pub topped_more : (c : Chain) (b : ℕ) (rows : List (List (ℕ × ℕ))) (below above : List ℕ) (steps : List (ℕ × ℕ)) → IsSpanned c
+pub topped_more : (c : RowInputs) (b : ℕ) (rows : List (List (ℕ × ℕ))) (below above : List ℕ) (steps : List (ℕ × ℕ)) → IsSpanned c
     → b + 1 < length c.names.now → length rows ≡ b + 1 → length below ≡ length c.starts.now
     → AreTopped (slice_index c.near.now b) (slice_index c.far.now b) b rows below → IsWrittenOn c b below above
     → AreStepsOf above (slice_index c.near.now (b + 1)) (slice_index c.far.now (b + 1)) steps

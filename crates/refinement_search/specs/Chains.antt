@@ -5,10 +5,10 @@ use Rattle.lb_snapshot.specs.Measured.{IsSizes}
 use Rattle.lb_certificates.specs.Chain.{IsDivision}
 use Rattle.chain_refinement.specs.Orders.{AreApartAt}
 use Rattle.refinement_search.specs.Tables.{ArePiled, AreSpans}
-use Rattle.refinement_search.specs.declared.rows.Chain.{Chain}
+use Rattle.refinement_search.specs.declared.rows.RowInputs.{RowInputs}
 
 -- the lists of a chain fit together
-pub record IsSpanned (c : Chain) : Type 0 where
+pub record IsSpanned (c : RowInputs) : Type 0 where
   pub sized : IsSizes c.sizes.now
   pub some_block : 0 < length c.names.now
   pub few_blocks : length c.names.now ≤ PES
@@ -22,6 +22,6 @@ pub record IsSpanned (c : Chain) : Type 0 where
   pub spans : AreSpans c.present.now (length c.names.now) (length c.sizes.now) (slice_index c.starts.now) (slice_index c.near.now) (slice_index c.far.now)
 
 -- the rows of the first `blocks` blocks
-abbrev pub ArePiledOn : Chain → ℕ → (ℕ → ℕ → ℕ) → Type 0
+abbrev pub ArePiledOn : RowInputs → ℕ → (ℕ → ℕ → ℕ) → Type 0
 ArePiledOn c blocks at =
     ArePiled c.sizes.now c.names.now (2 ^ 62) (slice_index c.starts.now) (slice_index c.near.now) (slice_index c.far.now) blocks at

@@ -16,7 +16,7 @@ const NONE: u64 = 1 << 62;
 
 /// What rows are made of.
 #[derive(Clone, Copy)]
-pub(crate) struct Chain<'a> {
+pub(crate) struct RowInputs<'a> {
     /// The bytes of each element, and the PE that it is on.
     pub(crate) sizes: &'a [(u32, Pe)],
     /// The PEs, in order.
@@ -38,7 +38,7 @@ pub(crate) struct Chain<'a> {
 /// Memory was refused.
 pub(crate) fn heights_of<A: Allocator + Copy>(
     alloc: A,
-    chain: &Chain<'_>,
+    chain: &RowInputs<'_>,
 ) -> Result<Heights<A>, AllocError>
     requires chain { IsSpanned chain.now }
     ensures counted { IfOk result (λ heights. length heights ≡ length chain.now.names.now) }
@@ -64,7 +64,7 @@ fn first_steps<A: Allocator>(alloc: A) -> Result<Steps<A>, AllocError>
 // Piles a row for each further block.
 fn pile<A: Allocator + Copy>(
     alloc: A,
-    chain: &Chain<'_>,
+    chain: &RowInputs<'_>,
     row: &mut [u64],
     rows: &mut Vec<Steps<A>, A>,
 ) -> Result<(), AllocError>
@@ -91,7 +91,7 @@ fn pile<A: Allocator + Copy>(
 }
 
 // The places of the row behind the cut between block b and the next.
-fn span_of(chain: &Chain<'_>, b: usize) -> Span
+fn span_of(chain: &RowInputs<'_>, b: usize) -> Span
     requires chain { IsSpanned chain.now }
     requires inside { b + 1 < length chain.now.names.now }
     ensures below { result.below ≡ slice_index chain.now.near.now b }
@@ -108,7 +108,7 @@ fn span_of(chain: &Chain<'_>, b: usize) -> Span
 }
 
 // The PEs on both sides of that cut.
-fn sides_of(chain: &Chain<'_>, b: usize) -> Sides
+fn sides_of(chain: &RowInputs<'_>, b: usize) -> Sides
     requires inside { b + 1 < length chain.now.names.now }
     ensures from { result.from ≡ slice_index chain.now.names.now b }
     ensures to { result.to ≡ slice_index chain.now.names.now (b + 1) }

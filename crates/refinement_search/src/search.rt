@@ -12,7 +12,7 @@ ghost use Rattle.refinement_search.specs.Chains.{IsSpanned};
 ghost use Rattle.refinement_search.specs.Windows.{AreStarts};
 
 use crate::read::read_cuts;
-use crate::rows::{Chain, heights_of};
+use crate::rows::{RowInputs, heights_of};
 use crate::spans::{first_places, last_places};
 use crate::starts::least_starts;
 use chain_refinement::{Heights, Refinement, Tolerance};
@@ -95,7 +95,7 @@ fn search<A: Allocator + Copy>(
     let starts = least_starts(alloc, loads, limit)?;
     let near = first_places(alloc, &starts, present, names.len())?;
     let far = last_places(alloc, &starts, present, names.len())?;
-    let chain = Chain {
+    let chain = RowInputs {
         sizes,
         names,
         present,
@@ -111,7 +111,7 @@ fn read_off<A: Allocator + Copy>(
     alloc: A,
     loads: &[Units],
     limit: u64,
-    chain: &Chain<'_>,
+    chain: &RowInputs<'_>,
 ) -> Result<(Cuts<A>, Heights<A>), AllocError>
     requires chain { IsSpanned chain.now }
     requires paired { length loads.now ≡ length chain.now.sizes.now }

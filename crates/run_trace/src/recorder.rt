@@ -1,7 +1,7 @@
 //! A watch that keeps what happened.
 
 use crate::error::TraceError;
-use crate::row::Row;
+use crate::pe_trace::PeTrace;
 use crate::timeline::Timeline;
 use chare_index::{Limits, Pe, Round};
 use pe_worker::{PeStep, Watch};
@@ -18,8 +18,8 @@ use std::time::{Clock, Instant};
 pub struct Recorder<'a, R, A: Allocator = Global> {
     rt: &'a R,
     start: Instant,
-    rows: VecDeque<Mutex<Row<A>>, A>,
-    decisions: Mutex<Row<A>>,
+    rows: VecDeque<Mutex<PeTrace<A>>, A>,
+    decisions: Mutex<PeTrace<A>>,
 }
 
 impl<'a, R: Clock, A: Allocator + Copy> Recorder<'a, R, A> {
@@ -36,7 +36,7 @@ impl<'a, R: Clock, A: Allocator + Copy> Recorder<'a, R, A> {
             rt,
             start,
             rows: rows(alloc)?,
-            decisions: Mutex::new(Row::new(alloc)),
+            decisions: Mutex::new(PeTrace::new(alloc)),
         })
     }
 
@@ -69,10 +69,10 @@ impl<'a, R: Clock, A: Allocator + Copy> Recorder<'a, R, A> {
 }
 
 // A row for each PE that a run may have.
-fn rows<A: Allocator + Copy>(alloc: A) -> Result<VecDeque<Mutex<Row<A>>, A>, AllocError> {
+fn rows<A: Allocator + Copy>(alloc: A) -> Result<VecDeque<Mutex<PeTrace<A>>, A>, AllocError> {
     let mut rows = VecDeque::new(alloc);
     for _pe in 0..Limits::PES {
-        rows.push_back(Mutex::new(Row::new(alloc)))?;
+        rows.push_back(Mutex::new(PeTrace::new(alloc)))?;
     }
     Ok(rows)
 }

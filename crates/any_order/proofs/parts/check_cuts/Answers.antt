@@ -1,7 +1,7 @@
 use Rattle.std.proofs.Common.{◌≡◌, length, arith, ap, subst, ◌∙◌, rules, true}
 use Rattle.lb_certificates.specs.Chain.{IsDivision}
 use Rattle.lb_certificates.specs.Naming.{blocks_between}
-use Rattle.any_order.specs.Internal.{Chain, IsFirstHeavy}
+use Rattle.any_order.specs.Internal.{BoundedChain, IsFirstHeavy}
 use Rattle.any_order.specs.AnyOrder.{reordered_limit}
 use Rattle.any_order.proofs.FirstFlaws.{heavy_is_first}
 use Rattle.any_order.proofs.parts.check_cuts.Goals as goal
@@ -11,7 +11,7 @@ returns-in-Some-clause-first_flaw g c =
     let r = c.args.reordered.now in
     let loads = c.args.snapshot.now.loads in
     let pes = c.args.pes in
-    let limit : c.limit.inside.limit ≡ reordered_limit r = ap (λ (chain : Chain). chain.limit) (c.limit.view_is ∙ c.bounded_of.ensures.value) in
+    let limit : c.limit.inside.limit ≡ reordered_limit r = ap (λ (chain : BoundedChain). chain.limit) (c.limit.view_is ∙ c.bounded_of.ensures.value) in
     let by_cuts = subst (λ cuts. IsFirstHeavy c.loads-2.result.now pes c.limit.inside.limit cuts c.in-Some.b) c.as_slice-cuts.ensures.value c.in-Some.ensures.first in
     let by_limit = subst (λ n. IsFirstHeavy c.loads-2.result.now pes n r.cuts c.in-Some.b) limit by_cuts in
     let first = subst (λ xs. IsFirstHeavy xs pes (reordered_limit r) r.cuts c.in-Some.b) c.loads-2.ensures.value by_limit in

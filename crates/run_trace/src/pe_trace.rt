@@ -9,7 +9,7 @@ use std::alloc::{AllocError, Allocator};
 
 /// What one PE did so far, in order.
 #[derive(Drop)]
-pub(crate) struct Row<A: Allocator> {
+pub(crate) struct PeTrace<A: Allocator> {
     happenings: Vec<Happening, A>,
     // Whether an entry is missing, since memory was refused for it.
     is_short: bool,
@@ -19,10 +19,10 @@ pub(crate) struct Row<A: Allocator> {
     posted: u32,
 }
 
-impl<A: Allocator> Row<A> {
+impl<A: Allocator> PeTrace<A> {
     /// An empty row.
     pub(crate) fn new(alloc: A) -> Self {
-        Row {
+        PeTrace {
             happenings: Vec::new(alloc),
             is_short: false,
             began: 0,
@@ -82,7 +82,7 @@ impl<A: Allocator> Row<A> {
     pub(crate) fn into_happenings(self) -> Result<Vec<Happening, A>, AllocError>
         ensures all { MatchResult result (λ all. all.items ≡ self.happenings.items) (λ _. self.is_short ≡ true) }
     {
-        let Row {
+        let PeTrace {
             happenings,
             is_short,
             began: _,
