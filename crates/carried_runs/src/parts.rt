@@ -39,8 +39,8 @@ impl<C: Chare<A>, A: Allocator> Pauses<C, A> for NoPauses {
     fn paused(&mut self, _outcome: &Outcome<C, A>) {}
 }
 
-/// Runs chares as [`run_watched`] does, and pauses after each round, where pauses are wanted: the workers end, as where a watch asks the run to stop, `pauses` is
-/// told, and the run is carried on. A round that is decided while the workers end shares the pause of the one before it. The outcome is
+/// Runs chares as [`run_watched`] does, and pauses after each round, where pauses are wanted: the workers end, as where a watch asks the
+/// run to stop, `pauses` is told, and the run is carried on. A round that is decided while the workers end shares the pause of the one before it. The outcome is
 /// that of all parts together, and a run that its watch stops ends as it would without pauses.
 ///
 /// # Errors
@@ -72,6 +72,41 @@ pub fn run_in_parts<
     let pausing = Pausing::beside(watch);
     let outcome = run_watched(rt, alloc, config, gate, &pausing, chares)?;
     go_on(rt, alloc, config, gate, &pausing, pauses, &opening, outcome)
+}
+
+/// Carries a run on as [`carry_on`] does, and pauses after each round, where pauses are wanted, as [`run_in_parts`] does.
+///
+/// # Errors
+///
+/// Those of [`carry_on`].
+pub fn carry_on_in_parts<
+    C: Chare<A> + Send,
+    G: Gate + Sync,
+    V: Watch + Sync,
+    P: Pauses<C, A>,
+    R: Threads + Wait + Sync,
+    A: Allocator + Copy + Send + Sync,
+>(
+    rt: &R,
+    alloc: A,
+    config: &Config,
+    gate: &G,
+    watch: &V,
+    pauses: &mut P,
+    opening: &Snapshot<Vec<C, A>>,
+    outcome: Outcome<C, A>,
+) -> Result<Outcome<C, A>, RunError>
+    requires earlier { IsOutcome C.step C.fits C.pack C.refuses opening.now.value.items config.now.pes config.now.strategy outcome }
+    ensures answer { MatchResult result (λ _. MayBegin config.now (length opening.now.value.items))
+        (RefusesRun config.now (length opening.now.value.items)) }
+    ensures outcome { IfOk result (IsOutcome C.step C.fits C.pack C.refuses opening.now.value.items config.now.pes config.now.strategy) }
+{
+    if !pauses.are_wanted() {
+        return carry_on(rt, alloc, config, gate, watch, opening, outcome);
+    }
+    let pausing = Pausing::beside(watch);
+    let outcome = carry_on(rt, alloc, config, gate, &pausing, opening, outcome)?;
+    go_on(rt, alloc, config, gate, &pausing, pauses, opening, outcome)
 }
 
 // Carries a run on after each pause, to its end.

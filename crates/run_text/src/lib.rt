@@ -1,7 +1,7 @@
 //! The text of what a run of tallies left: a line for each round that was decided, the sums of the elements or the fault
 //! that ended the run early, and the account of its letters.
 //!
-//! - [`outcome_text`]: the text; [`fault_word`]: the word for a fault in it.
+//! - [`outcome_text`]: the text; [`push_round`], [`push_ending`] and [`push_account`]: its lines; [`fault_word`]: the word for a fault in it.
 //! - [`sum_laws`]: what the sums in it are, whatever the schedule of the run was.
 //!
 //! ```
@@ -38,4 +38,4 @@ mod sums;
 mod text;
 
 pub use laws::sum_laws;
-pub use text::{fault_word, outcome_text};
+pub use text::{fault_word, outcome_text, push_account, push_ending, push_round};

@@ -72,13 +72,14 @@ fn push_rounds<A: Allocator>(
     Ok(())
 }
 
-fn push_round<A: Allocator>(
+/// Appends the line of a round. On an error a part of it may have been appended; the only error is that memory was refused.
+pub fn push_round<A: Allocator>(
     text: &mut String<A>,
     round: usize,
     bottleneck: u64,
     moved: u64,
 ) -> Result<(), AllocError>
-    ensures { OnOk result (string_bytes text.new ≡ string_bytes text.old ++ round_line round bottleneck moved) }
+    ensures line { OnOk result (string_bytes text.new ≡ string_bytes text.old ++ round_line round bottleneck moved) }
 {
     push_round_start(text, round)?;
     push_decision_end(text, bottleneck, moved)
@@ -101,15 +102,16 @@ fn push_decision_end<A: Allocator>(
     writeln!(text, " bottleneck {bottleneck} moved {moved}")
 }
 
-// The fault, where there is one, or otherwise the sums.
-fn push_ending<A: Allocator + Copy>(
+/// Appends the line of the fault, where there is one, or otherwise that of the sums. On an error a part of it may have been appended; the
+/// only error is that memory was refused.
+pub fn push_ending<A: Allocator + Copy>(
     alloc: A,
     text: &mut String<A>,
     n: usize,
     outcome: &Outcome<Tally<A>, A>,
 ) -> Result<(), AllocError>
-    requires { AreTallies n outcome.now }
-    ensures { OnOk result (string_bytes text.new ≡ string_bytes text.old ++ ending_line outcome.now.fault (element_sums outcome.now n)) }
+    requires tallies { AreTallies n outcome.now }
+    ensures line { OnOk result (string_bytes text.new ≡ string_bytes text.old ++ ending_line outcome.now.fault (element_sums outcome.now n)) }
 {
     if let Some(fault) = outcome.fault() {
         return push_fault(text, fault);
@@ -160,8 +162,9 @@ fn push_numbers<A: Allocator>(text: &mut String<A>, numbers: &[u64]) -> Result<(
     Ok(())
 }
 
-fn push_account<A: Allocator>(text: &mut String<A>, account: &Account) -> Result<(), AllocError>
-    ensures { OnOk result (string_bytes text.new ≡ string_bytes text.old ++ account_line account.now.posted account.now.executed account.now.held) }
+/// Appends the line of an account. On an error a part of it may have been appended; the only error is that memory was refused.
+pub fn push_account<A: Allocator>(text: &mut String<A>, account: &Account) -> Result<(), AllocError>
+    ensures line { OnOk result (string_bytes text.new ≡ string_bytes text.old ++ account_line account.now.posted account.now.executed account.now.held) }
 {
     let Account {
         posted,

@@ -46,6 +46,14 @@ impl<A: Allocator> Tally<A> {
         Tally::of_parts((0, (0, (0, (amounts, pad)))))
     }
 
+    /// A tally that has posted this number of its amounts and got as many, which add up to `sum`, or `None` past a limit.
+    pub fn after(posted: u32, sum: u64, amounts: Items<u32, A>, pad: Bytes<A>) -> Option<Self>
+        ensures value { IfSome result (λ t. t ≡ record { posted = posted; got = posted; sum = sum; amounts = amounts; pad = pad }) }
+        ensures refused { IsNone result ↔ (is_tally (record { posted = posted; got = posted; sum = sum; amounts = amounts; pad = pad }) ≡ false) }
+    {
+        Tally::of_parts((posted, (posted, (sum, (amounts, pad)))))
+    }
+
     /// A tally with these amounts, and this number of bytes of padding, all of them 0.
     ///
     /// # Errors
