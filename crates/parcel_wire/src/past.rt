@@ -9,7 +9,7 @@ use chares::Past;
 /// knows them.
 pub fn told_past() -> Past
     ghost entries: { List Done }
-    ensures { result.entries ≡ entries }
+    ensures value { result.entries ≡ entries }
 {
     Past {}
 }

@@ -1,5 +1,5 @@
-//! Tests of a rod on fire: it ends with the numbers of `examples/heat.c`, a plain loop over all cells, on 1, 2, 3, 5 and 8 PEs and under
-//! a hundred schedules; and a run whose requests for memory are refused in turn.
+//! Tests of a rod on fire: it ends with the numbers of `examples/heat.c`, a plain loop over all cells, under a hundred schedules and over
+//! threads where each request for memory is refused in turn. `examples/test` runs rods on 1 to 8 PEs.
 #![tactic(auto)]
 
 #[cfg(test)]
@@ -8,5 +8,3 @@ mod fixtures;
 mod many_orders;
 #[cfg(test)]
 mod refused_memory;
-#[cfg(test)]
-mod runs;

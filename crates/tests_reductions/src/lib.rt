@@ -19,10 +19,6 @@ mod refused_memory;
 #[cfg(test)]
 mod single;
 #[cfg(test)]
-mod span;
-#[cfg(test)]
-mod spans;
-#[cfg(test)]
 mod sums;
 #[cfg(test)]
 mod worn;

@@ -1,7 +1,7 @@
 //! Numbers written one after another, in the order of the elements: arrays of many sizes, several reductions one after another, and
 //! elements that move in between.
 
-use crate::fixtures::{MOVING, Member, RESTING, assert_for, make_member, run_by, run_on, told};
+use crate::fixtures::{MOVING, Member, RESTING, assert_for, make_member, run_by, told};
 use crate::giver::Way;
 use crate::numeral::Numeral;
 use chare_index::Index;
@@ -11,8 +11,6 @@ use rts_core::Event;
 use rts_run::{Fault, Outcome};
 use schedules::Explored;
 use std::process::Abort;
-use std::sync::Wait;
-use std::thread::Threads;
 
 // The first digits of three numbers. Element i contributes digit i of each.
 static PI: &[u8] = b"3141592653589793238462643383279502884";
@@ -71,26 +69,27 @@ static SIZES: [(u32, (u64, u64, u64), u64); 6] = [
 
 const NINE: (u64, u64, u64) = (314_159_265, 271_828_182, 141_421_356);
 
-// How a run ended, how many letters were posted, and whether each element got these numbers.
-fn written<R: Threads + Wait + Sync + Abort + AllocGlobal>(
-    rt: &R,
+// How a run by this seed ended, how many letters were posted, and whether each element got these numbers.
+fn written(
+    rt: &(impl Abort + AllocGlobal),
+    seed: u64,
     elements: u32,
     want: (u64, u64, u64),
 ) -> (Option<Fault>, u64, bool) {
-    let outcome = run_on(rt, 3, writers(rt, elements, told(3)));
+    let explored = run_by(rt, seed, writers(rt, elements, told(3)));
     let mut same = true;
     for element in 0..elements {
-        same &= numbers_got(&outcome, element) == Some(want);
+        same &= numbers_got(explored.outcome(), element) == Some(want);
     }
-    let found = (outcome.fault(), outcome.account().posted, same);
-    drop(outcome);
+    let found = (explored.fault(), explored.outcome().account().posted, same);
+    drop(explored);
     found
 }
 
 #[test]
 fn arrays_of_each_size(rt: HostRuntime) {
     for (elements, want, letters) in &SIZES {
-        let found = written(&rt, *elements, *want);
+        let found = written(&rt, u64::from(*elements), *elements, *want);
         assert_for(&rt, found == (None, *letters, true), (*elements, found));
     }
 }
@@ -109,23 +108,27 @@ fn were_placed(rounds: &[(Snapshot, Refined)]) -> bool {
     same
 }
 
-// How a run on three PEs ended whose elements rest at AtSync after each number, and whether they moved and got the numbers.
-fn rested<R: Threads + Wait + Sync + Abort + AllocGlobal>(rt: &R) -> (Option<Fault>, bool, bool) {
-    let outcome = run_on(rt, 3, writers(rt, 9, RESTING));
+// How a run by this seed ended whose elements rest at AtSync after each number, and whether they moved and got the numbers.
+fn rested(rt: &(impl Abort + AllocGlobal), seed: u64) -> (Option<Fault>, bool, bool) {
+    let explored = run_by(rt, seed, writers(rt, 9, RESTING));
     let mut same = true;
     for element in 0..9 {
-        same &= numbers_got(&outcome, element) == Some(NINE);
+        same &= numbers_got(explored.outcome(), element) == Some(NINE);
     }
-    let found = (outcome.fault(), were_placed(outcome.rounds()), same);
-    drop(outcome);
+    let found = (
+        explored.fault(),
+        were_placed(explored.outcome().rounds()),
+        same,
+    );
+    drop(explored);
     found
 }
 
 #[test]
 fn elements_move_between_reductions(rt: HostRuntime) {
-    for turn in 0..5 {
-        let found = rested(&rt);
-        assert_for(&rt, found == (None, true, true), (turn, found));
+    for seed in 0..5 {
+        let found = rested(&rt, seed);
+        assert_for(&rt, found == (None, true, true), (seed, found));
     }
 }
 
