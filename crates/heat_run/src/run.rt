@@ -24,8 +24,8 @@ pub fn run_rod<R: Threads + Wait + Sync, A: Allocator + Copy + Send + Sync>(
     config: &Config,
     rod: &Rod,
 ) -> Result<Outcome<RodChare<A>, A>, RunError>
-    ensures outcome { IfOk result (IsOutcome ⟦<RodChare<A> as Chare<A>>⟧.step ⟦<RodChare<A> as Pup<A>>⟧.fits ⟦<RodChare<A> as Pup<A>>⟧.pack ⟦<RodChare<A> as Chare<A>>⟧.refuses
-        (opening_rod rod.now.plan rod.now.strips) config.now.pes config.now.strategy) }
+    ensures outcome { IfOk result (IsOutcome ⟦<RodChare<A> as Chare<A>>⟧.step ⟦<RodChare<A> as Pup<A>>⟧.fits ⟦<RodChare<A> as Pup<A>>⟧.pack
+        ⟦<RodChare<A> as Chare<A>>⟧.refuses (opening_rod rod.now.plan rod.now.strips) config.now.pes config.now.strategy) }
 {
     let chares = rod.chares(alloc)?;
     let outcome = run(rt, alloc, config, &NoGate, chares)?;
