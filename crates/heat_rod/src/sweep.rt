@@ -27,7 +27,7 @@ pub(crate) fn stepped<A: Allocator>(
     ensures next { IfOk result (λ r. r.0 ≡ next_cells left cells.now right) }
     ensures change { IfOk result (λ r. r.1 ≡ greatest_change left cells.now right) }
 {
-    let mut next = Vec::new(alloc);
+    let mut next = Vec::with_capacity(alloc, cells.len())?;
     let mut most = STILL;
     let mut before = left;
     for i in 0..cells.len() {
