@@ -45,7 +45,7 @@ pub(crate) fn finish_dumps<R: Files + Eprint, W: Write>(
     dumps: EarlyDumps<'_, SystemFiles<'_, R>, Global>,
     writer: &mut W,
 ) -> u8 {
-    let failed = dumps.finish(driven.rounds());
+    let (_, failed) = dumps.finish(driven.rounds());
     let status = finish_dumped(driven, failed.is_some(), writer);
     if let Some(dump) = failed {
         tell_dump(rt, asked.dump.unwrap_or(""), dump);

@@ -33,7 +33,7 @@ fn early<R: Threads + Wait + Sync + Abort + AllocGlobal>(
         &NoWatch,
         &mut dumps,
     );
-    let not_written = dumps.finish(driven.rounds());
+    let (_, not_written) = dumps.finish(driven.rounds());
     let (calls, files) = store.into_parts();
     let last = Store::new(rt.alloc(), NEVER);
     let whole = write_dumps(rt.alloc(), driven.rounds(), format, "run", &mut Kept(&last));

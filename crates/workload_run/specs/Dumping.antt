@@ -79,3 +79,16 @@ pub record StopsAt {D : Type 0} (format : DumpFormat) (prefix : List ℕ) (round
 abbrev pub AsksInTurn : {D : Type 0} → DumpFormat → List ℕ → List (Taken × D) → Option (List (List ℕ)) → Option (List (List ℕ)) → Result ⊤ NotWritten → Type 0
 AsksInTurn format prefix rounds old new (Ok _) = AsksFor old new (file_names prefix rounds)
 AsksInTurn format prefix rounds old new (Err dump) = StopsAt format prefix rounds old new dump
+
+-- the first dump that was not written, if there is one, as the answer of a call
+abbrev pub answer_of : Option NotWritten → Result ⊤ NotWritten
+answer_of None = Ok tt
+answer_of (Some dump) = Err dump
+
+-- Files were requested for these further rounds, where a prefix is given and no dump had failed before; otherwise none was. The last
+-- two are what had failed before, and what has failed now.
+abbrev pub AsksRest : {D : Type 0} → DumpFormat → Option (List ℕ) → Option NotWritten → List (Taken × D) → Option (List (List ℕ))
+    → Option (List (List ℕ)) → Option NotWritten → Type 0
+AsksRest format None before rounds old new failed = (new ≡ old) × (failed ≡ before)
+AsksRest format (Some prefix) (Some dump) rounds old new failed = (new ≡ old) × (failed ≡ Some dump)
+AsksRest format (Some prefix) None rounds old new failed = AsksInTurn format prefix rounds old new (answer_of failed)

@@ -1,5 +1,6 @@
 ghost use Rattle.std.specs.Prelude.{◌≡◌, ◌≤◌, None, drop, length};
-ghost use Rattle.workload_run.specs.Dumping.{AsksInTurn};
+ghost use Rattle.std.specs.Option.{option_map};
+ghost use Rattle.workload_run.specs.Dumping.{AsksInTurn, AsksRest};
 
 use crate::dumps::{DumpFiles, NotWritten, write_dumps};
 use crate::round_dump::DumpFormat;
@@ -24,7 +25,13 @@ pub struct EarlyDumps<'a, F, A> {
 
 impl<'a, F: DumpFiles + Drop, A: Allocator + Copy> EarlyDumps<'a, F, A> {
     /// Dumps in these files, which are named as by [`write_dumps`], or none without a prefix.
-    pub fn new(alloc: A, files: F, prefix: Option<&'a str>, format: DumpFormat) -> Self {
+    pub fn new(alloc: A, files: F, prefix: Option<&'a str>, format: DumpFormat) -> Self
+        ensures files { result.files ≡ files }
+        ensures prefix { result.prefix ≡ prefix.entry }
+        ensures format { result.format ≡ format }
+        ensures none_written { result.written ≡ 0 }
+        ensures none_failed { result.failed ≡ None }
+    {
         EarlyDumps {
             alloc,
             files,
@@ -40,18 +47,24 @@ impl<'a, F: DumpFiles + Drop, A: Allocator + Copy> EarlyDumps<'a, F, A> {
         self.prefix.is_some()
     }
 
-    /// Writes the dumps of those of a run's rounds that were decided since the last pause, and returns the first of all that was not
-    /// written, if there is one.
+    /// Writes the dumps of those of a run's rounds that were decided since the last pause. Returns the files, and the first dump of all
+    /// that was not written, if there is one.
     pub fn finish<B: Allocator + Copy>(
         mut self,
         rounds: &[(Snapshot<B>, Refined<B>)],
-    ) -> Option<NotWritten> {
+    ) -> (F, Option<NotWritten>)
+        ensures asked { AsksRest self.entry.format (option_map (λ p. p.now) self.entry.prefix) self.entry.failed (drop self.entry.written rounds.now)
+            (F.names self.entry.files) (F.names result.0) result.1 }
+    {
         self.write(rounds);
-        self.failed
+        (self.files, self.failed)
     }
 
     // Writes the dumps of the rounds of a run that has decided these by now. After a dump that was not written no other is.
-    fn write<B: Allocator + Copy>(&mut self, rounds: &[(Snapshot<B>, Refined<B>)]) {
+    fn write<B: Allocator + Copy>(&mut self, rounds: &[(Snapshot<B>, Refined<B>)])
+        ensures asked { AsksRest self.old.format (option_map (λ p. p.now) self.old.prefix) self.old.failed (drop self.old.written rounds.now)
+            (F.names self.old.files) (F.names self.new.files) self.new.failed }
+    {
         let (Some(prefix), None) = (self.prefix, self.failed) else {
             return;
         };
