@@ -1,8 +1,9 @@
 -- Files that are requested, one after another.
-use Rattle.std.proofs.Common.{◌≡◌, ◌⊎◌, inl, inr, ℕ, ◌+◌, ◌<◌, ◌≤◌, List, [], ◌∷◌, ◌++◌, length, get_or, take, drop, Option, None, Some, sym, ap, subst, ◌∙◌, append-nil, append_assoc}
+use Rattle.std.proofs.Common.{◌≡◌, ◌⊎◌, inl, inr, ℕ, ◌+◌, ◌<◌, ◌≤◌, List, [], ◌∷◌, ◌++◌, length, get_or, take, drop, Option, None, Some, Result, Ok, Err, sym, ap, subst, ◌∙◌, append-nil, append_assoc}
+use Rattle.std.specs.Result.{result_err}
 use Rattle.std.proofs.lemmas.List.{drop_more, map-append, take_all, take_more, take-append-drop}
 use Rattle.lb_snapshot.specs.Measured.{Taken}
-use Rattle.workload_run.specs.Dumping.{AsksFor, MayFail, StopsAt, file_name, file_names}
+use Rattle.workload_run.specs.Dumping.{AsksFor, AsksInTurn, AsksRest, MayFail, StopsAt, file_name, file_names}
 use Rattle.workload_run.specs.declared.dumps.NotWritten.{NotWritten}
 use Rattle.workload_run.specs.declared.round_dump.DumpFormat.{DumpFormat}
 
@@ -47,3 +48,15 @@ module _ {D : Type 0} (prefix : List ℕ) (rounds : List (Taken × D)) (i : ℕ)
       record { written = take i rounds; stopped = kept; rest = drop (i + 1) rounds; split = in_turn; round = round; fault = fault; asked = inr (both old mid new so_far asked) }
   stopped_at old mid new format dump round fault so_far (inr none) =
       record { written = take i rounds; stopped = kept; rest = drop (i + 1) rounds; split = in_turn; round = round; fault = fault; asked = inl (rw none so_far) }
+
+-- nothing was requested where no round was left
+pub rest_none : {D : Type 0} (format : DumpFormat) (prefix : Option (List ℕ)) (failed : Option NotWritten) (rounds : List (Taken × D))
+    (names : Option (List (List ℕ))) (p : List ℕ) → prefix ≡ Some p → failed ≡ None → rounds ≡ [] → AsksRest format prefix failed rounds names names failed
+rest_none format prefix failed rounds names p given none nothing = rw (given, none, nothing) (asked_none names)
+
+-- what was requested for the rounds that were left
+pub rest_asked : {D : Type 0} (format : DumpFormat) (prefix : Option (List ℕ)) (failed now : Option NotWritten) (rounds : List (Taken × D))
+    (old new : Option (List (List ℕ))) (p : List ℕ) (result : Result (Unit {0}) NotWritten) → prefix ≡ Some p → failed ≡ None → now ≡ result_err result
+    → AsksInTurn format p rounds old new result → AsksRest format prefix failed rounds old new now
+rest_asked format prefix failed now rounds old new p (Ok _) given none is asked = rw (given, none, is) asked
+rest_asked format prefix failed now rounds old new p (Err dump) given none is asked = rw (given, none, is) asked
