@@ -1,0 +1,28 @@
+use Rattle.std.proofs.Common.{◌≡◌, ◌∙◌, ℕ, ◌+◌, ◌<◌, ◌∷◌, length, sym, subst, ap, arith}
+use Rattle.std.specs.Prelude.{All}
+use Rattle.rts_core.proofs.Openings.{KeysBelow, drop_next}
+use Rattle.placed_runs.proofs.Placing.{placed_next}
+use Rattle.placed_runs.proofs.opening.place_all.Goals as goal
+
+pub place_told-requires-clause-opens : goal.place_told-requires-clause-opens
+place_told-requires-clause-opens g c =
+    let inv = c.loop-chare.invariant in
+    let taken : c.loop-chare.left.items ≡ c.in-Some.chare ∷ c.take_next.new.left.items = c.in-Some.ensures.taken in
+    let next = drop_next g.H.Openings.opened c.loop-chare.e c.in-Some.chare c.take_next.new.left.items (sym taken ∙ inv.what_is_left) in
+    rw c.index_at-index.ensures.value next.1
+
+pub place_told-requires-clause-before : goal.place_told-requires-clause-before
+place_told-requires-clause-before g c = rw c.index_at-index.ensures.value c.loop-chare.invariant.before
+
+pub loop-chare-preserved : goal.loop-chare-preserved
+loop-chare-preserved g c =
+    let inv = c.loop-chare.invariant in
+    let taken : c.loop-chare.left.items ≡ c.in-Some.chare ∷ c.take_next.new.left.items = c.in-Some.ensures.taken in
+    let next = drop_next g.H.Openings.opened c.loop-chare.e c.in-Some.chare c.take_next.new.left.items (sym taken ∙ inv.what_is_left) in
+    record {
+      same_placed = ?;
+      what_is_left = next.0;
+      counted = omega (arith, inv.counted, ap length taken);
+      same_pes = c.in_ok-place_told.ensures.counted ∙ inv.same_pes;
+      before = subst (λ (k : ℕ). All (KeysBelow {C = g.row.C.Denot} (k + 1)) c.place_told.new.pes.items) c.index_at-index.ensures.value c.in_ok-place_told.ensures.before;
+    }
