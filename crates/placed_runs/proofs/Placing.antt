@@ -76,3 +76,22 @@ pub placed_next : {C : Type 0} (pes pes' : List (PeView C)) (e i q : ℕ) (chare
     → i ≡ e → left ≡ chare ∷ left' → told ≡ q ∷ told' → pes' ≡ placed_on pes q i chare (slice_get pes q)
     → each_placed pes e left told ≡ last → each_placed pes' (e + 1) left' told' ≡ last
 placed_next pes pes' e i q chare left left' told told' last same items places placed inv = rw (placed, same) (rw (items, places) at inv)
+
+-- ---- as their ends are taken one by one
+
+-- one more end is taken
+pub moved_next : {X : Type 0} (made more left left' all : List X) (x y : X) → more ≡ made ++ y ∷ [] → y ≡ x → left ≡ x ∷ left' → made ++ left ≡ all → more ++ left' ≡ all
+moved_next {X} made more left left' all x y m same taken is =
+    ap (λ (v : List X). v ++ left') (m ∙ ap (λ (v : X). made ++ v ∷ []) same) ∙ (joined made left' x ∙ (ap (λ (v : List X). made ++ v) (sym taken) ∙ is))
+  where
+    joined : (xs ys : List X) (z : X) → (xs ++ z ∷ []) ++ ys ≡ xs ++ z ∷ ys
+    joined [] ys z = refl
+    joined (w ∷ xs) ys z = ap (λ (v : List X). w ∷ v) (joined xs ys z)
+
+-- all are
+pub moved_all : {X : Type 0} (made left all : List X) → left ≡ [] → made ++ left ≡ all → made ≡ all
+moved_all {X} made left all none is = sym (none_more made) ∙ (ap (λ (v : List X). made ++ v) (sym none) ∙ is)
+  where
+    none_more : (xs : List X) → xs ++ [] ≡ xs
+    none_more [] = refl
+    none_more (x ∷ xs) = ap (λ (v : List X). x ∷ v) (none_more xs)

@@ -89,7 +89,8 @@ fn placed_ends<C: Chare<A>, H: Openings<C>, A: Allocator + Copy>(
     let n = chares.len() as u32;
     let mut made = bare_pes::<C, H, A>(alloc, pes, n)?;
     place_all(&mut made, chares, places)?;
-    ends_of(alloc, made)
+    let ends = ends_of(alloc, made)?;
+    Ok(ends)
 }
 
 // The PEs before any element is placed.
@@ -153,6 +154,7 @@ fn index_at(e: u32) -> Index
 }
 
 // Places a chare as an element on this PE, where only elements before it have been placed.
+#[tactic(auto, using(std::proofs::lemmas::Option::gets))]
 fn place_told<C: Chare<A>, H: Openings<C>, A: Allocator + Copy>(
     pes: &mut Vec<PeState<C, H, A>, A>,
     index: Index,
