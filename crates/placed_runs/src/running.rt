@@ -15,11 +15,15 @@ use std::snapshot::Snapshot;
 use std::sync::Wait;
 use std::thread::Threads;
 
-/// Runs chares whose element `i` opens on the PE `places[i]`.
+/// Runs chares as [`carried_runs::run_in_parts`] does, but element `i` opens on the PE `places[i]`. There is a place for each chare, and
+/// each is one of the PEs.
+///
+/// Where an element starts on another PE than that of the block map, its marks do not agree with what a run expects: the fault is
+/// [`Mismatch`](pe_worker::Fault::Mismatch) then, in place of any other, and the run ends at its first pause.
 ///
 /// # Errors
 ///
-/// Those of [`rts_run::run`].
+/// Those of [`rts_run::run`]. The chares are dropped then.
 pub fn run_placed<
     C: Chare<A> + Send,
     G: Gate + Sync,
