@@ -1,5 +1,5 @@
 //! Tests of runs over threads: worked examples whose results come from outside, runs that end early or are stopped, gates, refused
-//! memory, runs that are carried on, full sizes, queues of little capacity, and random runs after which each letter is found by hand.
+//! memory, runs that are carried on, or open on told PEs, full sizes, queues of little capacity, and random runs after which each letter is found by hand.
 #![tactic(auto)]
 
 #[cfg(test)]
@@ -18,6 +18,8 @@ mod found;
 mod gated;
 #[cfg(test)]
 mod numbers;
+#[cfg(test)]
+mod placed;
 #[cfg(test)]
 mod random;
 #[cfg(test)]
