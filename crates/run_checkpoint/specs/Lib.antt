@@ -4,3 +4,4 @@ pub mod Writing
 pub mod Tallies
 pub mod Scanning
 pub mod Fields
+pub mod Bodies

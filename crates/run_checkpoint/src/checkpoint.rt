@@ -1,18 +1,14 @@
-ghost use Rattle.std.specs.Prelude.{◌≡◌, ◌⊎◌, ◌+◌, ◌≤◌, All, IfSome, IsTrue, List, MatchOption, MatchResult, length, ℕ};
+ghost use Rattle.std.specs.Prelude.{◌≡◌, ◌⊎◌, ◌+◌, ◌≤◌, Err, IfSome, List, length, ℕ};
 ghost use Rattle.std.specs.Io.KnownBytes.{Consumes};
 ghost use Rattle.run_checkpoint.specs.Reading.{IsAnswer, IsReadAgain, IsReading, ReadsToItsEnd};
-ghost use Rattle.run_checkpoint.specs.Text.{CheckpointView, IsCheckpointText, IsWithin};
-ghost use Rattle.run_checkpoint.specs.declared.error.CheckpointError.{CheckpointError};
+ghost use Rattle.run_checkpoint.specs.Text.{CheckpointView};
 ghost use Rattle.run_checkpoint.specs.declared.form.TheConstants.{TEXT_BYTES};
 
+use crate::body::read_body;
 use crate::error::CheckpointError;
 use crate::form::TEXT_BYTES;
 use crate::head::read_head;
-use crate::limits::past_line;
-use crate::places::read_places;
-use crate::rounds::read_rounds;
 use crate::whole::read_whole;
-use crate::workload_part::read_workload;
 use chare_index::Pe;
 use std::alloc::{Allocator, Global};
 use std::io::Read;
@@ -65,20 +61,10 @@ impl<A: Allocator + Copy> Checkpoint<A> {
         if bytes.len() > TEXT_BYTES {
             return Err(CheckpointError::Long);
         }
-        let (rounds, rest) = read_head(bytes)?;
-        let mut decided = Vec::new(alloc);
-        let rest = read_rounds(&mut decided, rounds, rest)?;
-        let mut places = Vec::new(alloc);
-        let rest = read_places(&mut places, rounds + 2, rest)?;
-        let workload = read_workload(alloc, rounds + 2, rest)?;
-        if let Some(line) = past_line(&decided, &places, &workload) {
-            return Err(CheckpointError::Limit(line));
+        match read_head(bytes) {
+            Ok((rounds, rest)) => read_body(alloc, rounds, rest),
+            Err(fault) => Err(fault),
         }
-        Ok(Checkpoint {
-            decided,
-            places,
-            workload,
-        })
     }
 
     /// The checkpoint of the text that a reader gives, to its end. The whole text is in memory while it is read. Reads to the

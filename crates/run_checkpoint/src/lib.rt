@@ -38,6 +38,7 @@
 //! ```
 #![tactic(auto)]
 
+mod body;
 mod checkpoint;
 mod error;
 mod form;

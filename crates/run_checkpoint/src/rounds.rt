@@ -24,11 +24,15 @@ pub(crate) fn read_rounds<'b, A: Allocator>(
 {
     let mut rest = bytes;
     for i in 0..count {
-        let (round, behind) = read_round(rest, i + 1)?;
-        let Ok(()) = decided.push(round) else {
-            return Err(CheckpointError::OutOfMemory);
-        };
-        rest = behind;
+        match read_round(rest, i + 1) {
+            Ok((round, behind)) => {
+                let Ok(()) = decided.push(round) else {
+                    return Err(CheckpointError::OutOfMemory);
+                };
+                rest = behind;
+            }
+            Err(fault) => return Err(fault),
+        }
     }
     Ok(rest)
 }
