@@ -17,7 +17,7 @@ pub short_rest : (bytes part rest : List ℕ) → bytes ≡ part ++ rest → len
 short_rest bytes part rest spelled short = omega (arith, short, ap length spelled, length-append part rest)
 
 -- the places of a checkpoint within its limits
-places_within : (c : CheckpointView) → IsWithin c → ArePlaces c.places
+pub places_within : (c : CheckpointView) → IsWithin c → ArePlaces c.places
 places_within c is =
     record {
       few = omega (arith, is.each_chare, is.workload.few_chares);

@@ -169,6 +169,13 @@ past_round bytes r l small read past =
     let m : d.moved ≡ l.moved = ap (λ (x : RoundLine). x.moved) same in
     past (rw (← b) is.bottleneck, rw (← m) is.moved)
 
+-- rounds with the same numbers are the same
+equal : (e f : DecidedRound) → e.bottleneck ≡ f.bottleneck → e.moved ≡ f.moved → e ≡ f
+equal e f b m = joined e.bottleneck f.bottleneck e.moved f.moved b m
+  where
+    joined : (x y v w : ℕ) → x ≡ y → v ≡ w → ◌≡◌ {A = DecidedRound} (record { bottleneck = x; moved = v }) (record { bottleneck = y; moved = w })
+    joined x y v w one two = rw (one, two) refl
+
 pub round_front : (bytes : List ℕ) (r : ℕ) (l : RoundLine) (d : DecidedRound) → r < 10 ^ DIGITS → round_at bytes ≡ Some l → l.round ≡ r → d.bottleneck ≡ l.bottleneck
     → d.moved ≡ l.moved → IsDecided d → IsFront IsDecided (decided_line r) bytes d l.rest
 unfolding said
@@ -182,9 +189,17 @@ round_front bytes r l d small read round bottleneck moved is =
           let m : e.moved ≡ d.moved = ap (λ (x : RoundLine). x.moved) same ∙ sym moved in
           (equal e d b m, ap (λ (x : RoundLine). x.rest) same);
     }
-  where
-    equal : (e f : DecidedRound) → e.bottleneck ≡ f.bottleneck → e.moved ≡ f.moved → e ≡ f
-    equal e f b m = joined e.bottleneck f.bottleneck e.moved f.moved b m
-      where
-        joined : (x y v w : ℕ) → x ≡ y → v ≡ w → ◌≡◌ {A = DecidedRound} (record { bottleneck = x; moved = v }) (record { bottleneck = y; moved = w })
-        joined x y v w one two = rw (one, two) refl
+
+-- bytes begin with one first line at most
+pub one_head : (r s : ℕ) (t u : List ℕ) → r ≤ AMOUNTS → s ≤ AMOUNTS → head_text r ++ t ≡ head_text s ++ u → (r ≡ s) × (t ≡ u)
+one_head r s t u few other same =
+    same_parts r s t u (sym (head_reads r t (omega (arith, few))) ∙ ap head_at same ∙ head_reads s u (omega (arith, other)))
+
+-- and with one line of a round
+pub one_round : (r : ℕ) (d e : DecidedRound) (t u : List ℕ) → r < 10 ^ DIGITS → IsDecided d → IsDecided e → decided_line r d ++ t ≡ decided_line r e ++ u → (d ≡ e) × (t ≡ u)
+unfolding said
+one_round r d e t u small one other same =
+    let lines = same_line (decided_line r d ++ t) r e u (said r d t) small (decided_short e other) same (round_reads r d t small (decided_short d one)) in
+    let b : d.bottleneck ≡ e.bottleneck = sym (ap (λ (x : RoundLine). x.bottleneck) lines) in
+    let m : d.moved ≡ e.moved = sym (ap (λ (x : RoundLine). x.moved) lines) in
+    (equal d e b m, sym (ap (λ (x : RoundLine). x.rest) lines))

@@ -1,6 +1,6 @@
 -- The line of the places, number by number.
 use Rattle.std.proofs.Common.{◌≡◌, ℕ, ◌+◌, ◌^◌, ◌<◌, ◌≤◌, ◌⊎◌, Bool, true, false, List, [], ◌∷◌, ◌++◌, length, Option, Some, None, sym, ap, subst, ◌∙◌, inl, inr, refl, arith, append_assoc, length-append}
-use Rattle.std.specs.Prelude.{All, codes}
+use Rattle.std.specs.Prelude.{All, MatchBool, codes, not, ◌||◌}
 use Rattle.std.specs.Fmt.{decimal}
 use Rattle.std.specs.List.{flat_map}
 use Rattle.std.proofs.lemmas.List.{append-nil, length_push}
@@ -68,6 +68,34 @@ pub record Next (past past' : Bool) (places places' : List ℕ) (n : ℕ) : Type
   pub still : past ≡ true → past' ≡ true
   pub kept : past ≡ false → past' ≡ false → (places' ≡ places ++ n ∷ []) × (length places < ELEMENTS) × (n < PES)
   pub lost : past ≡ false → past' ≡ true → (length places < ELEMENTS) × (n < PES) → ⊥
+
+pub next_of : (past kept : Bool) (places places' : List ℕ) (n : ℕ)
+    → MatchBool kept ((places' ≡ places ++ n ∷ []) × (length places < ELEMENTS) × (n < PES)) ((length places < ELEMENTS) × (n < PES) → ⊥)
+    → Next past (past || not kept) places places' n
+next_of true kept places places' n is =
+    record {
+      still = λ _. refl;
+      kept = λ no _. absurd (let other : ◌≡◌ {A = Bool} true false = no in cc);
+      lost = λ no _. absurd (let other : ◌≡◌ {A = Bool} true false = no in cc);
+    }
+next_of false true places places' n is =
+    record {
+      still = λ no. absurd (let other : ◌≡◌ {A = Bool} false true = no in cc);
+      kept = λ _ _. is;
+      lost = λ _ no. absurd (let other : ◌≡◌ {A = Bool} false true = no in cc);
+    }
+next_of false false places places' n is =
+    record {
+      still = λ _. refl;
+      kept = λ _ no. absurd (let other : ◌≡◌ {A = Bool} true false = no in cc);
+      lost = λ _ _. is;
+    }
+
+-- what is behind a number is shorter
+pub shorter : (rest : List ℕ) (n : ℕ) (after : List ℕ) → number_at (32 ∷ []) rest ≡ Some (n, after) → length after < length rest
+shorter rest n after read =
+    let spelled = (is_number (32 ∷ []) rest n after read).spelled in
+    omega (arith, ap length spelled, length-append (decimal n) after)
 
 pub one_taken : (bytes : List ℕ) (past past' : Bool) (places places' rest after : List ℕ) (n : ℕ) → Taken bytes past places rest
     → number_at (32 ∷ []) rest ≡ Some (n, after) → Next past past' places places' n → Taken bytes past' places' after
@@ -191,3 +219,29 @@ places_front bytes rest places after end_ word are ended =
           let tails : tail ≡ end_ = cc in
           (found.0 ∙ sym same, tails);
     }
+
+-- bytes begin with one line of places at most
+one_fields : (p q t u : List ℕ) → All IsPlace p → All IsPlace q → fields p ++ 10 ∷ t ≡ fields q ++ 10 ∷ u → (p ≡ q) × (t ≡ u)
+one_fields [] [] t u one other same = let tails : t ≡ u = cc in (refl, tails)
+one_fields [] (n ∷ q) t u one other same =
+    absurd (none_read (10 ∷ t) t n (fields q ++ 10 ∷ u) refl (first_read n q u (10 ∷ t) (All-head IsPlace n q other) same))
+one_fields (m ∷ p) [] t u one other same =
+    absurd (none_read (10 ∷ u) u m (fields p ++ 10 ∷ t) refl (first_read m p t (10 ∷ u) (All-head IsPlace m p one) (sym same)))
+one_fields (m ∷ p) (n ∷ q) t u one other same =
+    let rest : List ℕ = fields (m ∷ p) ++ 10 ∷ t in
+    let heads = same_parts m n (fields p ++ 10 ∷ t) (fields q ++ 10 ∷ u)
+    (sym (first_read m p t rest (All-head IsPlace m p one) refl) ∙ first_read n q u rest (All-head IsPlace n q other) same) in
+    let later = one_fields p q t u (All-tail IsPlace m p one) (All-tail IsPlace n q other) heads.1 in
+    (joined m n p q heads.0 later.0, later.1)
+  where
+    joined : (x y : ℕ) (v w : List ℕ) → x ≡ y → v ≡ w → x ∷ v ≡ y ∷ w
+    joined x y v w one two = rw (one, two) refl
+
+pub one_places : (p q t u : List ℕ) → ArePlaces p → ArePlaces q → places_line p ++ t ≡ places_line q ++ u → (p ≡ q) × (t ≡ u)
+one_places p q t u one other same =
+    let both : Some (fields p ++ 10 ∷ t) ≡ Some (fields q ++ 10 ∷ u) =
+    sym (behind_word (codes "places") (fields p ++ 10 ∷ t))
+    ∙ ap (behind (codes "places")) (sym (line_parts p t) ∙ same ∙ line_parts q u)
+    ∙ behind_word (codes "places") (fields q ++ 10 ∷ u) in
+    let rests : fields p ++ 10 ∷ t ≡ fields q ++ 10 ∷ u = cc in
+    one_fields p q t u one.all other.all rests

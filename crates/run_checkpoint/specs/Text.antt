@@ -12,10 +12,17 @@ pub record CheckpointView : Type 0 where
   pub places : List ℕ
   pub workload : WorkloadView
 
+-- a round, without what was decided
+abbrev pub round_start : ℕ → List ℕ
+round_start r = codes "round " ++ decimal r
+
+-- what was decided, after the round
+abbrev pub decision_end : ℕ → ℕ → List ℕ
+decision_end bottleneck moved = codes " bottleneck " ++ decimal bottleneck ++ codes " moved " ++ decimal moved ++ newline
+
 -- round r bottleneck B moved M
 abbrev pub round_line : ℕ → ℕ → ℕ → List ℕ
-round_line r bottleneck moved =
-    codes "round " ++ decimal r ++ (codes " bottleneck " ++ decimal bottleneck ++ codes " moved " ++ decimal moved ++ newline)
+round_line r bottleneck moved = round_start r ++ decision_end bottleneck moved
 
 -- a line for each of these rounds, of which the first has this number
 abbrev pub round_lines : ℕ → List DecidedRound → List ℕ

@@ -7,7 +7,7 @@ ghost use Rattle.workload.specs.Text.{WorkloadView};
 /// Laws of the text. The function does nothing: its clauses are the laws. Bytes are the text of at most one checkpoint, and a
 /// checkpoint has at most one text. What is written for a checkpoint within its limits is its text, unless it is too long.
 /// After no rounds a tally has its amounts and padding, and has posted and got nothing.
-#[tactic(auto, using(crate::proofs::Laws::checkpoint_laws))]
+#[tactic(auto, using(crate::proofs::TextLaws::checkpoint_laws))]
 pub fn checkpoint_laws()
     ensures one_checkpoint { (c d : CheckpointView) (bytes : List ℕ) → IsCheckpointText c bytes → IsCheckpointText d bytes → c ≡ d }
     ensures one_text { (c : CheckpointView) (a b : List ℕ) → IsCheckpointText c a → IsCheckpointText c b → a ≡ b }

@@ -49,7 +49,8 @@ fn take_places<'b, A: Allocator>(
     let mut past = false;
     let mut rest = bytes;
     while let Some((place, behind)) = number_at(b" ", rest) {
-        past = past || !keep(places, place)?;
+        let kept = keep(places, place)?;
+        past |= !kept;
         rest = behind;
     }
     Ok((past, rest))

@@ -1,11 +1,11 @@
-ghost use Rattle.std.specs.Prelude.{◌≡◌, ◌<◌, ◌^◌, List, [], MatchResult};
+ghost use Rattle.std.specs.Prelude.{◌≡◌, ◌<◌, ◌^◌, ◌++◌, ◌∷◌, List, [], MatchResult, OnOk};
 ghost use Rattle.run_checkpoint.specs.Scanning.{AreRounds, IsFront, IsNotFront};
 ghost use Rattle.run_checkpoint.specs.Text.{round_lines};
 
 use crate::checkpoint::DecidedRound;
 use crate::error::CheckpointError;
 use crate::line::read_round;
-use std::alloc::Allocator;
+use std::alloc::{AllocError, Allocator};
 
 /// Reads the lines of so many rounds onto a list that is empty, and returns the bytes after them.
 ///
@@ -26,13 +26,22 @@ pub(crate) fn read_rounds<'b, A: Allocator>(
     for i in 0..count {
         match read_round(rest, i + 1) {
             Ok((round, behind)) => {
-                let Ok(()) = decided.push(round) else {
-                    return Err(CheckpointError::OutOfMemory);
-                };
+                append(decided, round)?;
                 rest = behind;
             }
             Err(fault) => return Err(fault),
         }
     }
     Ok(rest)
+}
+
+// Appends a round to the list.
+fn append<A: Allocator>(
+    decided: &mut Vec<DecidedRound, A>,
+    round: DecidedRound,
+) -> Result<(), AllocError>
+    ensures { OnOk result (decided.new.items ≡ decided.old.items ++ (round ∷ [])) }
+{
+    decided.push(round)?;
+    Ok(())
 }

@@ -4,7 +4,7 @@ ghost use Rattle.std.specs.Prelude.{◌≡◌, ◌++◌, ◌∷◌, [], List, co
 ghost use Rattle.std.specs.List.{flat_map};
 ghost use Rattle.std.specs.String.{string_bytes};
 ghost use Rattle.run_checkpoint.specs.Scanning.{decided_line, places_line};
-ghost use Rattle.run_checkpoint.specs.Text.{checkpoint_text, round_lines};
+ghost use Rattle.run_checkpoint.specs.Text.{checkpoint_text, decision_end, round_lines, round_start};
 ghost use Rattle.run_checkpoint.specs.Writing.{Puts};
 ghost use Rattle.workload.specs.Text.{amounts_text, line, workload_text};
 
@@ -97,7 +97,24 @@ fn push_round<B: Allocator>(
     requires empty { string_bytes text.old ≡ [] }
     ensures { OnOk result (string_bytes text.new ≡ decided_line round (record { bottleneck = bottleneck; moved = moved })) }
 {
-    write!(text, "round {round}")?;
+    push_round_start(text, round)?;
+    push_decision_end(text, bottleneck, moved)
+}
+
+// A round, without what was decided.
+fn push_round_start<B: Allocator>(text: &mut String<B>, round: usize) -> Result<(), AllocError>
+    ensures { OnOk result (string_bytes text.new ≡ string_bytes text.old ++ round_start round) }
+{
+    write!(text, "round {round}")
+}
+
+fn push_decision_end<B: Allocator>(
+    text: &mut String<B>,
+    bottleneck: u64,
+    moved: u64,
+) -> Result<(), AllocError>
+    ensures { OnOk result (string_bytes text.new ≡ string_bytes text.old ++ decision_end bottleneck moved) }
+{
     writeln!(text, " bottleneck {bottleneck} moved {moved}")
 }
 

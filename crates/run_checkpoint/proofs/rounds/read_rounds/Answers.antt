@@ -1,4 +1,5 @@
-use Rattle.std.proofs.Common.{arith, refl, inl}
+use Rattle.std.proofs.Common.{arith, inl}
+use Rattle.std.proofs.lemmas.Result.{err_from_is_err_and}
 use Rattle.run_checkpoint.proofs.RoundLines.{none_before, one_more, all_read, not_rounds}
 use Rattle.run_checkpoint.proofs.rounds.read_rounds.Goals as goal
 
@@ -7,8 +8,8 @@ loop-i-init g c = none_before c.args.count c.args.bytes.now c.args.decided.now.i
 
 pub loop-i-preserved : goal.loop-i-preserved
 loop-i-preserved g c =
-    one_more c.args.count c.args.bytes.now c.loop-i.decided.items c.push.new.self.items c.loop-i.i c.loop-i.rest.now c.in-Ok.behind.now c.in-Ok.round
-    c.loop-i.invariant c.loop-i-test.true c.in-Ok.ensures c.push.ensures.items
+    one_more c.args.count c.args.bytes.now c.loop-i.decided.items c.append.new.decided.items c.loop-i.i c.loop-i.rest.now c.in-Ok.behind.now c.in-Ok.round
+    c.loop-i.invariant c.loop-i-test.true c.in-Ok.ensures c.in_ok-append.ensures
 
 pub returns-in-Err : goal.returns-in-Err
 returns-in-Err g c =
