@@ -57,7 +57,8 @@ pub past_head : (bytes : List ℕ) (r : ℕ) (rest : List ℕ) → head_at bytes
 past_head bytes r rest read past =
     λ s tail few spelled.
     let other : Some (s, tail) ≡ Some (r, rest) = sym (head_reads s tail (omega (arith, few))) ∙ ap head_at (sym spelled) ∙ read in
-    let same : s ≡ r = (same_parts s r tail rest other).0 in
+    let both : (s ≡ r) × (tail ≡ rest) = same_parts s r tail rest other in
+    let same : s ≡ r = both.0 in
     omega (arith, few, past, same)
 
 pub head_front : (bytes : List ℕ) (r : ℕ) (rest : List ℕ) → head_at bytes ≡ Some (r, rest) → r ≤ AMOUNTS → IsFront IsHead head_text bytes r rest

@@ -49,7 +49,10 @@ fn tally_after<A: Allocator + Copy>(
     let sum = sum_of(&workload.amounts[..rounds as usize], from as usize);
     let mut pad = Vec::new(alloc);
     pad.resize(workload.pad as usize, 0)?;
-    Tally::after(rounds, sum, Items::new(amounts), Bytes::new(pad)).ok_or(AllocError)
+    match Tally::after(rounds, sum, Items::new(amounts), Bytes::new(pad)) {
+        Some(tally) => Ok(tally),
+        None => Err(AllocError),
+    }
 }
 
 // Of this number of chares the one that sends its amounts to chare `i`.

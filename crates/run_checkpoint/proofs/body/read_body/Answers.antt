@@ -1,6 +1,5 @@
-use Rattle.std.proofs.Common.{ap, inr, arith}
+use Rattle.std.proofs.Common.{inr}
 use Rattle.std.proofs.lemmas.Result.{err_from_is_err_and}
-use Rattle.run_checkpoint.specs.Scanning.{AreOf}
 use Rattle.run_checkpoint.proofs.BodyParts.{no_rounds, no_places, no_workload, short_places, not_of, body_of}
 use Rattle.run_checkpoint.proofs.body.read_body.Goals as goal
 
@@ -29,3 +28,20 @@ returns-in_err-workload g c =
     (no_workload c.args.rounds c.args.bytes.now c.read_rounds.new.decided.items c.in_ok-behind_rounds.behind_rounds.now c.in_ok-behind_rounds.ensures
     c.read_places.new.places.items c.in_ok-behind_places.behind_places.now c.in_ok-behind_places.ensures c.requires.short
     c.in_err-workload.field-0.0 c.in_err-workload.ensures)
+
+pub returns-in-Some : goal.returns-in-Some
+returns-in-Some g c =
+    let past = rw (c.deref.ensures.value, c.deref-2.ensures.value) at c.in-Some.ensures in
+    inr (
+      tt,
+      not_of c.args.rounds c.args.bytes.now c.read_rounds.new.decided.items c.in_ok-behind_rounds.behind_rounds.now c.in_ok-behind_rounds.ensures
+          c.read_places.new.places.items c.in_ok-behind_places.behind_places.now c.in_ok-behind_places.ensures c.requires.short
+          _ c.in_ok-workload.ensures.0 c.in_ok-workload.ensures.1 past,
+    )
+
+pub returns : goal.returns
+returns g c =
+    let are = rw (c.deref.ensures.value, c.deref-2.ensures.value) at c.in_default.ensures in
+    body_of c.args.rounds c.args.bytes.now c.read_rounds.new.decided.items c.in_ok-behind_rounds.behind_rounds.now c.in_ok-behind_rounds.ensures
+    c.read_places.new.places.items c.in_ok-behind_places.behind_places.now c.in_ok-behind_places.ensures c.requires.short
+    _ c.in_ok-workload.ensures.0 c.in_ok-workload.ensures.1 are

@@ -9,7 +9,7 @@ loop-i-init g c = none_before c.args.count c.args.bytes.now c.args.decided.now.i
 pub loop-i-preserved : goal.loop-i-preserved
 loop-i-preserved g c =
     one_more c.args.count c.args.bytes.now c.loop-i.decided.items c.append.new.decided.items c.loop-i.i c.loop-i.rest.now c.in-Ok.behind.now c.in-Ok.round
-    c.loop-i.invariant c.loop-i-test.true c.in-Ok.ensures c.in_ok-append.ensures
+    c.loop-i.invariant c.loop-i-test.true c.in-Ok.ensures c.in_ok-append-in-Ok.ensures
 
 pub returns-in-Err : goal.returns-in-Err
 returns-in-Err g c =

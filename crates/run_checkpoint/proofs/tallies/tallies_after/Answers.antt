@@ -1,4 +1,5 @@
-use Rattle.std.proofs.Common.{◌≡◌, arith, ap}
+use Rattle.std.proofs.Common.{◌≡◌, arith, ap, map, subst}
+use Rattle.std.specs.List.{range_with_len}
 use Rattle.run_checkpoint.specs.Tallies.{tally_after}
 use Rattle.run_checkpoint.proofs.Collecting.{one_more}
 use Rattle.run_checkpoint.proofs.tallies.tallies_after.Goals as goal
@@ -12,4 +13,4 @@ pub returns : goal.returns
 returns g c =
     let chares : c.workload.inside.chares ≡ c.args.workload.now.chares = ap (λ w. w.chares) c.workload.view_is in
     let end : c.loop-i.i ≡ c.args.workload.now.chares = omega (arith, chares) in
-    record { value = rw (← end) c.loop-i.invariant }
+    record { value = subst (λ n. c.loop-i.tallies.items ≡ map (tally_after c.args.workload.now c.args.rounds) (range_with_len 0 n)) end c.loop-i.invariant }

@@ -19,7 +19,7 @@ loop-row-preserved g c =
 
 pub returns-in_err-put_line : goal.returns-in_err-put_line
 returns-in_err-put_line g c =
-    piece_fails (λ (row : Vec ℕ g.row.A.Denot). amounts_text row.items) c.args.rows.now c.loop-row.row-index c.row-item.result c.loop-row-test.true c.row-item.is
+    piece_fails (λ (row : Vec ℕ g.row.A.Denot). amounts_text row.items) c.args.rows.now c.loop-row.row-index c.row-item.result c.loop-row-test.true c.row-item.is _
     (g.W.Write.contents c.args.writer.now) (g.W.Write.contents c.loop-row.writer) (g.W.Write.contents c.put_line.new.writer) c.in_err-put_line.field-0.0 c.from_residual.result
     c.loop-row.invariant (rw c.deref.ensures.value at c.in_err-put_line.ensures) c.from_residual.ensures.1
 
