@@ -1,6 +1,7 @@
 -- Lists that are made item by item from others.
-use Rattle.std.proofs.Common.{◌≡◌, ℕ, ◌+◌, ◌<◌, List, [], ◌∷◌, ◌++◌, length, map, get_or, slice_index, ap, sym, refl, ◌∙◌, arith, zero-add}
-use Rattle.std.specs.Prelude.{All, Vec}
+use Rattle.std.proofs.Common.{◌≡◌, ℕ, zero, suc, ◌+◌, ◌<◌, List, [], ◌∷◌, ◌++◌, length, map, take, get_or, slice_index, ap, sym, refl, ◌∙◌, arith, zero-add}
+use Rattle.std.specs.Prelude.{All, Vec, sum}
+use Rattle.tally.specs.Tallies.{TallyView}
 use Rattle.std.proofs.Math.ListN.{get_or-map}
 use Rattle.std.proofs.lemmas.Simd.{map-map}
 use Rattle.std.proofs.lemmas.List.{length-map}
@@ -26,3 +27,21 @@ row_inside {A} rows n i each below k d inside =
 pub collected_rows : {A : Type 0} (rows : List (Vec ℕ A)) (i : ℕ) (amounts : List ℕ) → amounts ≡ map (λ row. slice_index row.items i) rows
     → amounts ≡ map (λ row. slice_index row i) (map (λ row. row.items) rows)
 collected_rows {A} rows i amounts is = is ∙ sym (map-map (λ (row : List ℕ). slice_index row i) (λ (row : Vec ℕ A). row.items) rows)
+
+-- the sum of what is in the first rows, and in those of the workload
+pub summed : {A : Type 0} (rows : List (Vec ℕ A)) (amounts : List (List ℕ)) (n i k total : ℕ) → total ≡ sum (map (λ row. slice_index row.items i) (take n rows))
+    → map (λ row. row.items) rows ≡ amounts → i ≡ k → total ≡ sum (take n (map (λ row. slice_index row k) amounts))
+summed {A} rows amounts n i k total is same at =
+    is ∙ ap sum (sym (first n rows)) ∙ ap (λ xs. sum (take n (map (λ (row : List ℕ). slice_index row i) xs))) same
+    ∙ ap (λ j. sum (take n (map (λ (row : List ℕ). slice_index row j) amounts))) at
+  where
+    first : (m : ℕ) (xs : List (Vec ℕ A))
+        → take m (map (λ (row : List ℕ). slice_index row i) (map (λ (row : Vec ℕ A). row.items) xs)) ≡ map (λ (row : Vec ℕ A). slice_index row.items i) (take m xs)
+    first zero xs = refl
+    first (suc m) [] = refl
+    first (suc m) (x ∷ xs) = ap (λ t. slice_index x.items i ∷ t) (first m xs)
+
+-- a tally by its parts
+pub same_tally : (posted : ℕ) (s t : ℕ) (a b p q : List ℕ) → s ≡ t → a ≡ b → p ≡ q
+    → ◌≡◌ {A = TallyView} (record { posted = posted; got = posted; sum = s; amounts = a; pad = p }) (record { posted = posted; got = posted; sum = t; amounts = b; pad = q })
+same_tally posted s t a b p q one two three = rw (one, two, three) refl

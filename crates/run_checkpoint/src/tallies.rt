@@ -1,4 +1,4 @@
-ghost use Rattle.std.specs.Prelude.{◌≡◌, ◌≤◌, ◌<◌, All, IfOk, OnOk, length, map, slice_index, sum};
+ghost use Rattle.std.specs.Prelude.{◌≡◌, ◌≤◌, ◌<◌, All, IfOk, OnOk, length, map, replicate, slice_index, sum};
 ghost use Rattle.run_checkpoint.specs.Tallies.{sender, tallies_after, tally_after};
 ghost use Rattle.tally.specs.declared.tally_limits.TheConstants.TallyLimits.{AMOUNTS};
 ghost use Rattle.workload.specs.Text.{IsWithin};
@@ -47,9 +47,8 @@ fn tally_after<A: Allocator + Copy>(
     collect(&workload.amounts, i as usize, &mut amounts)?;
     let from = sender(workload.chares, i);
     let sum = sum_of(&workload.amounts[..rounds as usize], from as usize);
-    let mut pad = Vec::new(alloc);
-    pad.resize(workload.pad as usize, 0)?;
-    match Tally::after(rounds, sum, Items::new(amounts), Bytes::new(pad)) {
+    let pad = zeros(alloc, workload.pad as usize)?;
+    match Tally::after(rounds, sum, Items::new(amounts), pad) {
         Some(tally) => Ok(tally),
         None => Err(AllocError),
     }
@@ -91,4 +90,13 @@ fn sum_of<A: Allocator>(lines: &[Vec<u32, A>], i: usize) -> u64
         sum += line[i] as u64;
     }
     sum
+}
+
+// This number of bytes, all of them 0.
+fn zeros<A: Allocator>(alloc: A, len: usize) -> Result<Bytes<A>, AllocError>
+    ensures value { IfOk result (λ bytes. bytes ≡ replicate len 0) }
+{
+    let mut bytes = Vec::new(alloc);
+    bytes.resize(len, 0)?;
+    Ok(Bytes::new(bytes))
 }

@@ -22,7 +22,7 @@ pub returns-in_err-put_line : goal.returns-in_err-put_line
 returns-in_err-put_line g c =
     let w = c.args.workload.now in
     let pes : c.workload.inside.pes ≡ w.pes = ap (λ v. v.pes) c.workload.view_is in
-    fails _ _ _ (line (codes "pes") (w.pes ∷ [])) (from_rounds w) _ _ (rw pes at c.in_err-put_line.ensures) c.from_residual.ensures.1
+    fails _ _ _ (line (codes "pes") (w.pes ∷ [])) (from_rounds w) c.in_err-put_line.field-0.0 _ (rw pes at c.in_err-put_line.ensures) c.from_residual.ensures.1
 
 pub returns-in_err-put_line-2 : goal.returns-in_err-put_line-2
 returns-in_err-put_line-2 g c =
@@ -30,7 +30,7 @@ returns-in_err-put_line-2 g c =
     let pes : c.workload.inside.pes ≡ w.pes = ap (λ v. v.pes) c.workload.view_is in
     let rounds : c.workload.inside.rounds ≡ w.rounds = ap (λ v. v.rounds) c.workload.view_is in
     after _ _ _ (line (codes "pes") (w.pes ∷ [])) (from_rounds w) _ (rw pes at c.in_ok-put_line.ensures)
-    (fails _ _ _ (line (codes "rounds") (w.rounds ∷ [])) (from_pad w) _ _ (rw rounds at c.in_err-put_line-2.ensures) c.from_residual-in_err-put_line-2.ensures.1)
+    (fails _ _ _ (line (codes "rounds") (w.rounds ∷ [])) (from_pad w) c.in_err-put_line-2.field-0.0 _ (rw rounds at c.in_err-put_line-2.ensures) c.from_residual-in_err-put_line-2.ensures.1)
 
 pub returns-in_err-put_line-3 : goal.returns-in_err-put_line-3
 returns-in_err-put_line-3 g c =
@@ -40,7 +40,7 @@ returns-in_err-put_line-3 g c =
     let pad : c.workload.inside.pad ≡ w.pad = ap (λ v. v.pad) c.workload.view_is in
     after _ _ _ (line (codes "pes") (w.pes ∷ [])) (from_rounds w) _ (rw pes at c.in_ok-put_line.ensures)
     (after _ _ _ (line (codes "rounds") (w.rounds ∷ [])) (from_pad w) _ (rw rounds at c.in_ok-put_line-2.ensures)
-    (fails _ _ _ (line (codes "pad") (w.pad ∷ [])) (from_chares w) _ _ (rw pad at c.in_err-put_line-3.ensures) c.from_residual-in_err-put_line-3.ensures.1))
+    (fails _ _ _ (line (codes "pad") (w.pad ∷ [])) (from_chares w) c.in_err-put_line-3.field-0.0 _ (rw pad at c.in_err-put_line-3.ensures) c.from_residual-in_err-put_line-3.ensures.1))
 
 pub returns-in_err-put_line-4 : goal.returns-in_err-put_line-4
 returns-in_err-put_line-4 g c =
@@ -52,7 +52,7 @@ returns-in_err-put_line-4 g c =
     after _ _ _ (line (codes "pes") (w.pes ∷ [])) (from_rounds w) _ (rw pes at c.in_ok-put_line.ensures)
     (after _ _ _ (line (codes "rounds") (w.rounds ∷ [])) (from_pad w) _ (rw rounds at c.in_ok-put_line-2.ensures)
     (after _ _ _ (line (codes "pad") (w.pad ∷ [])) (from_chares w) _ (rw pad at c.in_ok-put_line-3.ensures)
-    (fails _ _ _ (line (codes "chares") (w.chares ∷ [])) (from_amounts w) _ _ (rw chares at c.in_err-put_line-4.ensures) c.from_residual-in_err-put_line-4.ensures.1)))
+    (fails _ _ _ (line (codes "chares") (w.chares ∷ [])) (from_amounts w) c.in_err-put_line-4.field-0.0 _ (rw chares at c.in_err-put_line-4.ensures) c.from_residual-in_err-put_line-4.ensures.1)))
 
 pub returns : goal.returns
 returns g c =
