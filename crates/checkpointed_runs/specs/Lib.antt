@@ -1,0 +1,5 @@
+pub mod Beginning
+pub mod Driving
+pub mod Keeping
+pub mod Lines
+pub mod Whole

@@ -1,0 +1,55 @@
+//! The two files of a checkpoint: a new one, and the one whose place it takes.
+
+ghost use Rattle.std.specs.Prelude.{◌∷◌, [], ℕ, List, Option, IfOk, IfSome};
+ghost use Rattle.checkpointed_runs.specs.Keeping.{Asked, AsksFor, HoldsNothing, Made, Placed, Replaces};
+ghost use Rattle.run_checkpoint.specs.Text.{checkpoint_text};
+
+use chare_index::Pe;
+use run_checkpoint::{DecidedRound, write_checkpoint};
+use std::alloc::Allocator;
+use std::io::{self, Write};
+use workload::Workload;
+
+/// Where checkpoints go.
+pub trait CheckpointFiles {
+    /// A file that was made.
+    type File: Write + Drop;
+
+    // what was asked for, in order, where that is known
+    ghost asked: { Self → Option (List Asked) };
+
+    /// Makes the file with this name, empty.
+    fn create(&mut self, name: &str) -> io::Result<Self::File>
+        ensures asked { AsksFor (asked self.old) (asked self.new) (Made name.now ∷ []) }
+        ensures empty { IfSome (asked self.new) (λ _. IfOk result (λ file. HoldsNothing (File.contents file))) };
+
+    /// Waits until what is in this file, which has the name `from`, outlasts the system. Then it gives the file the name `to`; another
+    /// file that had this name is no more. At no time is there no file of this name, if there was one.
+    fn put_in_place(&mut self, file: Self::File, from: &str, to: &str) -> io::Result<()>
+        ensures asked { AsksFor (asked self.old) (asked self.new) (Placed from.now to.now (File.contents file) ∷ []) };
+}
+
+/// Writes a checkpoint to a new file with the name `new`, which then takes the name `name`. So a file of that name is whole at any time: it
+/// is the one before, or the new one.
+///
+/// # Errors
+///
+/// Memory was refused, or the system's reason, where the new file was not made, written or put in its place. What was written of it
+/// stays.
+pub fn replace<F: CheckpointFiles, A: Allocator + Copy>(
+    alloc: A,
+    files: &mut F,
+    new: &str,
+    name: &str,
+    decided: &[DecidedRound],
+    places: &[Pe],
+    workload: &Workload<A>,
+) -> io::Result<()>
+    ensures asked { Replaces new.now name.now (checkpoint_text (record { decided = decided.now; places = places.now; workload = workload.now }))
+        (F.asked files.old) (F.asked files.new) result }
+{
+    let mut file = files.create(new)?;
+    write_checkpoint(alloc, decided, places, workload, &mut file)?;
+    file.flush()?;
+    files.put_in_place(file, new, name)
+}
