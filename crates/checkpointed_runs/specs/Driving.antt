@@ -2,22 +2,23 @@
 use Rattle.std.specs.Prelude.{◌≡◌, ◌⊎◌, ℕ, List, Option, None, Some, length}
 use Rattle.std.specs.Io.KnownBytes.{Appends}
 use Rattle.at_sync.specs.declared.strategy.Strategy.{Strategy}
+use Rattle.checkpointed_runs.specs.Placed.{IsPlacedOutcome}
 use Rattle.checkpointed_runs.specs.Whole.{whole_text}
 use Rattle.pe_worker.specs.declared.fault.Fault.{Fault}
 use Rattle.rts_run.specs.Outcomes.{OutcomeView}
 use Rattle.run_checkpoint.specs.Tallies.{tallies_after}
 use Rattle.run_checkpoint.specs.Text.{CheckpointView}
 use Rattle.streams.specs.Writing.{WritesPrefix}
-use Rattle.tally.specs.Tallies.{TallyView}
-use Rattle.workload_run.specs.Driving.{IsLeftBy}
+use Rattle.tally.specs.Tallies.{TallyRefuses, TallyView, tally_pack, tally_step}
 use Rattle.workload_run.specs.Lines.{memory_line}
 use Rattle.workload_run.specs.Telling.{TellsOutcome}
 use Rattle.workload_run.specs.declared.ended.RunEnd.{RunEnd}
 use Rattle.workload_run.specs.declared.ended.RunEnd.TheVariants.{Ran, Refused, OutOfMemory, WriteFailed}
 
--- what a run from a checkpoint left: one of the tallies of the workload after the rounds that were decided, on its PEs
+-- what a run from a checkpoint left: one of the tallies of the workload after the rounds that were decided, on its PEs, opened on its places
 abbrev pub IsLeftFrom : {A : Type 0} → (TallyView → Type 0) → CheckpointView → Strategy → OutcomeView TallyView A → Type 0
-IsLeftFrom fits from strategy o = IsLeftBy fits (tallies_after from.workload (length from.decided)) from.workload.pes strategy o
+IsLeftFrom fits from strategy o =
+    IsPlacedOutcome tally_step fits tally_pack TallyRefuses (tallies_after from.workload (length from.decided)) from.places from.workload.pes strategy o
 
 -- the text of a whole run was written, or the line for refused memory, or a prefix of one
 abbrev pub TellsWhole : List ℕ → Option (List ℕ) → Option (List ℕ) → Option Fault → RunEnd → Type 0

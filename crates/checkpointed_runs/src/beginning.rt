@@ -1,8 +1,9 @@
 //! What a run begins from.
 
-ghost use Rattle.std.specs.Prelude.{◌≡◌, ◌≤◌, IfOk};
+ghost use Rattle.std.specs.Prelude.{◌≡◌, ◌<◌, ◌≤◌, All, IfOk, length};
 ghost use Rattle.chare_index.specs.declared.limits.TheConstants.Limits.{PES};
 ghost use Rattle.checkpointed_runs.specs.Beginning.{begun_on, opening_of};
+ghost use Rattle.rts_core.specs.Worlds.{opening_words};
 ghost use Rattle.run_checkpoint.specs.Text.{IsWithin};
 ghost use Rattle.workload.specs.Text.{IsWithin as IsWorkload};
 
@@ -49,14 +50,18 @@ pub fn on_pes<A: Allocator + Copy>(
     ensures value { IfOk result (λ c. c ≡ begun_on pes checkpoint) }
     ensures within { IfOk result IsWithin }
 {
-    if checkpoint.workload.pes == pes {
-        return Ok(checkpoint);
-    }
     let Checkpoint {
         decided,
-        places: _,
+        places,
         mut workload,
     } = checkpoint;
+    if workload.pes == pes {
+        return Ok(Checkpoint {
+            decided,
+            places,
+            workload,
+        });
+    }
     workload.pes = pes;
     let places = places_of(alloc, &workload)?;
     Ok(Checkpoint {
@@ -72,6 +77,9 @@ fn places_of<A: Allocator + Copy>(
     workload: &Workload<A>,
 ) -> Result<Vec<Pe, A>, AllocError>
     requires within { IsWorkload workload.now }
+    ensures value { IfOk result (λ places. places.items ≡ opening_words workload.now.chares workload.now.pes) }
+    ensures each_chare { IfOk result (λ places. length places.items ≡ workload.now.chares) }
+    ensures placed { IfOk result (λ places. All (λ p. p < workload.now.pes) places.items) }
 {
     opening_words(alloc, workload.chares, Pes::of(workload.pes))
 }

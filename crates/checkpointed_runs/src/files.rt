@@ -21,12 +21,12 @@ pub trait CheckpointFiles {
     /// Makes the file with this name, empty.
     fn create(&mut self, name: &str) -> io::Result<Self::File>
         ensures asked { AsksFor (asked self.old) (asked self.new) (Made name.now ∷ []) }
-        ensures empty { IfSome (asked self.new) (λ _. IfOk result (λ file. HoldsNothing (File.contents file))) };
+        ensures empty { IfSome (asked self.new) (λ _. IfOk result (λ file. HoldsNothing (Self.File.contents file))) };
 
     /// Waits until what is in this file, which has the name `from`, outlasts the system. Then it gives the file the name `to`; another
     /// file that had this name is no more. At no time is there no file of this name, if there was one.
     fn put_in_place(&mut self, file: Self::File, from: &str, to: &str) -> io::Result<()>
-        ensures asked { AsksFor (asked self.old) (asked self.new) (Placed from.now to.now (File.contents file) ∷ []) };
+        ensures asked { AsksFor (asked self.old) (asked self.new) (Placed from.now to.now (Self.File.contents file) ∷ []) };
 }
 
 /// Writes a checkpoint to a new file with the name `new`, which then takes the name `name`. So a file of that name is whole at any time: it
