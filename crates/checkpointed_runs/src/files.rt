@@ -1,7 +1,8 @@
 //! The two files of a checkpoint: a new one, and the one whose place it takes.
 
-ghost use Rattle.std.specs.Prelude.{◌∷◌, [], ℕ, List, Option, IfOk, IfSome};
-ghost use Rattle.checkpointed_runs.specs.Keeping.{Asked, AsksFor, HoldsNothing, Made, Placed, Replaces};
+ghost use Rattle.std.specs.Prelude.{◌≡◌, ◌∷◌, [], ℕ, List, Option, Some, IfOk, IfSome, OnOk};
+ghost use Rattle.std.specs.Io.KnownBytes.{Appends};
+ghost use Rattle.checkpointed_runs.specs.Keeping.{Asked, AsksFor, Made, Placed, Replaces};
 ghost use Rattle.run_checkpoint.specs.Text.{checkpoint_text};
 
 use chare_index::Pe;
@@ -18,10 +19,10 @@ pub trait CheckpointFiles {
     // what was asked for, in order, where that is known
     ghost asked: { Self → Option (List Asked) };
 
-    /// Makes the file with this name, empty.
+    /// Makes the file with this name, empty. Where it is known what is asked for, it is known what a file holds, too.
     fn create(&mut self, name: &str) -> io::Result<Self::File>
         ensures asked { AsksFor (asked self.old) (asked self.new) (Made name.now ∷ []) }
-        ensures empty { IfSome (asked self.new) (λ _. IfOk result (λ file. HoldsNothing (Self.File.contents file))) };
+        ensures empty { IfSome (asked self.new) (λ _. IfOk result (λ file. Self.File.contents file ≡ Some [])) };
 
     /// Waits until what is in this file, which has the name `from`, outlasts the system. Then it gives the file the name `to`; another
     /// file that had this name is no more. At no time is there no file of this name, if there was one.
@@ -49,7 +50,21 @@ pub fn replace<F: CheckpointFiles, A: Allocator + Copy>(
         (F.asked files.old) (F.asked files.new) result }
 {
     let mut file = files.create(new)?;
-    write_checkpoint(alloc, decided, places, workload, &mut file)?;
-    file.flush()?;
+    fill(alloc, &mut file, decided, places, workload)?;
     files.put_in_place(file, new, name)
+}
+
+// Writes the text of a checkpoint, and flushes the writer.
+fn fill<W: Write, A: Allocator + Copy>(
+    alloc: A,
+    writer: &mut W,
+    decided: &[DecidedRound],
+    places: &[Pe],
+    workload: &Workload<A>,
+) -> io::Result<()>
+    ensures written { OnOk result (Appends (W.contents writer.old) (W.contents writer.new)
+        (checkpoint_text (record { decided = decided.now; places = places.now; workload = workload.now }))) }
+{
+    write_checkpoint(alloc, decided, places, workload, writer)?;
+    writer.flush()
 }
