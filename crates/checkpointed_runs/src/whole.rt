@@ -3,7 +3,8 @@
 ghost use Rattle.std.specs.Prelude.{◌≡◌, ◌+◌, ◌*◌, ◌++◌, [], OnOk, IfOk, IfSome, length};
 ghost use Rattle.std.specs.String.{string_bytes};
 ghost use Rattle.checkpointed_runs.specs.Whole.{earlier_lines, later_lines, whole_text};
-ghost use Rattle.run_text.specs.Sums.{AreTallies};
+ghost use Rattle.run_text.specs.Sums.{AreTallies, element_sums};
+ghost use Rattle.run_text.specs.Text.{ending_line};
 
 use lb_refinement::Refined;
 use lb_snapshot::Snapshot;
@@ -35,10 +36,24 @@ pub fn whole_text<A: Allocator + Copy>(
     };
     let mut text = String::new(alloc);
     push_earlier(&mut text, decided)?;
-    push_later(&mut text, decided.len(), outcome.rounds())?;
-    push_ending(alloc, &mut text, n, outcome)?;
+    push_rest(alloc, &mut text, decided.len(), n, outcome)?;
     push_account(&mut text, &account)?;
     Ok(text)
+}
+
+// Appends the lines of the rounds of a run before which this number of rounds were decided, and its ending.
+fn push_rest<A: Allocator + Copy>(
+    alloc: A,
+    text: &mut String<A>,
+    before: usize,
+    n: usize,
+    outcome: &Outcome<Tally<A>, A>,
+) -> Result<(), AllocError>
+    requires tallies { AreTallies n outcome.now }
+    ensures { OnOk result (string_bytes text.new ≡ string_bytes text.old ++ later_lines before outcome.now.board.rounds ++ ending_line outcome.now.fault (element_sums outcome.now n)) }
+{
+    push_later(text, before, outcome.rounds())?;
+    push_ending(alloc, text, n, outcome)
 }
 
 // An account with the letters of earlier rounds of `n` elements.
@@ -62,8 +77,8 @@ fn push_earlier<A: Allocator>(
 ) -> Result<(), AllocError>
     ensures { OnOk result (string_bytes text.new ≡ string_bytes text.old ++ earlier_lines decided.now) }
 {
-    for (i, round) in decided.iter().enumerate() {
-        push_round(text, i + 1, round.bottleneck, round.moved)?;
+    for (i, DecidedRound { bottleneck, moved }) in decided.iter().enumerate() {
+        push_round(text, i + 1, *bottleneck, *moved)?;
     }
     Ok(())
 }
