@@ -1,11 +1,11 @@
 //! The marks of all elements of a run whose elements opened on told PEs, compared with its rounds.
 
-ghost use Rattle.std.specs.Prelude.{◌≡◌, ◌↔◌, All, IfSome, IsTrue, map, option_copied};
+ghost use Rattle.std.specs.Prelude.{◌↔◌, All, IfSome, IsTrue, map};
 ghost use Rattle.checkpointed_runs.specs.Placed.{AreToldMarked, IsToldMarked, IsToldOn, IsToldParcel, IsToldPe};
 
 use at_sync::Board;
 use chare_index::{Index, Pe};
-use chares::{Carried, Chare, KeptMark};
+use chares::{Carried, Chare, Element, KeptMark};
 use pe_state::{HeldParcel, Item, PeEnd};
 use round_marks::marks_agree;
 use std::alloc::Allocator;
@@ -57,19 +57,16 @@ fn queues_agree<A: Allocator>(
 
 // Whether the marks of all elements that are packed in these parcels agree.
 fn parcels_agree<A: Allocator>(board: &Board<A>, places: &[Pe], parcels: &[HeldParcel<A>]) -> bool
-    ensures { IsTrue result ↔ All (IsToldParcel places.now board.now) parcels.now }
+    ensures agree { IsTrue result ↔ All (IsToldParcel places.now board.now) parcels.now }
 {
-    for parcel in parcels {
-        if !parcel_agrees(board, places, parcel) {
-            return false;
-        }
-    }
-    true
+    parcels
+        .iter()
+        .all(|parcel| parcel_agrees(board, places, parcel))
 }
 
 // Whether the marks of all elements of a PE agree: of those in its room, and of those packed in its hand and in its outbox.
 fn pe_agrees<C: Chare<A>, A: Allocator>(board: &Board<A>, places: &[Pe], pe: &PeEnd<C, A>) -> bool
-    ensures { IsTrue result ↔ IsToldPe places.now board.now pe.now }
+    ensures agree { IsTrue result ↔ IsToldPe places.now board.now pe.now }
 {
     room_agrees(board, places, pe)
         && hand_agrees(board, places, pe)
@@ -82,12 +79,23 @@ fn room_agrees<C: Chare<A>, A: Allocator>(board: &Board<A>, places: &[Pe], pe: &
 {
     let me = pe.me();
     for (_, element) in pe.room().iter() {
-        let marks = element.marks();
-        if !element_agrees(board, places, element.index(), Some(me), marks) {
+        if !standing_agrees(board, places, me, element) {
             return false;
         }
     }
     true
+}
+
+// Whether the marks of an element in the room of the PE `me` agree.
+fn standing_agrees<C: Chare<A>, A: Allocator>(
+    board: &Board<A>,
+    places: &[Pe],
+    me: Pe,
+    element: &Element<C, A>,
+) -> bool
+    ensures { IsTrue result ↔ IsToldOn places.now board.now me element.now }
+{
+    element_agrees(board, places, element.index(), Some(me), element.marks())
 }
 
 // Whether the marks of the element that is packed in the hand of a PE agree, if one is.
@@ -116,12 +124,9 @@ fn outbox_agrees<C: Chare<A>, A: Allocator>(
 fn items_agree<A: Allocator>(board: &Board<A>, places: &[Pe], items: &[Item<A>]) -> bool
     ensures { IsTrue result ↔ All (λ x. IsToldParcel places.now board.now x.parcel) items.now }
 {
-    for item in items {
-        if !parcel_agrees(board, places, &item.parcel) {
-            return false;
-        }
-    }
-    true
+    items
+        .iter()
+        .all(|item| parcel_agrees(board, places, &item.parcel))
 }
 
 // Whether the marks of the element that is packed in a parcel agree, if one is.
@@ -144,7 +149,7 @@ fn element_agrees<A: Allocator>(
     place: Option<Pe>,
     marks: &[KeptMark],
 ) -> bool
-    ensures { IsTrue result ↔ IsToldMarked places.now board.now e place marks.now }
+    ensures agree { IsTrue result ↔ IsToldMarked places.now board.now e place marks.now }
 {
     let at = e.get() as usize;
     if places.len() <= at {
