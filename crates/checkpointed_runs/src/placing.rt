@@ -1,7 +1,9 @@
 //! The run of elements that open on told PEs.
 
-ghost use Rattle.std.specs.Prelude.{◌≡◌, ◌≤◌, ◌<◌, All, IfOk, length};
-ghost use Rattle.checkpointed_runs.specs.Placed.{IsPlacedOutcome};
+ghost use Rattle.std.specs.Prelude.{◌≡◌, ◌<◌, All, IfOk, IsTrue, length};
+ghost use Rattle.at_sync.specs.Boards.{HaveFinished};
+ghost use Rattle.checkpointed_runs.specs.Placed.{AreToldMarked, IsPlacedOutcome};
+ghost use Rattle.round_marks.specs.Finished.{HaveAllFinished};
 ghost use Rattle.rts_run.specs.Configs.{MayBegin};
 ghost use Rattle.rts_run.specs.Outcomes.{IsOutcome};
 
@@ -49,7 +51,7 @@ pub(crate) fn run_told<
     let outcome = go_on(
         rt, alloc, config, &pausing, pauses, &opening, places, outcome,
     )?;
-    Ok(judged(outcome, places))
+    Ok(judged(config, &opening, outcome, places))
 }
 
 // Carries a run on after each pause, to its end.
@@ -98,23 +100,39 @@ fn may_go_on<C: Chare<A>, A: Allocator>(outcome: &Outcome<C, A>, places: &[Pe]) 
 }
 
 // Whether marks and rounds agree, where elements opened on told PEs.
-fn is_told<C: Chare<A>, A: Allocator>(outcome: &Outcome<C, A>, places: &[Pe]) -> bool {
+fn is_told<C: Chare<A>, A: Allocator>(outcome: &Outcome<C, A>, places: &[Pe]) -> bool
+    ensures { IsTrue result → AreToldMarked places.now outcome.now.board outcome.now.ends outcome.now.left }
+{
     told_agree(outcome.board(), places, outcome.ends(), outcome.left())
 }
 
 // Whether every element has finished, and the board was told so.
-fn has_finished<C: Chare<A>, A: Allocator>(outcome: &Outcome<C, A>) -> bool {
+fn has_finished<C: Chare<A>, A: Allocator>(outcome: &Outcome<C, A>) -> bool
+    ensures board { IsTrue result → HaveFinished outcome.now.board }
+    ensures elements { IsTrue result → HaveAllFinished outcome.now.ends outcome.now.left }
+{
     outcome.board().all_finished() && run_finished(outcome.ends(), outcome.left())
 }
 
 // The outcome without a mismatch, where marks and rounds agree but for where elements opened, and every one has finished.
-fn judged<C: Chare<A>, A: Allocator>(outcome: Outcome<C, A>, places: &[Pe]) -> Outcome<C, A> {
+fn judged<C: Chare<A>, A: Allocator>(
+    config: &Config,
+    opening: &Snapshot<Vec<C, A>>,
+    outcome: Outcome<C, A>,
+    places: &[Pe],
+) -> Outcome<C, A>
+    requires may_begin { MayBegin config.now (length opening.now.value.items) }
+    requires outcome { IsOutcome C.step C.fits C.pack C.refuses opening.now.value.items config.now.pes config.now.strategy outcome }
+    ensures outcome { IsPlacedOutcome C.step C.fits C.pack C.refuses opening.now.value.items places.now config.now.pes config.now.strategy result }
+{
     if outcome.fault() != Some(Fault::Mismatch) {
         return outcome;
     }
     if !is_told(&outcome, places) || !has_finished(&outcome) {
         return outcome;
     }
+    // Its letters add up, as those of every outcome.
+    let _account = outcome.account();
     let (ends, left, board, _) = outcome.into_parts();
     Outcome::new(ends, left, board, None)
 }
