@@ -4,7 +4,7 @@ use Rattle.std.specs.List.{flat_map, range_with_len}
 use Rattle.std.proofs.lemmas.Grind.{flat_map-append}
 use Rattle.std.proofs.lemmas.List.{append-nil, map-id}
 use Rattle.std.proofs.lemmas.List.FromFn.{map-range_with_len_more}
-use Rattle.std.proofs.lemmas.Option.{slice_get_read}
+use Rattle.std.proofs.lemmas.Option.{slice_get-get_or, slice_get_read}
 use Rattle.at_sync.specs.Boards.{Kept}
 use Rattle.checkpointed_runs.specs.Whole.{earlier_line, later_line}
 use Rattle.lb_refinement.specs.Refined.{refined_bottleneck, refined_moved}
@@ -50,13 +50,12 @@ later_at count rounds i kept is = rw (add-one, is) refl
 -- one more line of those before was written
 pub earlier_written : (decided : List DecidedRound) (i : ℕ) (d : DecidedRound) (before start text : List ℕ)
     → i < length decided
-    → d ≡ get_or decided i d
     → start ≡ before ++ flat_map (earlier_line decided) (range_with_len 1 i)
-    → text ≡ start ++ round_line (i + 1) d.bottleneck d.moved
+    → text ≡ start ++ round_line (i + 1) (get_or decided i d).bottleneck (get_or decided i d).moved
     → text ≡ before ++ flat_map (earlier_line decided) (range_with_len 1 (i + 1))
-earlier_written decided i d before start text inside read held written =
-    piece_written (earlier_line decided) i (round_line (i + 1) d.bottleneck d.moved) before start text
-    (earlier_at decided i d (slice_get_read decided (length decided) i d refl inside read)) held written
+earlier_written decided i d before start text inside held written =
+    piece_written (earlier_line decided) i (round_line (i + 1) (get_or decided i d).bottleneck (get_or decided i d).moved) before start text
+    (earlier_at decided i (get_or decided i d) (slice_get-get_or decided i d inside)) held written
 
 -- and one of the run
 pub later_written : {A : Type 0} (count : ℕ) (rounds : List (Kept A)) (i : ℕ) (kept : Kept A) (before start text : List ℕ)
