@@ -3,8 +3,8 @@ use Rattle.std.specs.Prelude.{◌≡◌, ◌≢◌, ◌⊎◌, ℕ, List, [], �
 use Rattle.std.specs.Fmt.{decimal}
 use Rattle.std.specs.Io.KnownBytes.{Appends, Consumes}
 use Rattle.streams.specs.Writing.{WritesPrefix}
-use Rattle.checkpointed_runs.specs.declared.reading.Unread.{Unread}
-use Rattle.checkpointed_runs.specs.declared.reading.Unread.TheVariants.{Refused, OutOfMemory, WriteFailed}
+use Rattle.checkpointed_runs.specs.declared.reading.NoCheckpoint.{NoCheckpoint}
+use Rattle.checkpointed_runs.specs.declared.reading.NoCheckpoint.TheVariants.{Refused, OutOfMemory, WriteFailed}
 use Rattle.run_checkpoint.specs.Reading.{IsFault, IsReading, ReadsToItsEnd}
 use Rattle.run_checkpoint.specs.Text.{CheckpointView, IsCheckpointText}
 use Rattle.run_checkpoint.specs.declared.error.CheckpointError.{CheckpointError}
@@ -24,21 +24,21 @@ abbrev pub kept_line : List ℕ
 kept_line = codes "checkpoint: write failed" ++ newline
 
 -- 3 for a fault of the checkpoint, 5 where memory or the output failed
-abbrev pub status_of : Unread → ℕ
+abbrev pub status_of : NoCheckpoint → ℕ
 status_of (Refused fault) = 3
 status_of OutOfMemory = 5
 status_of WriteFailed = 5
 
 -- what the writer holds where this fault was met: its line, which is that for refused memory where a request for memory was refused,
 -- or a prefix of one
-abbrev pub ReportsUnread : CheckpointError → Option (List ℕ) → Option (List ℕ) → Unread → Type 0
+abbrev pub ReportsUnread : CheckpointError → Option (List ℕ) → Option (List ℕ) → NoCheckpoint → Type 0
 ReportsUnread fault old new (Refused e) = (e ≡ fault) × (fault ≢ Why.OutOfMemory) × Appends old new (checkpoint_line fault)
 ReportsUnread fault old new OutOfMemory = Appends old new memory_line
 ReportsUnread fault old new WriteFailed = WritesPrefix old new (checkpoint_line fault) ⊎ WritesPrefix old new memory_line
 
 -- Where the bytes of the reader are known, the checkpoint is the one that they are the text of, and nothing was written. Otherwise the
 -- fault is that of these bytes, or that the reader failed, or that memory was refused.
-abbrev pub ReadsCheckpoint : Option (List ℕ) → Option (List ℕ) → Option (List ℕ) → Option (List ℕ) → Result CheckpointView Unread → Type 0
+abbrev pub ReadsCheckpoint : Option (List ℕ) → Option (List ℕ) → Option (List ℕ) → Option (List ℕ) → Result CheckpointView NoCheckpoint → Type 0
 ReadsCheckpoint bytes rest old new (Ok c) = IfSome bytes (IsCheckpointText c) × (new ≡ old)
 ReadsCheckpoint bytes rest old new (Err unread) =
     (e : CheckpointError) × IfSome bytes (λ all. (e ≡ Why.Read) ⊎ ((e ≡ Why.OutOfMemory) ⊎ IsFault all e)) × ReportsUnread e old new unread

@@ -1,7 +1,7 @@
 //! Runs of a workload that can be killed: they keep checkpoints, and go on from one.
 //!
 //! - [`opening_of`]: what a run of a workload begins from; [`read_checkpoint`]: the same from a checkpoint in a file, or the one line of its
-//!   fault, as [`Unread`]; [`on_pes`]: the same on another number of PEs.
+//!   fault, as [`NoCheckpoint`]; [`on_pes`]: the same on another number of PEs.
 //! - [`drive_from`]: runs what is left from there, and writes the text of the whole run; [`whole_text`]: that text; [`text_laws`]: what it
 //!   is where no round was decided before.
 //! - [`Checkpoints`]: writes checkpoints where the run pauses, to some [`CheckpointFiles`]; [`replace`]: how one takes the place of
@@ -24,5 +24,5 @@ pub use checkpoints::{Checkpoints, finish_kept};
 pub use driving::drive_from;
 pub use files::{CheckpointFiles, replace};
 pub use laws::text_laws;
-pub use reading::{Unread, read_checkpoint};
+pub use reading::{NoCheckpoint, read_checkpoint};
 pub use whole::whole_text;

@@ -3,7 +3,7 @@
 ghost use Rattle.std.specs.Prelude.{◌≡◌, ◌≢◌, ◌⊎◌, ℕ, List, Option, Some, IfErr, IfOk, IsErr};
 ghost use Rattle.std.specs.String.{string_bytes};
 ghost use Rattle.checkpointed_runs.specs.Lines.{ReadsCheckpoint, ReportsUnread, checkpoint_line, status_of};
-ghost use Rattle.checkpointed_runs.specs.declared.reading.Unread.{Unread};
+ghost use Rattle.checkpointed_runs.specs.declared.reading.NoCheckpoint.{NoCheckpoint};
 ghost use Rattle.run_checkpoint.specs.Text.{IsWithin};
 ghost use Rattle.run_checkpoint.specs.declared.error.CheckpointError.TheVariants as Why;
 
@@ -17,7 +17,7 @@ const NO_MEMORY: &str = "out of memory\n";
 
 /// What was written where no checkpoint was read.
 #[derive(Clone, Copy, Debug, PartialEq, Eq)]
-pub enum Unread {
+pub enum NoCheckpoint {
     /// The line of this fault of the checkpoint; it is never that memory was refused.
     Refused(CheckpointError),
     /// The line for refused memory.
@@ -26,14 +26,14 @@ pub enum Unread {
     WriteFailed,
 }
 
-impl Unread {
+impl NoCheckpoint {
     /// The status that a program exits with: 3 for a fault of the checkpoint, and 5 where memory or the output failed.
     pub fn status(self) -> u8
         ensures value { result ≡ status_of self }
     {
         match self {
-            Unread::Refused(_) => 3,
-            Unread::OutOfMemory | Unread::WriteFailed => 5,
+            NoCheckpoint::Refused(_) => 3,
+            NoCheckpoint::OutOfMemory | NoCheckpoint::WriteFailed => 5,
         }
     }
 }
@@ -48,7 +48,7 @@ pub fn read_checkpoint<R: Read + Drop, W: Write, A: Allocator + Copy>(
     alloc: A,
     file: io::Result<R>,
     writer: &mut W,
-) -> (Result<Checkpoint<A>, Unread>, Option<io::Error>)
+) -> (Result<Checkpoint<A>, NoCheckpoint>, Option<io::Error>)
     ensures within { IfOk result.0 IsWithin }
     ensures opened { IfOk file (λ file. (rest : Option (List ℕ)) × ReadsCheckpoint (R.remaining file) rest (W.contents writer.old) (W.contents writer.new) result.0) }
     ensures unopened { IfErr file (λ _. IfErr result.0 (ReportsUnread Why.Read (W.contents writer.old) (W.contents writer.new))) }
@@ -73,7 +73,7 @@ fn read_from<R: Read, W: Write, A: Allocator + Copy>(
     alloc: A,
     reader: &mut R,
     writer: &mut W,
-) -> Result<Checkpoint<A>, Unread>
+) -> Result<Checkpoint<A>, NoCheckpoint>
     ensures within { IfOk result IsWithin }
     ensures read { ReadsCheckpoint (R.remaining reader.old) (R.remaining reader.new) (W.contents writer.old) (W.contents writer.new) result }
 {
@@ -84,7 +84,7 @@ fn read_from<R: Read, W: Write, A: Allocator + Copy>(
 }
 
 // Writes the line of a fault of a checkpoint, or the one for refused memory.
-fn report<A: Allocator, W: Write>(alloc: A, writer: &mut W, fault: CheckpointError) -> Unread
+fn report<A: Allocator, W: Write>(alloc: A, writer: &mut W, fault: CheckpointError) -> NoCheckpoint
     ensures reported { ReportsUnread fault (W.contents writer.old) (W.contents writer.new) result }
 {
     if fault == CheckpointError::OutOfMemory {
@@ -94,19 +94,19 @@ fn report<A: Allocator, W: Write>(alloc: A, writer: &mut W, fault: CheckpointErr
         return report_memory(writer);
     };
     if write_out(writer, line.as_bytes()) {
-        return Unread::Refused(fault);
+        return NoCheckpoint::Refused(fault);
     }
-    Unread::WriteFailed
+    NoCheckpoint::WriteFailed
 }
 
 // Writes the line for refused memory.
-fn report_memory<W: Write>(writer: &mut W) -> Unread
+fn report_memory<W: Write>(writer: &mut W) -> NoCheckpoint
     ensures reported { ReportsUnread Why.OutOfMemory (W.contents writer.old) (W.contents writer.new) result }
 {
     if write_out(writer, NO_MEMORY.as_bytes()) {
-        return Unread::OutOfMemory;
+        return NoCheckpoint::OutOfMemory;
     }
-    Unread::WriteFailed
+    NoCheckpoint::WriteFailed
 }
 
 // The line of a fault of a checkpoint. The only error is that memory was refused.
