@@ -16,6 +16,10 @@ use std::marker::Model;
 /// How many letters an element keeps at most whose history is dropped: so its buffer of them stays below a kilobyte.
 const MOST_LETTERS: usize = 16;
 
+/// A body of so many bytes is dropped before another letter is handled, while its memory is still in the processor's cache: the next
+/// message can have it.
+const LONG_BODY: usize = 64;
+
 /// All that an element has handled, in order. Its last entries are kept; those before are settled: they take no memory, and only
 /// contracts know them. How many are kept depends on the [`History`]. Contracts see the annals as the record `AnnalsView`.
 #[derive(Drop)]
@@ -80,15 +84,24 @@ impl<A: Allocator> Annals<A> {
         self.history = history;
     }
 
-    /// Reserves the memory of one more letter. What is kept is settled first, where the history is dropped and it is long.
+    /// Reserves the memory of one more letter. What is kept is settled first, where the history is dropped and it is much.
     pub(crate) fn reserve_letter(&mut self) -> Result<(), AllocError>
         ensures entries { self.new.entries ≡ self.old.entries }
         ensures reserved { OnOk result (0 < self.new.letter_room) }
     {
-        if self.is_dropped() && self.kept.letters().len() >= MOST_LETTERS {
+        if self.is_dropped() && self.keeps_much() {
             self.settle();
         }
         self.kept.reserve_letter()
+    }
+
+    // Whether many letters are kept, or the last one is long.
+    fn keeps_much(&self) -> bool {
+        let letters = self.kept.letters();
+        match letters.last() {
+            Some(last) => letters.len() >= MOST_LETTERS || last.body().len() >= LONG_BODY,
+            None => false,
+        }
     }
 
     /// Reserves the memory of one more resumption. What is kept is settled first, where the history is dropped.
