@@ -73,7 +73,9 @@ fn an_element_moves_and_comes_back(rt: HostRuntime) {
 
 #[test]
 fn the_parts_of_an_outcome(rt: HostRuntime) {
-    let (ends, left, board, fault) = run_example(&rt, &patient(2, 1_024)).into_parts();
+    let (homes, ends, left, board, fault) = run_example(&rt, &patient(2, 1_024)).into_parts();
+    let opened = homes.iter().map(|home| home.get()).eq([0, 0, 1, 1]);
+    assert!(rt; opened);
     let found = (ends.len(), left.len(), board.rounds().len(), fault);
     drop(ends);
     drop(left);
