@@ -35,7 +35,7 @@ body_said bytes rounds rest (Ok c) short front is =
     said bytes (Ok c) (record {
       spelled = front.spelled ∙ ap (λ t. head_line rounds ++ t) is.spelled ∙ ap (λ n. head_line n ++ body_text c) (sym is.counted);
       within = is.within;
-      short = short;
+      workload = is.workload;
     })
 body_said bytes rounds rest (Err e) short front (inl none) =
     said bytes (Err e) (inl (none, record { value = rounds; rest = rest; good = front.good; spelled = front.spelled; next = tt }))

@@ -84,4 +84,5 @@ module _ (rounds : ℕ) (bytes : List ℕ) where
               spelled =
                   front.spelled
                   ∙ ap (λ t. round_lines 1 decided ++ t) (placed.spelled ∙ ap (λ t. places_line places ++ t) text.spelled);
+              workload = subst (IsText w) text.spelled text;
             }

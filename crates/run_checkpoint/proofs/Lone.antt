@@ -11,10 +11,11 @@ use Rattle.workload.proofs.Texts.{no_fault as no_workload_fault, one_fault as on
 use Rattle.run_checkpoint.specs.declared.checkpoint.DecidedRound.{DecidedRound}
 use Rattle.run_checkpoint.specs.declared.error.CheckpointError.{CheckpointError}
 use Rattle.run_checkpoint.specs.declared.error.CheckpointError.TheVariants.{Form, Limit, Long, Read, OutOfMemory}
-use Rattle.run_checkpoint.specs.declared.form.TheConstants.{DIGITS, TEXT_BYTES}
+use Rattle.run_checkpoint.specs.declared.form.TheConstants.{DIGITS}
 use Rattle.run_checkpoint.specs.Faults.{AreBadPlaces, AreBadRounds, AreFewRounds, AreItsPlaces, AreItsRounds, ArePlaces, AreRounds, IsApart, IsBadHead, IsBadLine, IsBadRound, IsBadWorkload, IsBehind, IsBodyFault, IsFault, IsHead, IsLineFault, IsOtherWorkload, IsPlacesFault, IsRoundForm, IsShort, IsWorkFault, shifted}
 use Rattle.run_checkpoint.specs.Text.{CheckpointView, IsCheckpointText, IsDecided, IsWithin, body_text, decided_line, head_line, places_line, round_lines}
 use Rattle.run_checkpoint.proofs.Fronts.{one_head, one_round, round_form}
+use Rattle.run_checkpoint.proofs.Lengths.{text_is_short}
 use Rattle.run_checkpoint.proofs.PlacesLine.{one_places, places_form}
 
 -- of two values whose texts begin the same bytes both are the same, and so is what follows
@@ -226,19 +227,6 @@ places_within c is =
       all = All-weaker (λ (p : ℕ). p < c.workload.pes) (λ (p : ℕ). p < PES) (λ p below. omega (arith, below, is.workload.few_pes)) c.places is.placed;
     }
 
--- what is behind the first line and the rounds and the places is no longer than the whole
-pub short_workload : (c : CheckpointView) (bytes : List ℕ) → IsCheckpointText c bytes → length (workload_text c.workload) ≤ TEXT_BYTES
-short_workload c bytes is =
-    let a = ap length is.spelled in
-    let b = length-append (head_line (length c.decided)) (body_text c) in
-    let d = length-append (round_lines 1 c.decided) (places_line c.places ++ workload_text c.workload) in
-    let e = length-append (places_line c.places) (workload_text c.workload) in
-    tail (length bytes) (length (head_line (length c.decided))) (length (body_text c)) (length (round_lines 1 c.decided)) (length (places_line c.places ++ workload_text c.workload))
-    (length (places_line c.places)) (length (workload_text c.workload)) is.short (a ∙ b) d e
-  where
-    tail : (n a b c d e f : ℕ) → n ≤ TEXT_BYTES → n ≡ a + b → b ≡ c + d → d ≡ e + f → f ≤ TEXT_BYTES
-    tail n a b c d e f short one two three = omega arith
-
 module _ (c : CheckpointView) (within : IsWithin c) (text : IsText c.workload (workload_text c.workload)) (e : CheckpointError) where
   no_work_fault : IsWorkFault c.decided c.places (workload_text c.workload) e → ⊥
   no_work_fault (inl bad) = no_workload_fault c.workload (workload_text c.workload) bad.fault text bad.has
@@ -269,11 +257,10 @@ module _ (c : CheckpointView) (within : IsWithin c) (text : IsText c.workload (w
 no_line_fault : (c : CheckpointView) (bytes : List ℕ) (e : CheckpointError) → IsCheckpointText c bytes → IsLineFault bytes e → ⊥
 no_line_fault c bytes e is =
     let few : IsHead (length c.decided) = omega (arith, is.within.few_rounds, is.within.workload.few_rounds) in
-    let text : IsText c.workload (workload_text c.workload) = record { spelled = refl; within = is.within.workload; short = short_workload c bytes is } in
     no_stage IsHead head_line lone_good_head (λ f. IsBadHead bytes f) (λ f rounds rest. IsBodyFault rounds rest f) bytes e (length c.decided) (body_text c) few is.spelled
     (not_bad IsShort IsHead head_line 1 bytes e (length c.decided) (body_text c) lone_head (head_short (length c.decided) few) few is.spelled)
-    (no_body_fault c is.within text e few)
+    (no_body_fault c is.within is.workload e few)
 
 pub no_fault : (c : CheckpointView) (bytes : List ℕ) (e : CheckpointError) → IsCheckpointText c bytes → IsFault bytes e → ⊥
-no_fault c bytes e is (inl long) = omega (arith, is.short, long.1)
+no_fault c bytes e is (inl long) = omega (arith, text_is_short c bytes is, long.1)
 no_fault c bytes e is (inr fault) = no_line_fault c bytes e is fault.1

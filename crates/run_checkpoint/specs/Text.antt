@@ -2,8 +2,7 @@
 use Rattle.std.specs.Prelude.{◌≡◌, ℕ, ◌+◌, ◌^◌, ◌<◌, ◌≤◌, List, [], ◌∷◌, ◌++◌, length, codes, All}
 use Rattle.std.specs.Fmt.{decimal}
 use Rattle.run_checkpoint.specs.declared.checkpoint.DecidedRound.{DecidedRound}
-use Rattle.run_checkpoint.specs.declared.form.TheConstants.{TEXT_BYTES}
-use Rattle.workload.specs.Text.{WorkloadView, line, newline, workload_text}
+use Rattle.workload.specs.Text.{IsText, WorkloadView, line, newline, workload_text}
 use Rattle.workload.specs.Text.{IsWithin as IsWorkload}
 
 -- what was decided for each round so far, the PE of each chare, and the workload
@@ -62,8 +61,8 @@ pub record IsWithin (c : CheckpointView) : Type 0 where
   pub each_chare : length c.places ≡ c.workload.chares
   pub placed : All (λ p. p < c.workload.pes) c.places
 
--- these bytes are the text of this checkpoint
+-- these bytes are the text of this checkpoint, whose workload has a text of its own: one that is not too long
 pub record IsCheckpointText (c : CheckpointView) (bytes : List ℕ) : Type 0 where
   pub spelled : bytes ≡ checkpoint_text c
   pub within : IsWithin c
-  pub short : length bytes ≤ TEXT_BYTES
+  pub workload : IsText c.workload (workload_text c.workload)
