@@ -51,11 +51,13 @@ impl<A: Allocator + Copy> Checkpoint<A> {
     ///
     /// # Errors
     ///
-    /// [`Long`](CheckpointError::Long) for more than 67,108,864 bytes. Otherwise the fault of the first faulty line from the
-    /// top: [`Form`](CheckpointError::Form) before [`Limit`](CheckpointError::Limit), as far as its own limits go, and
-    /// the lines of the workload have theirs. Then what rests on the workload: `Limit(1)` where it has fewer rounds
-    /// than were decided, and `Limit` with the line of the places where they are not one PE of the workload for each chare.
-    /// [`OutOfMemory`](CheckpointError::OutOfMemory) where a request for memory is refused before a fault is met.
+    /// [`Long`](CheckpointError::Long) for more than 68,157,440 bytes. Otherwise the fault of the first faulty line from the
+    /// top: [`Form`](CheckpointError::Form) before [`Limit`](CheckpointError::Limit), for more than 1,000 rounds, a number of
+    /// a round past 64 bits, a place past 255 or more than 65,536 places. The text of the workload has the faults of
+    /// [`Workload::parse`]. Then what rests on the workload: `Limit(1)` where it has fewer rounds than were decided, and
+    /// `Limit` with the line of the places where they are not one PE of the workload for each chare.
+    /// [`OutOfMemory`](CheckpointError::OutOfMemory) where a request for memory is refused before a fault is met, so never
+    /// where the first line is faulty.
     pub fn parse(alloc: A, bytes: &[u8]) -> Result<Self, CheckpointError>
         ensures answer { IsAnswer bytes.now result }
         ensures again { (c : CheckpointView) → IsCheckpointText c bytes.now → MatchResult result (λ d. d ≡ c) (λ e. e ≡ CheckpointError.OutOfMemory) }

@@ -14,7 +14,7 @@ pub enum CheckpointError {
     /// This line has its form, and a number in it is out of its range, or the line has too few or too many numbers.
     #[error("a number in line {0} of the checkpoint is out of its range")]
     Limit(u32),
-    /// The text has more than 67,108,864 bytes.
+    /// The text has more than 68,157,440 bytes, or the text of its workload more than 67,108,864.
     #[error("the checkpoint is too long")]
     Long,
     /// The reader failed.

@@ -225,6 +225,28 @@ fn faults_of_the_workload(rt: HostRuntime) {
     assert_rows(&rt, &WORKLOADS);
 }
 
+// The fault of a text that ends after the line of this many places.
+fn fault_of_places(alloc: Global, count: u32) -> Option<CheckpointError> {
+    let Ok(mut text) = Vec::from_slice(alloc, b"checkpoint 0\nplaces") else {
+        return None;
+    };
+    for _ in 0..count {
+        if text.extend_from_slice(b" 0").is_err() {
+            return None;
+        }
+    }
+    if text.push(b'\n').is_err() {
+        return None;
+    }
+    fault_of(alloc, &text)
+}
+
+#[test]
+fn too_many_places(rt: HostRuntime) {
+    assert!(rt; fault_of_places(rt.alloc(), 65_536) == Some(CheckpointError::Form(3)));
+    assert!(rt; fault_of_places(rt.alloc(), 65_537) == Some(CheckpointError::Limit(2)));
+}
+
 #[test]
 fn numbers_of_faults(rt: HostRuntime) {
     assert!(rt; CheckpointError::Form(3).number() == 1);

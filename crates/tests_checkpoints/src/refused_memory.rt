@@ -8,6 +8,7 @@ use tests_fixtures::{Outcome, Source, each_refusal};
 // More requests than any attempt here makes.
 const MOST_TURNS: u64 = 99;
 
+// One for the rounds, one for the places, one for the lines of amounts, and one for each of two lines.
 #[test]
 fn each_request_of_parse(rt: HostRuntime) {
     let refusals = each_refusal(rt.alloc(), MOST_TURNS, |alloc| {
@@ -17,9 +18,10 @@ fn each_request_of_parse(rt: HostRuntime) {
             _ => Outcome::Wrong,
         }
     });
-    assert!(rt; refusals.is_ok_and(|refusals| refusals >= 4));
+    assert!(rt; refusals.is_ok_and(|refusals| refusals == 5));
 }
 
+// One for the bytes of a call, three as the text grows, and those of its parse.
 #[test]
 fn each_request_of_read_from(rt: HostRuntime) {
     let refusals = each_refusal(rt.alloc(), MOST_TURNS, |alloc| {
@@ -30,9 +32,10 @@ fn each_request_of_read_from(rt: HostRuntime) {
             _ => Outcome::Wrong,
         }
     });
-    assert!(rt; refusals.is_ok_and(|refusals| refusals >= 6));
+    assert!(rt; refusals.is_ok_and(|refusals| refusals == 9));
 }
 
+// As the buffer grows to the longest line.
 #[test]
 fn each_request_of_write(rt: HostRuntime) {
     let checkpoint = parsed(rt.alloc(), WORKED).expect(&rt, "it is a checkpoint");
@@ -48,9 +51,10 @@ fn each_request_of_write(rt: HostRuntime) {
             Outcome::Wrong
         }
     });
-    assert!(rt; refusals.is_ok_and(|refusals| refusals >= 1));
+    assert!(rt; refusals.is_ok_and(|refusals| refusals == 4));
 }
 
+// Those of the parse, one for the list, and two for each of four tallies: its amounts and its padding.
 #[test]
 fn each_request_of_the_tallies(rt: HostRuntime) {
     let refusals = each_refusal(rt.alloc(), MOST_TURNS, |alloc| {
@@ -63,5 +67,5 @@ fn each_request_of_the_tallies(rt: HostRuntime) {
             Err(_) => Outcome::Refused,
         }
     });
-    assert!(rt; refusals.is_ok_and(|refusals| refusals >= 10));
+    assert!(rt; refusals.is_ok_and(|refusals| refusals == 14));
 }
