@@ -78,7 +78,8 @@ impl<A: Allocator + Copy> Checkpoint<A> {
     /// # Errors
     ///
     /// Those of [`parse`](Checkpoint::parse), and [`Read`](CheckpointError::Read) where the reader fails before the byte past
-    /// the longest text, with any error, or has been called 134,217,728 times.
+    /// the longest text, with any error, or has been called 134,217,728 times. Any text may return
+    /// [`OutOfMemory`](CheckpointError::OutOfMemory), since reading needs a buffer.
     pub fn read_from<R: Read>(alloc: A, reader: &mut R) -> Result<Self, CheckpointError>
         ensures read { (bytes : List ℕ) × Consumes (R.remaining reader.old) (R.remaining reader.new) bytes × (length bytes ≤ TEXT_BYTES + 1) × IsReading bytes result }
         ensures known { IfSome (R.remaining reader.old) (λ bytes. (result ≡ Err CheckpointError.Read) ⊎ IsReadAnswer bytes result) }
