@@ -47,6 +47,7 @@ pub fn carry_on<
     ensures answer { MatchResult result (λ _. MayBegin config.now (length opening.now.value.items))
         (RefusesRun config.now (length opening.now.value.items)) }
     ensures outcome { IfOk result (IsOutcome C.step C.fits C.pack C.refuses opening.now.value.items config.now.pes config.now.strategy) }
+    ensures homes { IfOk result (λ o. o.homes ≡ outcome.homes) }
 {
     if let Some(setting) = config.first_outside(outcome.board().len()) {
         return Err(RunError::Config(setting));
@@ -80,7 +81,8 @@ fn carry_on_as<
     requires run { config.now.pes ≡ H.pes }
     requires earlier { IsOutcome C.step C.fits C.pack C.refuses H.opened H.pes H.strategy outcome }
     ensures outcome { IfOk result (IsOutcome C.step C.fits C.pack C.refuses H.opened H.pes H.strategy) }
+    ensures homes { IfOk result (λ o. o.homes ≡ outcome.homes) }
 {
-    let opened = opened_again::<C, H, A>(alloc, config, outcome)?;
-    run_opened(rt, alloc, config, gate, watch, opened)
+    let (opened, homes) = opened_again::<C, H, A>(alloc, config, outcome)?;
+    run_opened(rt, alloc, config, gate, watch, opened, homes)
 }

@@ -14,7 +14,7 @@ ghost use Rattle.rts_run.specs.Outcomes.{IsOutcome};
 use crate::reopening::{places_of, reopen_all};
 use at_sync::Board;
 use barrier::RunStrategy;
-use chare_index::{Limits, Pes};
+use chare_index::{Limits, Pe, Pes};
 use chares::{Chare, Openings};
 use pe_queues::{Locations, Post, Seat};
 use pe_state::{HeldParcel, Parcel, PeEnd, PeState};
@@ -22,20 +22,23 @@ use pe_worker::OfRun;
 use rts_run::{Config, OpenedRun, Outcome, open_post};
 use std::alloc::{AllocError, Allocator};
 
-/// What goes on from what an earlier run of the chares that `H` names has left. The only error is that memory was refused.
+/// What goes on from what an earlier run of the chares that `H` names has left, and where its elements opened. The only error is that
+/// memory was refused.
 pub(crate) fn opened_again<C: Chare<A>, H: Openings<C> + RunStrategy, A: Allocator + Copy>(
     alloc: A,
     config: &Config,
     outcome: Outcome<C, A>,
-) -> Result<OpenedRun<C, H, A>, AllocError>
+) -> Result<(OpenedRun<C, H, A>, Vec<Pe, A>), AllocError>
     requires within { IsWithin config.now }
     requires few { length H.opened ≤ Limits.ELEMENTS }
     requires run { config.now.pes ≡ H.pes }
     requires earlier { IsOutcome C.step C.fits C.pack C.refuses H.opened H.pes H.strategy outcome }
-    ensures capacity { IfOk result (λ o. o.post.capacity ≡ config.now.capacity) }
+    ensures capacity { IfOk result (λ made. made.0.post.capacity ≡ config.now.capacity) }
+    ensures homes { IfOk result (λ made. made.1.items ≡ outcome.homes) }
 {
-    let (ends, left, board, _) = outcome.into_parts();
-    opened_from(alloc, config, ends, left, board)
+    let (homes, ends, left, board, _) = outcome.into_parts();
+    let opened = opened_from(alloc, config, ends, left, board)?;
+    Ok((opened, homes))
 }
 
 // The same, from the parts of an outcome.

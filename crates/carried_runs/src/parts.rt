@@ -1,6 +1,7 @@
 //! Runs that pause after each round.
 
-ghost use Rattle.std.specs.Prelude.{IfOk, MatchResult, length};
+ghost use Rattle.std.specs.Prelude.{◌≡◌, IfOk, MatchResult, length};
+ghost use Rattle.rts_core.specs.Worlds.{opening_words};
 ghost use Rattle.rts_run.specs.Configs.{MayBegin, RefusesRun};
 ghost use Rattle.rts_run.specs.Outcomes.{IsOutcome};
 
@@ -64,6 +65,7 @@ pub fn run_in_parts<
 ) -> Result<Outcome<C, A>, RunError>
     ensures answer { MatchResult result (λ _. MayBegin config.now (length chares.items)) (RefusesRun config.now (length chares.items)) }
     ensures outcome { IfOk result (IsOutcome C.step C.fits C.pack C.refuses chares.items config.now.pes config.now.strategy) }
+    ensures homes { IfOk result (λ o. o.homes ≡ opening_words (length chares.items) config.now.pes) }
 {
     if !pauses.are_wanted() {
         return run_watched(rt, alloc, config, gate, watch, chares);
@@ -100,6 +102,7 @@ pub fn carry_on_in_parts<
     ensures answer { MatchResult result (λ _. MayBegin config.now (length opening.now.value.items))
         (RefusesRun config.now (length opening.now.value.items)) }
     ensures outcome { IfOk result (IsOutcome C.step C.fits C.pack C.refuses opening.now.value.items config.now.pes config.now.strategy) }
+    ensures homes { IfOk result (λ o. o.homes ≡ outcome.homes) }
 {
     if !pauses.are_wanted() {
         return carry_on(rt, alloc, config, gate, watch, opening, outcome);
@@ -132,6 +135,7 @@ fn go_on<
     ensures answer { MatchResult result (λ _. MayBegin config.now (length opening.now.value.items))
         (RefusesRun config.now (length opening.now.value.items)) }
     ensures outcome { IfOk result (IsOutcome C.step C.fits C.pack C.refuses opening.now.value.items config.now.pes config.now.strategy) }
+    ensures homes { IfOk result (λ o. o.homes ≡ outcome.homes) }
 {
     let mut outcome = outcome;
     for _ in 0..Limits::ROUND {

@@ -3,7 +3,7 @@
 //!
 //! - [`run_agrees`]: whether the marks of all elements of a run agree.
 //! - [`pe_agrees`] and [`parcels_agree`]: whether those of all elements on a PE, or packed in parcels, agree.
-//! - [`element_agrees`]: whether those of one element agree, which opened at home.
+//! - [`element_agrees`]: whether those of one element agree, which opened on its home.
 //! - [`marks_agree`]: whether the given marks of an element agree.
 //! - [`run_finished`]: whether every element of a run has finished.
 //! - [`run_is_quiet`]: whether nothing was left to do when it ended.

@@ -19,9 +19,10 @@ use Rattle.rts_core.specs.Histories.{AreHistories}
 use Rattle.rts_core.specs.Orders.{AreInOrder}
 use Rattle.run_account.specs.RunAccounts.{IsRunAccount, left_world}
 
--- its PEs, in order; what is left in the queue of each, front first; the board, with what was kept of each round that was
--- decided; and the fault that ended it, if one did
+-- the PE on which each element opened; its PEs, in order; what is left in the queue of each, front first; the board, with what was
+-- kept of each round that was decided; and the fault that ended it, if one did
 pub record OutcomeView (C A : Type 0) : Type 0 where
+  pub homes : List ℕ
   pub ends : List (PeView C)
   pub left : List (List Parcel)
   pub board : BoardState A
@@ -34,8 +35,8 @@ first_fault (fault ∷ faults) = option_or fault (first_fault faults)
 
 -- The outcome of a run of these chares on this number of PEs. There is an end and a queue of each PE. The account holds, and
 -- every element is what its journal says, in which its rounds come in order. The board is one of these chares on these PEs: each
--- round was decided for a snapshot of all of them, by the strategy. The marks of the elements agree with the rounds unless the
--- fault is a mismatch, and do not agree where it is one. Any other fault has a cause, and no element failed to unpack. Without a
+-- round was decided for a snapshot of all of them, by the strategy. The marks of the elements agree with the rounds, and with where
+-- the elements opened, unless the fault is a mismatch, and do not agree where it is one. Any other fault has a cause, and no element failed to unpack. Without a
 -- fault every element has finished, and the board says so of each; and where the fault is that nothing was left to do, nothing was.
 pub record IsOutcome {C A : Type 0} (step : Step C) (fits : C → Type 0) (pack : C → List ℕ) (refuses : Refuses C) (chares : List C)
     (pes : ℕ) (strategy : Strategy) (o : OutcomeView C A) : Type 0 where
@@ -49,8 +50,8 @@ pub record IsOutcome {C A : Type 0} (step : Step C) (fits : C → Type 0) (pack 
   pub on_pes : o.board.pes ≡ pes
   pub by_strategy : o.board.strategy ≡ strategy
   pub rounds : AreDecided (length chares) pes strategy o.board.rounds
-  pub marks : o.fault ≢ Some Mismatch → AreAllMarked o.board o.ends o.left
-  pub mismatch : o.fault ≡ Some Mismatch → ¬ (AreAllMarked o.board o.ends o.left)
+  pub marks : o.fault ≢ Some Mismatch → AreAllMarked o.board o.homes o.ends o.left
+  pub mismatch : o.fault ≡ Some Mismatch → ¬ (AreAllMarked o.board o.homes o.ends o.left)
   pub unpacks : o.fault ≢ Some Unpack
   pub cause : o.fault ≢ Some Mismatch → IfSome o.fault (HasCause step pack refuses chares)
   pub finished : o.fault ≡ None → HaveFinished o.board

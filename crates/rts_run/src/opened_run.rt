@@ -5,6 +5,7 @@ ghost use Rattle.std.specs.List.{range_with_len};
 ghost use Rattle.std.specs.VecDeque.{deque_len};
 ghost use Rattle.chare_index.specs.declared.limits.TheConstants.Limits.{SEATS};
 ghost use Rattle.pe_queues.specs.Seats.{pes};
+ghost use Rattle.rts_core.specs.Worlds.{opening_words};
 ghost use Rattle.rts_run.specs.Configs.{IsWithin};
 ghost use Rattle.rts_run.specs.Openings.{AreNewSeats, AreOfRun, IsBeginning};
 
@@ -12,7 +13,7 @@ use crate::config::Config;
 use crate::workers::open_workers;
 use at_sync::Board;
 use barrier::RunStrategy;
-use chare_index::{Limits, Pes};
+use chare_index::{Limits, Pe, Pes};
 use chares::{Chare, Openings};
 use pe_queues::{Locations, Post, Seat};
 use pe_state::{Parcel, PeState};
@@ -48,14 +49,19 @@ impl<C: Chare<A>, H: Openings<C> + RunStrategy, A: Allocator> Model for OpenedRu
 }
 
 impl<C: Chare<A>, H: Openings<C> + RunStrategy, A: Allocator + Copy> OpenedRun<C, H, A> {
-    /// A run of the chares that `H` names. The only error is that memory was refused.
-    pub(crate) fn new(alloc: A, config: &Config, chares: Vec<C, A>) -> Result<Self, AllocError>
+    /// A run of the chares that `H` names, and the PE on which each of them opens. The only error is that memory was refused.
+    pub(crate) fn new(
+        alloc: A,
+        config: &Config,
+        chares: Vec<C, A>,
+    ) -> Result<(Self, Vec<Pe, A>), AllocError>
         requires within { IsWithin config.now }
         requires few { length chares.items ≤ Limits.ELEMENTS }
         requires run { config.now.pes ≡ H.pes }
         requires opened { chares.items ≡ H.opened }
         requires by_strategy { config.now.strategy ≡ H.strategy }
-        ensures capacity { IfOk result (λ o. o.post.capacity ≡ config.now.capacity) }
+        ensures capacity { IfOk result (λ made. made.0.post.capacity ≡ config.now.capacity) }
+        ensures homes { IfOk result (λ made. made.1.items ≡ opening_words (length H.opened) H.pes) }
     {
         let n = element_count(&chares);
         let pes = Pes::of(config.pes);
@@ -64,13 +70,14 @@ impl<C: Chare<A>, H: Openings<C> + RunStrategy, A: Allocator + Copy> OpenedRun<C
         let board = Board::new(alloc, n, config.pes, config.strategy)?;
         let (post, seats) = open_post::<C, H, A>(alloc, config)?;
         let states = opening_pes(alloc, pes, chares)?;
-        Ok(OpenedRun {
+        let opened = OpenedRun {
             post,
             seats,
             states,
             words,
             board,
-        })
+        };
+        Ok((opened, homes))
     }
 
     /// A run that begins with these queues, with a seat of each PE, these PEs, words and board: what a run that opens in another way is

@@ -13,7 +13,7 @@ ghost use Rattle.std.specs.Option.{option_copied};
 
 use crate::counting::{held_by, posted_by, queued_in};
 use at_sync::Board;
-use chare_index::Index;
+use chare_index::{Index, Pe};
 use chares::{Chare, Element};
 use lb_refinement::Refined;
 use lb_snapshot::Snapshot;
@@ -23,11 +23,12 @@ use rts_core::Account;
 use std::alloc::{Allocator, Global};
 use std::marker::Model;
 
-/// What a run left: its PEs as their workers ended, the parcels in their queues, the board with each round that was decided,
-/// and the fault that ended the run early, if one did. Its type does not name the run, so that it may be handed on freely; the
+/// What a run left: the PE on which each element opened, its PEs as their workers ended, the parcels in their queues, the board with
+/// each round that was decided, and the fault that ended the run early, if one did. Its type does not name the run, so that it may be handed on freely; the
 /// clauses of [`run`](crate::run) say what holds of it. Contracts see it as the record `OutcomeView`.
 #[derive(Drop)]
 pub struct Outcome<C: Chare<A>, A: Allocator = Global> {
+    homes: Vec<Pe, A>,
     ends: Vec<PeEnd<C, A>, A>,
     left: Vec<Vec<HeldParcel<A>, A>, A>,
     board: Board<A>,
@@ -43,7 +44,7 @@ impl<C: Chare<A>, A: Allocator> Model for Outcome<C, A> {
 
     ghost Value = { OutcomeView C A };
 
-    ghost view = { λ o. record { ends = o.ends.items; left = map (λ q. q.items) o.left.items; board = o.board; fault = o.fault } };
+    ghost view = { λ o. record { homes = o.homes.items; ends = o.ends.items; left = map (λ q. q.items) o.left.items; board = o.board; fault = o.fault } };
 
     ghost invariant = { λ o.
         (length o.ends.items ≤ PES)
@@ -51,10 +52,11 @@ impl<C: Chare<A>, A: Allocator> Model for Outcome<C, A> {
 }
 
 impl<C: Chare<A>, A: Allocator> Outcome<C, A> {
-    /// The outcome of a run that left these PEs, these parcels in the queue of each, this board, and this fault, if it ended
-    /// early. The letters have to add up: as many were posted as are held and were executed.
+    /// The outcome of a run whose elements opened on these homes, and that left these PEs, these parcels in the queue of each, this
+    /// board, and this fault, if it ended early. The letters have to add up: as many were posted as are held and were executed.
     /// [`into_parts`](Outcome::into_parts) gives the parts back.
     pub fn new(
+        homes: Vec<Pe, A>,
         ends: Vec<PeEnd<C, A>, A>,
         left: Vec<Vec<HeldParcel<A>, A>, A>,
         board: Board<A>,
@@ -62,17 +64,26 @@ impl<C: Chare<A>, A: Allocator> Outcome<C, A> {
     ) -> Self
         requires few_pes { length ends.items ≤ PES }
         requires counted { IsCounted (left_world ends.items (map (λ q. q.items) left.items)) }
+        ensures homes { result.homes ≡ homes.items }
         ensures ends { result.ends ≡ ends.items }
         ensures left { result.left ≡ map (λ q. q.items) left.items }
         ensures board { result.board ≡ board }
         ensures fault { result.fault ≡ fault }
     {
         Outcome {
+            homes,
             ends,
             left,
             board,
             fault,
         }
+    }
+
+    /// The PE on which each element opened, in the order of the indices.
+    pub fn homes(&self) -> &[Pe]
+        ensures value { result.now ≡ self.now.homes }
+    {
+        &self.homes
     }
 
     /// Its PEs, in order.
@@ -120,28 +131,31 @@ impl<C: Chare<A>, A: Allocator> Outcome<C, A> {
         self.fault
     }
 
-    /// Its PEs, what is left in their queues, the board, and the fault, each by value. [`PeEnd::take`] gives an element of a
+    /// Where its elements opened, its PEs, what is left in their queues, the board, and the fault, each by value. [`PeEnd::take`] gives an element of a
     /// PE, and [`Board::into_rounds`] the snapshot and the decision of each round.
     pub fn into_parts(
         self,
     ) -> (
+        Vec<Pe, A>,
         Vec<PeEnd<C, A>, A>,
         Vec<Vec<HeldParcel<A>, A>, A>,
         Board<A>,
         Option<Fault>,
     )
-        ensures ends { result.0.items ≡ self.ends }
-        ensures left { map (λ q. q.items) result.1.items ≡ self.left }
-        ensures board { result.2 ≡ self.board }
-        ensures fault { result.3 ≡ self.fault }
+        ensures homes { result.0.items ≡ self.homes }
+        ensures ends { result.1.items ≡ self.ends }
+        ensures left { map (λ q. q.items) result.2.items ≡ self.left }
+        ensures board { result.3 ≡ self.board }
+        ensures fault { result.4 ≡ self.fault }
     {
         let Outcome {
+            homes,
             ends,
             left,
             board,
             fault,
         } = self;
-        (ends, left, board, fault)
+        (homes, ends, left, board, fault)
     }
 
     /// Its elements, each by value, in the order of their indices; [`Element::into_chare`] gives the chare of one. Those that

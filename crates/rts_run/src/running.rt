@@ -9,6 +9,7 @@ ghost use Rattle.round_marks.specs.Finished.{HaveAllFinished};
 ghost use Rattle.round_marks.specs.Quiet.{IsQuiet};
 ghost use Rattle.round_marks.specs.Runs.{AreAllMarked};
 ghost use Rattle.rts_core.specs.Accounts.{IsCounted};
+ghost use Rattle.rts_core.specs.Worlds.{opening_words};
 ghost use Rattle.run_account.specs.RunAccounts.{left_world};
 ghost use Rattle.rts_run.specs.Configs.{IsWithin, MayBegin, RefusesRun};
 ghost use Rattle.rts_run.specs.Outcomes.{IsOutcome};
@@ -20,7 +21,7 @@ use crate::opened_run::OpenedRun;
 use crate::outcome::Outcome;
 use at_sync::Board;
 use barrier::RunStrategy;
-use chare_index::{Gate, Limits};
+use chare_index::{Gate, Limits, Pe};
 use chares::{Chare, Openings};
 use pe_state::{HeldParcel, PeEnd};
 use pe_worker::{Fault, Field, NoWatch, RunBeginning, Watch, Worker};
@@ -42,8 +43,8 @@ use worker_threads::Crew;
 /// Whatever the schedule was and whatever went wrong, the outcome loses nothing: the clause `outcome` says what holds of it. Its
 /// fields are: `account`, where each letter is; `histories`, what each element is; `in_order`, that each started before its first
 /// letter, and then waited and was resumed for each round in turn; `rounds`, what was decided, on a board of these chares and PEs
-/// (`elements`, `on_pes`) that decides as the config says (`by_strategy`); and `marks`, that the elements were measured and placed
-/// as the rounds say, unless its fault is [`Mismatch`](Fault::Mismatch). That comes only where they were not (`mismatch`), and in
+/// (`elements`, `on_pes`) that decides as the config says (`by_strategy`); and `marks`, that the elements started on their homes (`homes`),
+/// and were measured and placed as the rounds say, unless its fault is [`Mismatch`](Fault::Mismatch). That comes only where they were not (`mismatch`), and in
 /// place of any other. Else the fault is that of the lowest PE whose worker met one, and has a cause (`cause`). Where it is
 /// [`Quiet`](Fault::Quiet), nothing was left to do (`quiet`). Without one every element has finished (`all_finished`), and the board
 /// was told so (`finished`).
@@ -61,6 +62,7 @@ pub fn run<
 >(rt: &R, alloc: A, config: &Config, gate: &G, chares: Vec<C, A>) -> Result<Outcome<C, A>, RunError>
     ensures answer { MatchResult result (λ _. MayBegin config.now (length chares.items)) (RefusesRun config.now (length chares.items)) }
     ensures outcome { IfOk result (IsOutcome C.step C.fits C.pack C.refuses chares.items config.now.pes config.now.strategy) }
+    ensures homes { IfOk result (λ o. o.homes ≡ opening_words (length chares.items) config.now.pes) }
 {
     run_watched(rt, alloc, config, gate, &NoWatch, chares)
 }
@@ -86,6 +88,7 @@ pub fn run_watched<
 ) -> Result<Outcome<C, A>, RunError>
     ensures answer { MatchResult result (λ _. MayBegin config.now (length chares.items)) (RefusesRun config.now (length chares.items)) }
     ensures outcome { IfOk result (IsOutcome C.step C.fits C.pack C.refuses chares.items config.now.pes config.now.strategy) }
+    ensures homes { IfOk result (λ o. o.homes ≡ opening_words (length chares.items) config.now.pes) }
 {
     if let Some(setting) = config.first_outside(chares.len()) {
         return Err(RunError::Config(setting));
@@ -118,13 +121,15 @@ fn run_as<
     requires opened { chares.items ≡ H.opened }
     requires by_strategy { config.now.strategy ≡ H.strategy }
     ensures outcome { IfOk result (IsOutcome C.step C.fits C.pack C.refuses H.opened H.pes H.strategy) }
+    ensures homes { IfOk result (λ o. o.homes ≡ opening_words (length H.opened) H.pes) }
 {
-    let opened = OpenedRun::<C, H, A>::new(alloc, config, chares)?;
-    run_opened(rt, alloc, config, gate, watch, opened)
+    let (opened, homes) = OpenedRun::<C, H, A>::new(alloc, config, chares)?;
+    run_opened(rt, alloc, config, gate, watch, opened, homes)
 }
 
-/// The run of PEs that have opened, under a name of its beginning that it picks. The only error is that memory was refused. The outcome
-/// is what [`run`] promises of the chares that `H` names.
+/// The run of PEs that have opened, under a name of its beginning that it picks. `homes` has the PE on which each element opened, by
+/// which its marks are judged. The only error is that memory was refused. The outcome is what [`run`] promises of the chares that `H`
+/// names.
 pub fn run_opened<
     C: Chare<A> + Send,
     H: Openings<C> + RunStrategy + Send + Sync,
@@ -139,13 +144,15 @@ pub fn run_opened<
     gate: &G,
     watch: &V,
     opened: OpenedRun<C, H, A>,
+    homes: Vec<Pe, A>,
 ) -> Result<Outcome<C, A>, AllocError>
     requires within { IsWithin config.now }
     requires run { config.now.pes ≡ H.pes }
     requires capacity { opened.post.capacity ≡ config.now.capacity }
     ensures outcome { IfOk result (IsOutcome C.step C.fits C.pack C.refuses H.opened H.pes H.strategy) }
+    ensures homes { IfOk result (λ o. o.homes ≡ homes.items) }
 {
-    run_named::<C, H, Brand, G, V, R, A>(rt, alloc, config, gate, watch, opened)
+    run_named::<C, H, Brand, G, V, R, A>(rt, alloc, config, gate, watch, opened, homes)
 }
 
 // The same, under this name.
@@ -164,12 +171,14 @@ fn run_named<
     gate: &G,
     watch: &V,
     opened: OpenedRun<C, H, A>,
+    homes: Vec<Pe, A>,
 ) -> Result<Outcome<C, A>, AllocError>
     requires beginning { opened ≡ J.beginning }
     requires within { IsWithin config.now }
     requires run { config.now.pes ≡ H.pes }
     requires capacity { opened.post.capacity ≡ config.now.capacity }
     ensures outcome { IfOk result (IsOutcome C.step C.fits C.pack C.refuses H.opened H.pes H.strategy) }
+    ensures homes { IfOk result (λ o. o.homes ≡ homes.items) }
 {
     let count = config.pes as usize;
     let room = Vec::with_capacity(alloc, count)?;
@@ -183,7 +192,7 @@ fn run_named<
     let (gathered, fault) = gather(field.post(), first, done, room);
     let (post, board) = field.into_parts();
     let (ends, left) = gathered.settled(rt, post, left);
-    Ok(ended::<C, H, A>(ends, left, board, fault))
+    Ok(ended::<C, H, A>(homes, ends, left, board, fault))
 }
 
 // Lets each worker work in a thread of its own.
@@ -215,6 +224,7 @@ fn work_all<
 // The outcome of what is left. That the marks of the elements agree with the rounds, and that the elements have finished, is seen
 // here, once all threads have ended: no lock can show it before.
 fn ended<C: Chare<A>, H: Openings<C>, A: Allocator>(
+    homes: Vec<Pe, A>,
     ends: Vec<PeEnd<C, A>, A>,
     left: Vec<Vec<HeldParcel<A>, A>, A>,
     board: Board<A>,
@@ -223,24 +233,25 @@ fn ended<C: Chare<A>, H: Openings<C>, A: Allocator>(
     requires few_pes { length ends.items ≤ Limits.PES }
     requires counted { IsCounted (left_world ends.items (map (λ q. q.items) left.items)) }
     requires cause { IfSome met (HasCause C.step C.pack C.refuses H.opened) }
+    ensures homes { result.homes ≡ homes.items }
     ensures ends { result.ends ≡ ends.items }
     ensures left { result.left ≡ map (λ q. q.items) left.items }
     ensures board { result.board ≡ board }
-    ensures marks { result.fault ≢ Some Mismatch → AreAllMarked result.board result.ends result.left }
-    ensures mismatch { result.fault ≡ Some Mismatch → ¬ (AreAllMarked result.board result.ends result.left) }
+    ensures marks { result.fault ≢ Some Mismatch → AreAllMarked result.board result.homes result.ends result.left }
+    ensures mismatch { result.fault ≡ Some Mismatch → ¬ (AreAllMarked result.board result.homes result.ends result.left) }
     ensures unpacks { result.fault ≢ Some Unpack }
     ensures cause { result.fault ≢ Some Mismatch → IfSome result.fault (HasCause C.step C.pack C.refuses H.opened) }
     ensures finished { result.fault ≡ None → HaveFinished result.board }
     ensures all_finished { result.fault ≡ None → HaveAllFinished result.ends result.left }
     ensures quiet { result.fault ≡ Some Quiet → IsQuiet result.board result.ends result.left }
 {
-    if run_agrees(&board, &ends, &left) {
+    if run_agrees(&board, &homes, &ends, &left) {
         let finished = all_finished(&board, &ends, &left);
         let quiet = is_quiet(&board, &ends, &left, met);
         let fault = fault_at_end::<C, H, A>(finished, quiet, met);
-        return Outcome::new(ends, left, board, fault);
+        return Outcome::new(homes, ends, left, board, fault);
     }
-    Outcome::new(ends, left, board, Some(Fault::Mismatch))
+    Outcome::new(homes, ends, left, board, Some(Fault::Mismatch))
 }
 
 // Whether every element has finished, and the board was told so of each.

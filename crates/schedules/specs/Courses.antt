@@ -10,7 +10,7 @@ use Rattle.pup_pack.specs.declared.error.PupError.{PupError}
 use Rattle.rts_core.specs.Accounts.{Accounted, held_count}
 use Rattle.rts_core.specs.Histories.{AreHistories}
 use Rattle.rts_core.specs.declared.event.Event.{Event}
-use Rattle.rts_core.specs.Worlds.{WorldView, opening_world}
+use Rattle.rts_core.specs.Worlds.{WorldView, opening_words, opening_world}
 use Rattle.rts_run.specs.Outcomes.{OutcomeView}
 
 -- What a course left: the outcome, as of a run over threads, the location words of its elements, its steps, and the event that
@@ -35,8 +35,8 @@ IsDone w = HaveFinished w.board × (held_count w ≡ 0)
 
 -- What a run on one thread left that opened with these chares on this number of PEs, whose rounds are decided by this strategy.
 -- Its steps lead from the opening to the world that it left, each of them enabled. Each letter that was posted is in one place or
--- was executed once, by its own element, and each element is in one place, and is what its journal says. Without a fault every
--- element has finished, and no letter is held.
+-- was executed once, by its own element, and each element is in one place, and is what its journal says. It opened on its home.
+-- Without a fault every element has finished, and no letter is held.
 pub record IsExplored {C A : Type 0} (step : Step C) (fits : C → Type 0) (pack : C → List ℕ) (unpack : List ℕ → Result (C × ℕ) PupError)
     (chares : List C) (pes : ℕ) (strategy : Strategy) (x : ExploredView C A) : Type 0 where
   pub led : Leads step pack unpack (opening_world pes chares strategy) x.steps (left_by x)
@@ -44,4 +44,5 @@ pub record IsExplored {C A : Type 0} (step : Step C) (fits : C → Type 0) (pack
   pub histories : AreHistories step fits pack chares (left_by x)
   pub elements : elements x.outcome.board.database ≡ length chares
   pub on_pes : x.outcome.board.pes ≡ pes
+  pub homes : x.outcome.homes ≡ opening_words (length chares) pes
   pub done : x.outcome.fault ≡ None → IsDone (left_by x)

@@ -1,16 +1,20 @@
 //! What a course leaves.
 
-ghost use Rattle.std.specs.Prelude.{◌≡◌, ◌↔◌, IfOk, IsTrue, map};
+ghost use Rattle.std.specs.Prelude.{◌≡◌, ◌≤◌, ◌↔◌, IfOk, IsTrue, map};
+ghost use Rattle.lb_database.specs.Measuring.{elements};
+ghost use Rattle.rts_core.specs.Worlds.{opening_words};
 ghost use Rattle.schedules.specs.Courses.{IsDone, IsExplored, left_by};
 ghost use Rattle.schedules.specs.Endings.{fault_in, fault_of, refused_in};
 ghost use Rattle.schedules.specs.declared.leaving.Ending.TheVariants.{Done};
 
 use crate::explored::Explored;
+use at_sync::Board;
+use chare_index::{Limits, Pe, Pes};
 use chares::{Chare, Openings};
 use courses::{Course, Refusal};
 use pe_state::{HeldParcel, PeEnd, PeState, StepError, into_held};
 use pe_worker::Fault;
-use rts_core::{Event, Queue, World};
+use rts_core::{Event, Queue, World, opening_words};
 use rts_run::Outcome;
 use run_account::take_next;
 use std::alloc::{AllocError, Allocator};
@@ -88,12 +92,23 @@ pub(crate) fn leave<C: Chare<A>, H: Openings<C>, A: Allocator + Copy>(
 {
     let (world, steps) = course.into_parts();
     let (pes, queues, words, board) = world.into_parts();
+    let homes = homes_of(alloc, &board)?;
     let ends = ends_of(alloc, pes)?;
     let left = left_in(alloc, queues)?;
     let fault = ending.fault();
     let refused = ending.refused();
-    let outcome = Outcome::new(ends, left, board, fault);
+    let outcome = Outcome::new(homes, ends, left, board, fault);
     Ok(Explored::new(outcome, words, steps, refused))
+}
+
+// The PE on which each element of a board opened.
+fn homes_of<A: Allocator + Copy>(alloc: A, board: &Board<A>) -> Result<Vec<Pe, A>, AllocError>
+    requires few { elements board.now.database ≤ Limits.ELEMENTS }
+    requires some_pe { 1 ≤ board.now.pes }
+    requires few_pes { board.now.pes ≤ Limits.PES }
+    ensures value { IfOk result (λ homes. homes.items ≡ opening_words (elements board.now.database) board.now.pes) }
+{
+    opening_words(alloc, board.len() as u32, Pes::of(board.pes()))
 }
 
 // The ends of these PEs.

@@ -3,6 +3,7 @@
 use super::fixtures::{index, new_board, report};
 use crate::fixtures::{pe, round};
 use at_sync::Board;
+use chare_index::Pe;
 use chares::{KeptMark, Note, StateBytes};
 use lb_snapshot::Units;
 use round_marks::{element_agrees, marks_agree};
@@ -325,8 +326,9 @@ fn agrees(rt: &(impl Abort + AllocGlobal), row: &Row) -> bool {
         Some(number) => Some(pe(rt, *number)),
         None => None,
     };
+    let homes = [pe(rt, 0), pe(rt, 1)];
     let (board, marks) = (board(rt, *rounds), marks(rt, *kept));
-    element_agrees(&board, index(rt, *e), place, marks.as_slice())
+    element_agrees(&board, &homes, index(rt, *e), place, marks.as_slice())
 }
 
 #[test]
@@ -334,6 +336,27 @@ fn marks_that_agree(rt: HostRuntime) {
     for row in &RIGHT {
         assert!(rt; agrees(&rt, row), "{}", row.0);
     }
+}
+
+// Whether element 0 may have started on this PE, where the elements opened on these.
+fn may_start_on(rt: &(impl Abort + AllocGlobal), homes: &[Pe], at: u32) -> bool {
+    let board = new_board(rt, rt.alloc());
+    let marks = marks(rt, &[Resumed(0, at)]);
+    element_agrees(
+        &board,
+        homes,
+        index(rt, 0),
+        Some(pe(rt, at)),
+        marks.as_slice(),
+    )
+}
+
+#[test]
+fn an_element_starts_on_the_home_that_is_told(rt: HostRuntime) {
+    let homes = [pe(&rt, 1), pe(&rt, 1)];
+    assert!(rt; may_start_on(&rt, &homes, 1));
+    assert!(rt; !may_start_on(&rt, &homes, 0));
+    assert!(rt; !may_start_on(&rt, &[], 1));
 }
 
 #[test]

@@ -7,7 +7,7 @@ ghost use Rattle.std.specs.Prelude.{◌≡◌, ◌∷◌, [], length, slice_get,
 use super::fixtures::{index, new_board, report};
 use crate::fixtures::{pe, round};
 use at_sync::Board;
-use chare_index::NoGate;
+use chare_index::{NoGate, Pe};
 use chares::{Note, Openings};
 use lb_snapshot::Units;
 use pe_state::{Acted, HeldParcel, Parcel, PeEnd, PeState, into_held};
@@ -148,12 +148,21 @@ fn brought<H: Openings<Courier<A>>, A: Allocator + Copy>(
     Vec::new(alloc)
 }
 
-// What a run leaves: its board, its PEs, and its queues.
+// What a run leaves: where its elements opened, its board, its PEs, and its queues.
 #[derive(Drop)]
 struct Left<A: Allocator + Copy> {
+    homes: Vec<Pe, A>,
     board: Board<A>,
     ends: Vec<PeEnd<Courier<A>, A>, A>,
     queues: Vec<Vec<HeldParcel<A>, A>, A>,
+}
+
+// Each of the two elements opened on the PE of its number.
+fn homes<A: Allocator + Copy>(rt: &impl Abort, alloc: A) -> Vec<Pe, A> {
+    let mut homes = Vec::new(alloc);
+    assert!(rt; homes.push(pe(rt, 0)).is_ok());
+    assert!(rt; homes.push(pe(rt, 1)).is_ok());
+    homes
 }
 
 // The run that left element 1 there, with a board that has this much more load of each element.
@@ -176,6 +185,7 @@ fn run_left<H: Openings<Courier<A>>, A: Allocator + Copy>(
     assert!(rt; ends.push(low.into_end()).is_ok());
     assert!(rt; ends.push(high.into_end()).is_ok());
     Left {
+        homes: homes(rt, alloc),
         board,
         ends,
         queues,
@@ -200,15 +210,22 @@ fn after_a_run<A: Allocator + Copy>(
 
 // Whether the marks agree, PE by PE and queue by queue.
 fn parts_agree<A: Allocator + Copy>(left: &Left<A>) -> bool {
-    let (board, queues) = (&left.board, &left.queues);
-    left.ends.iter().all(|pe| pe_agrees(board, pe))
-        && queues.iter().all(|queue| parcels_agree(board, queue))
+    let (board, homes, queues) = (&left.board, left.homes.as_slice(), &left.queues);
+    left.ends.iter().all(|pe| pe_agrees(board, homes, pe))
+        && queues
+            .iter()
+            .all(|queue| parcels_agree(board, homes, queue))
 }
 
 // Whether the marks agree, which has to hold of the parts as of all. No request is made to find out.
 fn agrees(rt: &impl Abort, made: &Refusing<Global>, left: &Left<&Refusing<Global>>) -> bool {
     let requests = made.requests();
-    let agrees = run_agrees(&left.board, left.ends.as_slice(), left.queues.as_slice());
+    let agrees = run_agrees(
+        &left.board,
+        left.homes.as_slice(),
+        left.ends.as_slice(),
+        left.queues.as_slice(),
+    );
     assert!(rt; parts_agree(left) == agrees);
     assert!(rt; made.requests() == requests);
     agrees

@@ -11,7 +11,7 @@ returns-then-not-parcels_agree g c =
     let queues = c.args.queues.now in
     let next = ap (map (λ queue. queue.items)) (from_here queues i c.queue-item.result c.loop-queue-test.true c.queue-item.is) in (
       λ t. absurd (false≢true t),
-      λ h. absurd (walk_stops (All (IsMarkedParcel c.args.board.now)) (map (λ queue. queue.items) queues)
+      λ h. absurd (walk_stops (All (IsMarkedParcel c.args.board.now c.args.homes.now)) (map (λ queue. queue.items) queues)
           (map (λ queue. queue.items) (drop i queues)) c.loop-queue.invariant c.queue-item.result.items
           (map (λ queue. queue.items) (drop (i + 1) queues)) next
           (λ all. iff_false c.parcels_agree.ensures.agree c.if-not-parcels_agree.true (rw c.as_slice.ensures.value all)) h),
@@ -22,7 +22,7 @@ loop-queue-preserved g c =
     let i = c.loop-queue.queue-index in
     let queues = c.args.queues.now in
     let next = ap (map (λ queue. queue.items)) (from_here queues i c.queue-item.result c.loop-queue-test.true c.queue-item.is) in
-    walk_on (All (IsMarkedParcel c.args.board.now)) (map (λ queue. queue.items) queues) (map (λ queue. queue.items) (drop i queues))
+    walk_on (All (IsMarkedParcel c.args.board.now c.args.homes.now)) (map (λ queue. queue.items) queues) (map (λ queue. queue.items) (drop i queues))
     c.loop-queue.invariant c.queue-item.result.items (map (λ queue. queue.items) (drop (i + 1) queues)) next
     (rw c.as_slice.ensures.value at (c.parcels_agree.ensures.agree.0 c.if-not-parcels_agree.false))
 
@@ -30,7 +30,7 @@ pub returns : goal.returns
 returns g c =
     let i = c.loop-queue.queue-index in
     let queues = c.args.queues.now in (
-      λ _. walk_ends (All (IsMarkedParcel c.args.board.now)) (map (λ queue. queue.items) queues)
+      λ _. walk_ends (All (IsMarkedParcel c.args.board.now c.args.homes.now)) (map (λ queue. queue.items) queues)
           (map (λ queue. queue.items) (drop i queues)) c.loop-queue.invariant (ap (map (λ queue. queue.items)) (drop_all i queues c.loop-queue-test.false)),
       λ _. refl,
     )

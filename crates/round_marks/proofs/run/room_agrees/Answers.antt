@@ -12,7 +12,7 @@ returns-then-not-standing_agrees g c =
     let next = rest_more deref_pair at.element-iterator c.next.new.self c.next.result (c.in-Some.field-0-0, c.in-Some.element) c.in-Some.is c.next.ensures.steps in
     let tells = rw c.me-me.ensures.value at c.standing_agrees.ensures in (
       λ t. absurd (false≢true t),
-      λ h. absurd (walk_stops (λ x. IsMarkedOn c.args.board.now c.args.pe.now.me x.1) c.args.pe.now.room at.element-iterator
+      λ h. absurd (walk_stops (λ x. IsMarkedOn c.args.board.now c.args.homes.now c.args.pe.now.me x.1) c.args.pe.now.room at.element-iterator
           at.invariant.same (c.in-Some.field-0-0.now, c.in-Some.element.now) c.next.new.self next (iff_false tells c.if-not-standing_agrees.true) h),
     )
 
@@ -24,6 +24,6 @@ loop-element-preserved g c =
     record {
       can = search rules;
       ends = search rules;
-      same = walk_on (λ x. IsMarkedOn c.args.board.now c.args.pe.now.me x.1) c.args.pe.now.room at.element-iterator at.invariant.same
+      same = walk_on (λ x. IsMarkedOn c.args.board.now c.args.homes.now c.args.pe.now.me x.1) c.args.pe.now.room at.element-iterator at.invariant.same
           (c.in-Some.field-0-0.now, c.in-Some.element.now) c.next.new.self next (tells.0 c.if-not-standing_agrees.false);
     }

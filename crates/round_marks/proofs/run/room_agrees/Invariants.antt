@@ -6,5 +6,5 @@ abbrev pub invariant-loop-element : goal.invariant-loop-element
 invariant-loop-element g l = record {
   can : (goal.iterator-loop-element g).can_next l.element-iterator;
   ends : (goal.iterator-loop-element g).is_finite l.element-iterator;
-  same : All (λ x. IsMarkedOn l.board l.pe.me x.1) l.element-iterator ↔ All (λ x. IsMarkedOn l.board l.pe.me x.1) l.pe.room;
+  same : All (λ x. IsMarkedOn l.board l.homes l.pe.me x.1) l.element-iterator ↔ All (λ x. IsMarkedOn l.board l.homes l.pe.me x.1) l.pe.room;
 }

@@ -105,4 +105,5 @@ returns g c =
         all_finished = c.ended.ensures.all_finished;
         quiet = c.ended.ensures.quiet;
       };
+      homes = c.ended.ensures.homes;
     }

@@ -1,10 +1,10 @@
-use Rattle.std.proofs.Common.{◌≡◌, ◌∙◌, List, sym, ap, subst}
+use Rattle.std.proofs.Common.{◌≡◌, ◌∙◌, ℕ, List, length, sym, ap, subst}
 use Rattle.at_sync.specs.Boards.{BoardState}
 use Rattle.courses.specs.Courses.{Leads, Made, events_of, trace_of}
 use Rattle.courses.proofs.Courses.{reaches}
 use Rattle.lb_database.specs.Measuring.{elements}
 use Rattle.rts_core.specs.Histories.{AreHistories}
-use Rattle.rts_core.specs.Worlds.{WorldView, opening_world}
+use Rattle.rts_core.specs.Worlds.{WorldView, opening_words, opening_world}
 use Rattle.rts_core.proofs.RunAccount.{accounted}
 use Rattle.schedules.specs.Courses.{ExploredView, IsDone, left_by}
 use Rattle.schedules.proofs.Endings.{only_done}
@@ -24,6 +24,11 @@ returns-clause-explored g c =
     let is : left_by x ≡ w = left_is x w pes queues words board in
     let same : left_by x ≡ c.args.course.world = is ∙ c.into_parts-world.ensures.world in
     let steps : x.steps ≡ c.args.course.steps = ap (λ (v : view). v.steps) c.new.ensures.made ∙ c.into_parts-world.ensures.steps in
+    let held = c.into_parts-pes.result.3 in
+    let counted : elements held.database ≡ length g.H.Openings.opened =
+    ap (λ (b : BoardState g.row.A.Denot). elements b.database) c.into_parts-pes.ensures.board ∙ c.into_parts-pes.ensures.world.board_counted in
+    let placed : held.pes ≡ g.H.Openings.pes =
+    ap (λ (b : BoardState g.row.A.Denot). b.pes) c.into_parts-pes.ensures.board ∙ c.into_parts-pes.ensures.world.board_pes in
     let opening : world = opening_world g.H.Openings.pes g.H.Openings.opened c.args.course.strategy in
     let led : Leads g.C.Chare.step g.C.Pup.pack g.C.Pup.unpack opening x.steps (left_by x) =
     subst (λ (v : world). Leads g.C.Chare.step g.C.Pup.pack g.C.Pup.unpack opening x.steps v) (sym same)
@@ -35,6 +40,9 @@ returns-clause-explored g c =
       histories = subst (λ (v : world). AreHistories g.C.Chare.step g.C.Pup.fits g.C.Pup.pack g.H.Openings.opened v) (sym is) c.into_parts-pes.ensures.histories;
       elements = ap (λ (b : BoardState g.row.A.Denot). elements b.database) board ∙ c.into_parts-pes.ensures.world.board_counted;
       on_pes = ap (λ (b : BoardState g.row.A.Denot). b.pes) board ∙ c.into_parts-pes.ensures.world.board_pes;
+      homes = ap (λ (v : view). v.outcome.homes) c.new.ensures.made
+          ∙ (c.new-outcome.ensures.homes ∙ (c.in_ok-homes.ensures.value
+          ∙ (ap (λ (n : ℕ). opening_words n c.into_parts-pes.result.3.pes) counted ∙ ap (opening_words (length g.H.Openings.opened)) placed)));
       done = λ none.
           let fault = ap (λ (v : view). v.outcome.fault) c.new.ensures.made ∙ (c.new-outcome.ensures.fault ∙ c.fault-fault.ensures.value) in
           subst (λ (v : world). IsDone v) (sym same) (c.requires.done (only_done c.args.ending (sym fault ∙ none)));

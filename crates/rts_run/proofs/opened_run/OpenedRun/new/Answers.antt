@@ -2,14 +2,14 @@ use Rattle.std.proofs.Common.{◌≡◌, ◌∙◌, ◌≤◌, ℕ, arith, ap, l
 use Rattle.std.proofs.lemmas.List.{length-map, length-replicate}
 use Rattle.std.proofs.lemmas.List.FromFn.{length-map-range_with_len}
 use Rattle.lb_database.specs.Measuring.{elements}
-use Rattle.rts_core.specs.Worlds.{opening_pes, home}
+use Rattle.rts_core.specs.Worlds.{opening_pes, opening_words, home}
 use Rattle.rts_core.proofs.Weights.{sum_by-map}
 use Rattle.run_account.proofs.Openings.{opening_account}
 use Rattle.rts_run.proofs.Opened.{opens_in_order}
 use Rattle.rts_run.proofs.opened_run.OpenedRun.new.Goals as goal
 
-pub invariant_of-result : goal.invariant_of-result
-invariant_of-result g c =
+pub invariant_of-opened : goal.invariant_of-opened
+invariant_of-opened g c =
     let n = c.element_count-n.result in
     let opens : c.in_ok-states.states.items ≡ opening_pes g.H.Openings.pes g.H.Openings.opened = c.in_ok-states.ensures.value
     ∙ (ap (λ v. opening_pes v c.args.chares.items) (c.of-pes.ensures.value ∙ c.requires.run) ∙ ap (opening_pes g.H.Openings.pes) c.requires.opened) in
@@ -35,3 +35,10 @@ invariant_of-result g c =
         by_strategy = ap (λ b. b.strategy) c.in_ok-board.ensures.made ∙ c.requires.by_strategy;
       },
     )
+
+pub returns-clause-homes : goal.returns-clause-homes
+returns-clause-homes g c =
+    let all : c.element_count-n.result ≡ length g.H.Openings.opened =
+    c.element_count-n.ensures.value ∙ (ap length c.deref.ensures.value ∙ ap length c.requires.opened) in
+    c.in_ok-homes.ensures.value
+    ∙ (ap (λ (n : ℕ). opening_words n c.of-pes.result) all ∙ ap (opening_words (length g.H.Openings.opened)) (c.of-pes.ensures.value ∙ c.requires.run))
