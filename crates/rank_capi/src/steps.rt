@@ -1,0 +1,147 @@
+//! The steps.
+
+ghost use Rattle.std.specs.Prelude.{◌≡◌, ◌≢◌, IfOk, IfSome, pos, true};
+ghost use Rattle.foreign_chare.specs.Answers.{answer_in};
+ghost use Rattle.pe_state.specs.Pes.{acting, departed, looked, noted, pe_after, resumed};
+ghost use Rattle.rank_calls.specs.Calls.{due, IsRight};
+ghost use Rattle.rank_calls.specs.Runs.{stamp_pack, stamp_unpack, step_in};
+
+use crate::statuses::{ASTRAY, status_of};
+use chare_index::{Index, Pe, Round};
+use foreign_chare::Answer;
+use pup_pack::{Pup, PupError};
+use rank_calls::{CallError, Handle, Reply, Request};
+use std::alloc::Global;
+
+// The answer in these bytes, all of which it takes.
+fn read(alloc: Global, bytes: &[u8]) -> Result<Answer, CallError>
+    ensures value { IfOk result (λ answer. IfOk (answer_in bytes.now) (λ a. a.0 ≡ answer)) }
+{
+    match Answer::unpack(alloc, bytes) {
+        Ok((answer, len)) => {
+            if len != bytes.len() {
+                return Err(CallError::BadInput);
+            }
+            Ok(answer)
+        }
+        Err(PupError::OutOfMemory) => Err(CallError::OutOfMemory),
+        Err(_) => Err(CallError::BadInput),
+    }
+}
+
+/// Takes it that the element that is wanted is on this PE.
+#[unsafe(no_mangle)]
+pub extern "C" fn tezgumi_pe_look(alloc: Global, handle: &mut Handle, address: u32) -> i32
+    ensures run { handle.new.run ≡ handle.old.run }
+    ensures done { result ≡ pos 0 → (handle.new.is_open ≡ true) × (handle.new.pe ≡ looked handle.old.pe address) }
+    ensures kept { result ≢ pos 0 → (handle.new.is_open ≡ handle.old.is_open) × (handle.old.is_open ≡ true → handle.new.pe ≡ handle.old.pe) }
+{
+    let Some(address) = Pe::new(address) else {
+        return -1;
+    };
+    match handle.call(alloc, Request::Look(address)) {
+        Reply::Done => 0,
+        Reply::Refused(error) => status_of(error),
+        _ => ASTRAY,
+    }
+}
+
+/// Acts on the parcel in its hand, where no handler is due.
+#[unsafe(no_mangle)]
+pub extern "C" fn tezgumi_pe_act(alloc: Global, handle: &mut Handle) -> i32
+    ensures run { handle.new.run ≡ handle.old.run }
+    ensures done { result ≡ pos 0
+        → (handle.new.is_open ≡ true) × (handle.new.pe ≡ pe_after handle.old.pe (acting (step_in handle.old.run) stamp_pack stamp_unpack handle.old.pe)) }
+    ensures kept { result ≢ pos 0 → (handle.new.is_open ≡ handle.old.is_open) × (handle.old.is_open ≡ true → handle.new.pe ≡ handle.old.pe) }
+{
+    match handle.call(alloc, Request::Act) {
+        Reply::Done => 0,
+        Reply::Refused(error) => status_of(error),
+        _ => ASTRAY,
+    }
+}
+
+/// Has the letter in its hand executed, with the answer of the handler that was due.
+#[unsafe(no_mangle)]
+pub extern "C" fn tezgumi_pe_execute(alloc: Global, handle: &mut Handle, answer: &[u8]) -> i32
+    requires asked { IfOk (answer_in answer.now) (λ a. IfSome (due handle.old.pe) (λ d. IsRight handle.old.run handle.old.pe a.0 d.0)) }
+    ensures run { handle.new.run ≡ handle.old.run }
+    ensures done { result ≡ pos 0
+        → (handle.new.is_open ≡ true) × (handle.new.pe ≡ pe_after handle.old.pe (acting (step_in handle.old.run) stamp_pack stamp_unpack handle.old.pe)) }
+    ensures kept { result ≢ pos 0 → (handle.new.is_open ≡ handle.old.is_open) × (handle.old.is_open ≡ true → handle.new.pe ≡ handle.old.pe) }
+{
+    let answer = match read(alloc, answer) {
+        Ok(answer) => answer,
+        Err(error) => return status_of(error),
+    };
+    match handle.call(alloc, Request::Execute(answer)) {
+        Reply::Done => 0,
+        Reply::Refused(error) => status_of(error),
+        _ => ASTRAY,
+    }
+}
+
+/// Resumes an element after this round, or starts it where that is 0, with the answer of its handler.
+#[unsafe(no_mangle)]
+pub extern "C" fn tezgumi_pe_resume(
+    alloc: Global,
+    handle: &mut Handle,
+    index: u32,
+    round: u32,
+    answer: &[u8],
+) -> i32
+    requires asked { IfOk (answer_in answer.now) (λ a. IsRight handle.old.run handle.old.pe a.0 index) }
+    ensures run { handle.new.run ≡ handle.old.run }
+    ensures done { result ≡ pos 0 → (handle.new.is_open ≡ true) × (handle.new.pe ≡ resumed (step_in handle.old.run) stamp_pack handle.old.pe index round) }
+    ensures kept { result ≢ pos 0 → (handle.new.is_open ≡ handle.old.is_open) × (handle.old.is_open ≡ true → handle.new.pe ≡ handle.old.pe) }
+{
+    let Some(index) = Index::new(index) else {
+        return -1;
+    };
+    let Some(round) = Round::new(round) else {
+        return -1;
+    };
+    let answer = match read(alloc, answer) {
+        Ok(answer) => answer,
+        Err(error) => return status_of(error),
+    };
+    match handle.call(alloc, Request::Resume(index, round, answer)) {
+        Reply::Done => 0,
+        Reply::Refused(error) => status_of(error),
+        _ => ASTRAY,
+    }
+}
+
+/// Packs an element that waits and puts it into the outbox, addressed to this PE.
+#[unsafe(no_mangle)]
+pub extern "C" fn tezgumi_pe_depart(alloc: Global, handle: &mut Handle, index: u32, to: u32) -> i32
+    ensures run { handle.new.run ≡ handle.old.run }
+    ensures done { result ≡ pos 0 → (handle.new.is_open ≡ true) × (handle.new.pe ≡ departed stamp_pack handle.old.pe index to) }
+    ensures kept { result ≢ pos 0 → (handle.new.is_open ≡ handle.old.is_open) × (handle.old.is_open ≡ true → handle.new.pe ≡ handle.old.pe) }
+{
+    let Some(index) = Index::new(index) else {
+        return -1;
+    };
+    let Some(to) = Pe::new(to) else {
+        return -1;
+    };
+    match handle.call(alloc, Request::Depart(index, to)) {
+        Reply::Done => 0,
+        Reply::Refused(error) => status_of(error),
+        _ => ASTRAY,
+    }
+}
+
+/// Takes it that the board has the note that is owed first.
+#[unsafe(no_mangle)]
+pub extern "C" fn tezgumi_pe_note_done(alloc: Global, handle: &mut Handle) -> i32
+    ensures run { handle.new.run ≡ handle.old.run }
+    ensures done { result ≡ pos 0 → (handle.new.is_open ≡ true) × (handle.new.pe ≡ noted handle.old.pe) }
+    ensures kept { result ≢ pos 0 → (handle.new.is_open ≡ handle.old.is_open) × (handle.old.is_open ≡ true → handle.new.pe ≡ handle.old.pe) }
+{
+    match handle.call(alloc, Request::NoteDone) {
+        Reply::Done => 0,
+        Reply::Refused(error) => status_of(error),
+        _ => ASTRAY,
+    }
+}
