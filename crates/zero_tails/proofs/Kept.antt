@@ -1,10 +1,10 @@
 -- What is kept of a list of bytes.
-use Rattle.std.proofs.Common.{◌≡◌, ℕ, zero, suc, ◌+◌, ◌-◌, ◌≤◌, ◌<◌, List, [], ◌∷◌, ◌++◌, length, take, get_or, true, refl, sym, ap, ◌∙◌, subst, arith, length-append}
+use Rattle.std.proofs.Common.{◌≡◌, ℕ, zero, suc, ◌-◌, ◌≤◌, ◌<◌, List, [], ◌∷◌, ◌++◌, length, take, get_or, true, refl, sym, ap, ◌∙◌, subst, arith, length-append}
 use Rattle.std.proofs.lemmas.List.{length-replicate, length-take-le}
 use Rattle.std.proofs.lemmas.Bool.Decides.{nat_tests}
 use Rattle.std.proofs.Math.Seq.{take-suc, take-append_seam}
 use Rattle.chare_index.specs.declared.limits.TheConstants.Limits.{STATE_BYTES}
-use Rattle.zero_tails.specs.Tails.{zeros, kept_before, kept_of, trimmed, trimmed_parts, padded, is_trimmed}
+use Rattle.zero_tails.specs.Tails.{zeros, kept_before, kept_of, trimmed, padded, is_trimmed}
 
 -- a zero more at the end changes nothing; of a list with another byte at the end all is kept
 pub kept_zero : (xs : List ℕ) → kept_of (xs ++ 0 ∷ []) ≡ kept_of xs

@@ -109,11 +109,9 @@ impl Pup<Global> for Trimmed {
 
     ghost round_trip = { trimmed_trips.trip };
 
-
     fn packed_len(&self) -> u32 {
         (&self.len, &self.kept).fields_len()
     }
-
 
     fn pack_into(&self, out: &mut Vec<u8>) -> Result<(), PupError> {
         (&self.len, &self.kept).pack_fields(out)
