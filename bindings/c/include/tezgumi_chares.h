@@ -47,6 +47,7 @@ extern "C" {
 #define TEZGUMI_PE_ELEMENTS 65536u         /* elements of the array, from 0 */
 #define TEZGUMI_PE_PES 256u                /* PEs, from 1 */
 #define TEZGUMI_PE_BODY_BYTES 1024u        /* bytes of a letter's body, from 0 */
+#define TEZGUMI_PE_OBJECT_BYTES 1048560u   /* bytes of an object, from 0 */
 #define TEZGUMI_PE_MESSAGE_BYTES 1048577u  /* bytes of a message */
 
 /* What a call answers. Under any status but TEZGUMI_PE_OK the PE is as it was. */
@@ -107,17 +108,17 @@ int32_t tezgumi_pe_send(struct tezgumi_pe *pe, uint32_t *to, uint8_t *message, s
 /* A message that came is taken into the hand, where that is empty. */
 int32_t tezgumi_pe_receive(struct tezgumi_pe *pe, const uint8_t *message, size_t len);
 
-/* The note that is owed first: kind 0, element index waits for the end of this round, with its load and the bytes of its pack; kind 1,
- * it has finished. And that the board has it. */
+/* The note that is owed first: kind 0, element index waits for the end of this round, with its load and its bytes, which are those of
+ * its object, as its last answer said, and 16 more; kind 1, it has finished. And that the board has it. */
 int32_t tezgumi_pe_next_note(
     struct tezgumi_pe *pe, uint32_t *kind, uint32_t *index, uint32_t *round, uint64_t *load, uint32_t *bytes);
 int32_t tezgumi_pe_note_done(struct tezgumi_pe *pe);
 
 /* ---- 2. Answers ---- */
 
-/* What a handler answers: its work units, whether its element is ready to be balanced, whether it has finished, and the letters that
- * it sends. tezgumi_answer_begin makes one anew in the room that it has; one of zeros has none. tezgumi_answer_free gives the room
- * back. These are tested and not proved. */
+/* What a handler answers: its work units, whether its element is ready to be balanced, whether it has finished, how many bytes its
+ * object has now, and the letters that it sends. tezgumi_answer_begin makes one anew in the room that it has; one of zeros has none.
+ * tezgumi_answer_free gives the room back. These are tested and not proved. */
 struct tezgumi_answer {
     uint8_t *bytes;
     size_t len, room;
@@ -139,18 +140,24 @@ static inline int32_t tezgumi_answer_room(struct tezgumi_answer *answer, size_t 
     return TEZGUMI_PE_OK;
 }
 
-/* Begins an answer that sends nothing yet. */
+/* Begins an answer that sends nothing yet, of an object without bytes. */
 static inline int32_t tezgumi_answer_begin(struct tezgumi_answer *answer, uint64_t units, bool at_sync, bool finished)
 {
     answer->len = 0;
-    int32_t status = tezgumi_answer_room(answer, 14);
+    int32_t status = tezgumi_answer_room(answer, 18);
     if (status) return status;
     tezgumi_answer_put(answer->bytes, units, 8);
     answer->bytes[8] = at_sync;
     answer->bytes[9] = finished;
-    tezgumi_answer_put(answer->bytes + 10, 0, 4);
-    answer->len = 14;
+    tezgumi_answer_put(answer->bytes + 10, 0, 8);
+    answer->len = 18;
     return TEZGUMI_PE_OK;
+}
+
+/* Says how many bytes the object has now, at most TEZGUMI_PE_OBJECT_BYTES: what it costs to move it. The answer was begun. */
+static inline void tezgumi_answer_size(struct tezgumi_answer *answer, uint32_t bytes)
+{
+    tezgumi_answer_put(answer->bytes + 10, bytes, 4);
 }
 
 /* Adds a letter to element to, with this body. On an error the answer is as it was. */
@@ -163,7 +170,7 @@ static inline int32_t tezgumi_answer_send(struct tezgumi_answer *answer, uint32_
     tezgumi_answer_put(at + 4, len, 4);
     if (len) memcpy(at + 8, body, len);
     answer->len += (size_t)8 + len;
-    uint8_t *count = answer->bytes + 10;
+    uint8_t *count = answer->bytes + 14;
     for (int i = 3; i >= 0 && ++count[i] == 0; i--) {}
     return TEZGUMI_PE_OK;
 }

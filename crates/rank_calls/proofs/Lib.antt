@@ -1,3 +1,3 @@
 pub mod Openings
-pub mod Steps
+pub mod Fields
 pub mod Values

@@ -1,5 +1,5 @@
 -- The message of a parcel: what parcel_wire makes of it, written out.
-use Rattle.std.specs.Prelude.{ℕ, List, ◌++◌, Result}
+use Rattle.std.specs.Prelude.{ℕ, List, ◌++◌, length, Result}
 use Rattle.std.specs.Int.{w32, w64, to_be_bytes}
 use Rattle.chares.specs.Letters.{LetterView}
 use Rattle.parcel_wire.specs.Elements.{SentElement}
@@ -16,6 +16,7 @@ use Rattle.pup_pack.specs.Pairs.{unpack_pair}
 use Rattle.pup_pack.specs.Structs.{judged, made}
 use Rattle.pup_pack.specs.Structs.{decoded as read_as}
 use Rattle.pup_pack.specs.Truths.{pack_bool, unpack_bool}
+use Rattle.zero_tails.specs.Tails.{trimmed, trimmed_read}
 
 -- the fields of a letter
 abbrev pub letter_pack : LetterView → List ℕ
@@ -25,7 +26,7 @@ letter_pack l = to_be_bytes w32 l.id.0 ++ (to_be_bytes w32 l.id.1 ++ (to_be_byte
 abbrev pub element_pack : SentElement → List ℕ
 element_pack e =
     to_be_bytes w32 e.index
-    ++ (pack_bytes e.bytes
+    ++ ((to_be_bytes w32 (length e.bytes) ++ pack_bytes (trimmed e.bytes))
     ++ (to_be_bytes w64 e.entries
     ++ ((to_be_bytes w32 e.progress.round ++ (pack_bool e.progress.started ++ (pack_bool e.progress.synced ++ (pack_bool e.progress.finished ++ to_be_bytes w64 e.progress.load))))
     ++ pack_list (λ m. pack_parts (mark_parts m)) e.marks)))
@@ -39,7 +40,7 @@ letter_unpack bytes = judged is_letter (made letter_of (unpack_pair unpack_u32 (
 
 abbrev pub element_unpack : List ℕ → Result (SentElement × ℕ) PupError
 element_unpack bytes =
-    judged is_element (made of_parts (unpack_pair unpack_u32 (unpack_pair unpack_bytes (unpack_pair unpack_u64 (unpack_pair
+    judged is_element (made of_parts (unpack_pair unpack_u32 (unpack_pair (λ b. read_as trimmed_read (unpack_pair unpack_u32 unpack_bytes b)) (unpack_pair unpack_u64 (unpack_pair
     (unpack_pair unpack_u32 (unpack_pair unpack_bool (unpack_pair unpack_bool (unpack_pair unpack_bool unpack_u64))))
     (unpack_list (λ b. read_as mark_read (unpack_parts b)))))) bytes))
 

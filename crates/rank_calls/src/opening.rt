@@ -6,6 +6,7 @@ ghost use Rattle.rank_calls.specs.Runs.{opened, with_element};
 use crate::rank::Rank;
 use crate::run::RunName;
 use chare_index::{Index, Limits, Pe, opening_pe};
+use chares::History;
 use foreign_chare::Foreign;
 use pe_state::PeState;
 use std::alloc::{AllocError, Global};
@@ -48,6 +49,8 @@ impl<R: RunName> Rank<R> {
         if self.pe.room().element(index).is_some() {
             return Ok(());
         }
-        self.pe.place(index, Foreign::new(index.get()))
+        self.pe.place(index, Foreign::new(index.get()))?;
+        self.pe.set_history(index, History::Dropped);
+        Ok(())
     }
 }

@@ -10,7 +10,7 @@ use crate::rank::Rank;
 use crate::request::CallError;
 use crate::run::{RunName, Told};
 use chare_index::{Index, Limits, NoGate, Pe, Round};
-use chares::{Carried, Letter, PackedElement};
+use chares::{Carried, History, Letter, PackedElement};
 use foreign_chare::{Answer, Foreign};
 use parcel_wire::{WireParcel, encode};
 use pe_state::{HeldParcel, Parcel};
@@ -64,7 +64,21 @@ impl<R: RunName> Rank<R> {
         if self.due_letter().is_some() {
             return Err(CallError::NotEnabled);
         }
-        self.act_now()
+        let arriving = self.arriving();
+        self.act_now()?;
+        if let Some(index) = arriving {
+            self.pe.set_history(index, History::Dropped);
+        }
+        Ok(())
+    }
+
+    // The element in its hand.
+    fn arriving(&self) -> Option<Index> {
+        let hand = self.pe.as_end().hand()?;
+        let Carried::Element(element) = &hand.parcel else {
+            return None;
+        };
+        Some(element.index())
     }
 
     // Acts on the parcel in its hand.

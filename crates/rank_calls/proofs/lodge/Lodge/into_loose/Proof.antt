@@ -42,7 +42,7 @@ use Rattle.rank_calls.specs.Owning.{lodged, may_free}
 use Rattle.rank_calls.specs.contracts.rank.Rank as rank
 use Rattle.rank_calls.specs.contracts.lodge.Lodge as lodge
 use Rattle.rank_calls.proofs.Values.{both, Loose, loose_good, loose_in, al}
-use Rattle.rank_calls.proofs.Steps.{lodge_out}
+use Rattle.rank_calls.proofs.Fields.{lodge_out}
 use Rattle.rank_calls.specs.contracts.lodge.Lodge.into_loose.{ended, clauses}
 use Rattle.rank_calls.specs.contracts.lodge.Lodge.into_loose.Key.{name as #self}
 use Rattle.rank_calls.proofs.lodge.Lodge.into_loose.Statement.{statement}
