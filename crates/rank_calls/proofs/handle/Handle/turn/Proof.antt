@@ -43,6 +43,7 @@ use Rattle.rank_calls.specs.contracts.serving.serve as callee
 use Rattle.rank_calls.proofs.serving.serve.Met.{met}
 use Rattle.rank_calls.specs.Owning.{marker}
 use Rattle.rank_calls.specs.Calls.{IsServed}
+use Rattle.chares.specs.declared.carried.Carried.TheVariants as Carried
 use Rattle.rank_calls.specs.declared.request.Request.TheVariants as Request
 use Rattle.rank_calls.specs.contracts.request.Request as request
 use Rattle.rank_calls.proofs.request.Request.TheLaws as request_laws
@@ -89,7 +90,7 @@ turn_spec 𝓤 𝓛 𝓜 𝓡 wired =
           Goes-blank 𝓛 0 (plain (λ _. Q)) yes (λ κs. elim [
             | Request.Open me pes n ↦ λ w. tt
             | Request.Close ↦ λ w. tt
-            | Request.Receive parcel ↦ λ w. tt
+            | Request.Receive parcel ↦ elim parcel [ Carried.Letter letter ↦ λ w. tt | Carried.Element element ↦ λ w. tt ]
             | Request.Look address ↦ λ w. tt
             | Request.Act ↦ λ w. tt
             | Request.Execute answer ↦ λ w. tt
