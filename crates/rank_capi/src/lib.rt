@@ -8,6 +8,7 @@
 //! promises of it; [`rank_calls`](rank_calls) tells them.
 #![tactic(auto)]
 
+mod asking;
 mod opening;
 mod parcels;
 mod peeks;

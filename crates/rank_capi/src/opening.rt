@@ -3,9 +3,9 @@
 ghost use Rattle.std.specs.Prelude.{◌≡◌, ◌≢◌, pos, true, false};
 ghost use Rattle.rank_calls.specs.Runs.{opened};
 
-use crate::statuses::{ASTRAY, status_of};
+use crate::asking::asked;
 use chare_index::Pe;
-use rank_calls::{Handle, Reply, Request};
+use rank_calls::{Handle, Request};
 use std::alloc::Global;
 
 /// Opens PE `me` of `pes`, with the elements of an array of `n` that begin on it: element `i` begins on PE `i * pes / n`, rounded down.
@@ -26,23 +26,15 @@ pub extern "C" fn tezgumi_pe_open(
     let Some(me) = Pe::new(me) else {
         return -1;
     };
-    match handle.call(alloc, Request::Open(me, pes, n)) {
-        Reply::Done => 0,
-        Reply::Refused(error) => status_of(error),
-        _ => ASTRAY,
-    }
+    asked(alloc, handle, Request::Open(me, pes, n))
 }
 
 /// Closes a PE, and frees what it has.
 #[unsafe(no_mangle)]
 pub extern "C" fn tezgumi_pe_close(alloc: Global, handle: &mut Handle) -> i32
     ensures run { handle.new.run ≡ handle.old.run }
-    ensures closed { result ≡ pos 0 → handle.new.is_open ≡ false }
+    ensures closed { result ≡ pos 0 → (handle.old.is_open ≡ true) × (handle.new.is_open ≡ false) }
     ensures kept { result ≢ pos 0 → (handle.new.is_open ≡ handle.old.is_open) × (handle.old.is_open ≡ true → handle.new.pe ≡ handle.old.pe) }
 {
-    match handle.call(alloc, Request::Close) {
-        Reply::Done => 0,
-        Reply::Refused(error) => status_of(error),
-        _ => ASTRAY,
-    }
+    asked(alloc, handle, Request::Close)
 }

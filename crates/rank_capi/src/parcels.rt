@@ -1,6 +1,6 @@
 //! Parcels that come and go, as messages.
 
-ghost use Rattle.std.specs.Prelude.{◌≡◌, ◌≢◌, ◌++◌, length, take, drop, IfSome, IsSomeAnd, Ok, Some, pos, true, List};
+ghost use Rattle.std.specs.Prelude.{◌≡◌, ◌≢◌, length, take, drop, IfSome, IsSomeAnd, Ok, Some, pos, true, List};
 ghost use Rattle.chares.specs.Letters.{Done};
 ghost use Rattle.parcel_wire.specs.declared.message.WireParcel.{WireParcel};
 ghost use Rattle.parcel_wire.specs.Messages.{came, AreEntriesOf};
@@ -8,6 +8,7 @@ ghost use Rattle.pe_state.specs.Pes.{front_address, front_parcel, gave_up, recei
 ghost use Rattle.rank_calls.specs.Messages.{message_of, read_message};
 ghost use Rattle.rank_calls.specs.Runs.{IsOfRun};
 
+use crate::asking::asked;
 use crate::statuses::{ASTRAY, LONG, status_of};
 use parcel_wire::{decode, told_past};
 use pup_pack::PupError;
@@ -32,11 +33,7 @@ pub extern "C" fn tezgumi_pe_receive(alloc: Global, handle: &mut Handle, message
     let Ok(parcel) = sent.into_parcel(alloc, told_past()) else {
         return -2;
     };
-    match handle.call(alloc, Request::Receive(parcel)) {
-        Reply::Done => 0,
-        Reply::Refused(error) => status_of(error),
-        _ => ASTRAY,
-    }
+    asked(alloc, handle, Request::Receive(parcel))
 }
 
 /// Gives up the parcel at the front of its outbox: writes where it goes, its message, and how long that is.

@@ -1,6 +1,6 @@
 //! What a PE shows: each leaves it as it is.
 
-ghost use Rattle.std.specs.Prelude.{◌≡◌, length, take, IfSome, IsSomeAnd, None, Some, pos, true, slice_get};
+ghost use Rattle.std.specs.Prelude.{◌≡◌, length, take, IsSomeAnd, None, Some, pos, true, slice_get};
 ghost use Rattle.chares.specs.declared.note.Note.{Note};
 ghost use Rattle.pe_state.specs.Pes.{front_address, wanted};
 ghost use Rattle.rank_calls.specs.Calls.{due};
@@ -142,7 +142,7 @@ pub extern "C" fn tezgumi_pe_next_note(
     ensures run { handle.new.run ≡ handle.old.run }
     ensures is_open { handle.new.is_open ≡ handle.old.is_open }
     ensures same { handle.old.is_open ≡ true → handle.new.pe ≡ handle.old.pe }
-    ensures shown { result ≡ pos 0 → IfSome (slice_get handle.old.pe.notes 0) (note_in kind.new index.new round.new load.new bytes.new) }
+    ensures shown { result ≡ pos 0 → IsSomeAnd (slice_get handle.old.pe.notes 0) (note_in kind.new index.new round.new load.new bytes.new) }
     ensures nothing { result ≡ pos 1 → slice_get handle.old.pe.notes 0 ≡ None }
 {
     match handle.call(alloc, Request::NextNote) {

@@ -1,6 +1,6 @@
 //! The statuses of the calls.
 
-ghost use Rattle.std.specs.Prelude.{◌≡◌};
+ghost use Rattle.std.specs.Prelude.{◌≡◌, ◌≢◌, ℕ, pos};
 ghost use Rattle.rank_capi.specs.Statuses.{status_of};
 
 use rank_calls::CallError;
@@ -17,6 +17,7 @@ pub(crate) const ASTRAY: i32 = -10;
 /// The status of an error.
 pub(crate) fn status_of(error: CallError) -> i32
     ensures value { result ≡ status_of error }
+    ensures negative { (n : ℕ) → result ≢ pos n }
 {
     match error {
         CallError::BadInput => -1,

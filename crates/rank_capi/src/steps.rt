@@ -1,31 +1,32 @@
 //! The steps.
 
-ghost use Rattle.std.specs.Prelude.{◌≡◌, ◌≢◌, IfOk, IfSome, pos, true};
+ghost use Rattle.std.specs.Prelude.{◌≡◌, ◌≢◌, ◌⊎◌, IfErr, IfOk, IfSome, negsuc, pos, true};
 ghost use Rattle.foreign_chare.specs.Answers.{answer_in};
 ghost use Rattle.pe_state.specs.Pes.{acting, departed, looked, noted, pe_after, resumed};
 ghost use Rattle.rank_calls.specs.Calls.{due, IsRight};
 ghost use Rattle.rank_calls.specs.Runs.{stamp_pack, stamp_unpack, step_in};
 
-use crate::statuses::{ASTRAY, status_of};
+use crate::asking::asked;
 use chare_index::{Index, Pe, Round};
 use foreign_chare::Answer;
 use pup_pack::{Pup, PupError};
-use rank_calls::{CallError, Handle, Reply, Request};
+use rank_calls::{Handle, Request};
 use std::alloc::Global;
 
-// The answer in these bytes, all of which it takes.
-fn read(alloc: Global, bytes: &[u8]) -> Result<Answer, CallError>
+// The answer in these bytes, all of which it takes, or the status.
+fn read(alloc: Global, bytes: &[u8]) -> Result<Answer, i32>
     ensures value { IfOk result (λ answer. IfOk (answer_in bytes.now) (λ a. a.0 ≡ answer)) }
+    ensures status { IfErr result (λ status. (status ≡ negsuc 0) ⊎ (status ≡ negsuc 1)) }
 {
     match Answer::unpack(alloc, bytes) {
         Ok((answer, len)) => {
             if len != bytes.len() {
-                return Err(CallError::BadInput);
+                return Err(-1);
             }
             Ok(answer)
         }
-        Err(PupError::OutOfMemory) => Err(CallError::OutOfMemory),
-        Err(_) => Err(CallError::BadInput),
+        Err(PupError::OutOfMemory) => Err(-2),
+        Err(_) => Err(-1),
     }
 }
 
@@ -39,11 +40,7 @@ pub extern "C" fn tezgumi_pe_look(alloc: Global, handle: &mut Handle, address: u
     let Some(address) = Pe::new(address) else {
         return -1;
     };
-    match handle.call(alloc, Request::Look(address)) {
-        Reply::Done => 0,
-        Reply::Refused(error) => status_of(error),
-        _ => ASTRAY,
-    }
+    asked(alloc, handle, Request::Look(address))
 }
 
 /// Acts on the parcel in its hand, where no handler is due.
@@ -54,11 +51,7 @@ pub extern "C" fn tezgumi_pe_act(alloc: Global, handle: &mut Handle) -> i32
         → (handle.new.is_open ≡ true) × (handle.new.pe ≡ pe_after handle.old.pe (acting (step_in handle.old.run) stamp_pack stamp_unpack handle.old.pe)) }
     ensures kept { result ≢ pos 0 → (handle.new.is_open ≡ handle.old.is_open) × (handle.old.is_open ≡ true → handle.new.pe ≡ handle.old.pe) }
 {
-    match handle.call(alloc, Request::Act) {
-        Reply::Done => 0,
-        Reply::Refused(error) => status_of(error),
-        _ => ASTRAY,
-    }
+    asked(alloc, handle, Request::Act)
 }
 
 /// Has the letter in its hand executed, with the answer of the handler that was due.
@@ -72,13 +65,9 @@ pub extern "C" fn tezgumi_pe_execute(alloc: Global, handle: &mut Handle, answer:
 {
     let answer = match read(alloc, answer) {
         Ok(answer) => answer,
-        Err(error) => return status_of(error),
+        Err(status) => return status,
     };
-    match handle.call(alloc, Request::Execute(answer)) {
-        Reply::Done => 0,
-        Reply::Refused(error) => status_of(error),
-        _ => ASTRAY,
-    }
+    asked(alloc, handle, Request::Execute(answer))
 }
 
 /// Resumes an element after this round, or starts it where that is 0, with the answer of its handler.
@@ -103,13 +92,9 @@ pub extern "C" fn tezgumi_pe_resume(
     };
     let answer = match read(alloc, answer) {
         Ok(answer) => answer,
-        Err(error) => return status_of(error),
+        Err(status) => return status,
     };
-    match handle.call(alloc, Request::Resume(index, round, answer)) {
-        Reply::Done => 0,
-        Reply::Refused(error) => status_of(error),
-        _ => ASTRAY,
-    }
+    asked(alloc, handle, Request::Resume(index, round, answer))
 }
 
 /// Packs an element that waits and puts it into the outbox, addressed to this PE.
@@ -125,11 +110,7 @@ pub extern "C" fn tezgumi_pe_depart(alloc: Global, handle: &mut Handle, index: u
     let Some(to) = Pe::new(to) else {
         return -1;
     };
-    match handle.call(alloc, Request::Depart(index, to)) {
-        Reply::Done => 0,
-        Reply::Refused(error) => status_of(error),
-        _ => ASTRAY,
-    }
+    asked(alloc, handle, Request::Depart(index, to))
 }
 
 /// Takes it that the board has the note that is owed first.
@@ -139,9 +120,5 @@ pub extern "C" fn tezgumi_pe_note_done(alloc: Global, handle: &mut Handle) -> i3
     ensures done { result ≡ pos 0 → (handle.new.is_open ≡ true) × (handle.new.pe ≡ noted handle.old.pe) }
     ensures kept { result ≢ pos 0 → (handle.new.is_open ≡ handle.old.is_open) × (handle.old.is_open ≡ true → handle.new.pe ≡ handle.old.pe) }
 {
-    match handle.call(alloc, Request::NoteDone) {
-        Reply::Done => 0,
-        Reply::Refused(error) => status_of(error),
-        _ => ASTRAY,
-    }
+    asked(alloc, handle, Request::NoteDone)
 }

@@ -14,7 +14,7 @@ use types.Part.{agg, sub, whole}
 use contract.BorrowLft.{◌⊑◌, ⊑_static}
 use contract.Monad.{fact, fact_i}
 use contract.Running.{tables}
-use denote.Exit.{yes, no, Last, rest}
+use denote.Exit.{yes, no}
 use denote.RattleType.{RattleType, owns}
 use denote.Signature.{types_at, plain}
 use denote.Param.{param, layout}
@@ -43,12 +43,11 @@ use Rattle.rank_calls.specs.contracts.serving.serve as callee
 use Rattle.rank_calls.proofs.serving.serve.Met.{met}
 use Rattle.rank_calls.specs.Owning.{marker}
 use Rattle.rank_calls.specs.Calls.{IsServed}
-use Rattle.chares.specs.declared.carried.Carried.TheVariants as Carried
-use Rattle.rank_calls.specs.declared.request.Request.TheVariants as Request
 use Rattle.rank_calls.specs.contracts.request.Request as request
 use Rattle.rank_calls.proofs.request.Request.TheLaws as request_laws
 use Rattle.rank_calls.specs.contracts.request.Reply as reply
 use Rattle.rank_calls.proofs.request.Reply.TheLaws as reply_laws
+use Rattle.rank_calls.proofs.Spent.{blank_request, gone}
 use Rattle.rank_calls.proofs.Values.{both, both_tt, al, pair_in}
 use Rattle.rank_calls.proofs.Fields.{handle_in, handle_out, lodge_in, lodge_out}
 use Rattle.rank_calls.specs.contracts.handle.Handle.turn.{ended, clauses}
@@ -61,10 +60,6 @@ marker_laws = arg_laws (ty_struct [] tnil) no brand.the_row brand_laws.the_row_l
 
 abbrev dict : Dict
 dict = impl [] tnil dnil
-
--- nothing is left of a request
-gone : (x : (request.the_row).Denot) → Last ((request.the_row).exit yes) x
-gone x = rest ((request.the_row).exit yes) x
 
 pub turn_spec : {M : Type 1} → statement M
 turn_spec 𝓤 𝓛 𝓜 𝓡 wired =
@@ -87,22 +82,7 @@ turn_spec 𝓤 𝓛 𝓜 𝓡 wired =
       (
         Goes-dropped 𝓛 0 (plain (λ _. Z)) yes (λ κs x w. refl),
         (
-          Goes-blank 𝓛 0 (plain (λ _. Q)) yes (λ κs. elim [
-            | Request.Open me pes n ↦ λ w. tt
-            | Request.Close ↦ λ w. tt
-            | Request.Receive parcel ↦ elim parcel [ Carried.Letter letter ↦ λ w. tt | Carried.Element element ↦ λ w. tt ]
-            | Request.Look address ↦ λ w. tt
-            | Request.Act ↦ λ w. tt
-            | Request.Execute answer ↦ λ w. tt
-            | Request.Resume e round answer ↦ λ w. tt
-            | Request.Depart e to ↦ λ w. tt
-            | Request.Send room ↦ λ w. tt
-            | Request.NoteDone ↦ λ w. tt
-            | Request.Due room ↦ λ w. tt
-            | Request.Wanted ↦ λ w. tt
-            | Request.Front ↦ λ w. tt
-            | Request.NextNote ↦ λ w. tt
-          ]),
+          Goes-blank 𝓛 0 (plain (λ _. Q)) yes (λ κs x w. blank_request x w),
           tt,
         ),
       ),
