@@ -1,6 +1,6 @@
 //! What a PE shows: each leaves it as it is.
 
-ghost use Rattle.std.specs.Prelude.{◌≡◌, length, take, IsSomeAnd, None, Some, pos, true, slice_get};
+ghost use Rattle.std.specs.Prelude.{◌≡◌, ◌≢◌, length, take, IfSome, IsSomeAnd, None, Some, pos, true, slice_get};
 ghost use Rattle.chares.specs.declared.note.Note.{Note};
 ghost use Rattle.pe_state.specs.Pes.{front_address, wanted};
 ghost use Rattle.rank_calls.specs.Calls.{due};
@@ -61,13 +61,11 @@ pub extern "C" fn tezgumi_pe_wanted(alloc: Global, handle: &mut Handle, index: &
     ensures nothing { result ≡ pos 1 → wanted handle.old.pe ≡ None }
 {
     match handle.call(alloc, Request::Wanted) {
-        Reply::IsWanted(element) => {
-            let Some(element) = element else {
-                return NOTHING;
-            };
+        Reply::IsWanted(Some(element)) => {
             *index = element.get();
             0
         }
+        Reply::IsWanted(None) => NOTHING,
         Reply::Refused(error) => status_of(error),
         _ => ASTRAY,
     }
@@ -83,13 +81,11 @@ pub extern "C" fn tezgumi_pe_front(alloc: Global, handle: &mut Handle, to: &mut 
     ensures nothing { result ≡ pos 1 → front_address handle.old.pe.outbox ≡ None }
 {
     match handle.call(alloc, Request::Front) {
-        Reply::IsFront(pe) => {
-            let Some(pe) = pe else {
-                return NOTHING;
-            };
+        Reply::IsFront(Some(pe)) => {
             *to = pe.get();
             0
         }
+        Reply::IsFront(None) => NOTHING,
         Reply::Refused(error) => status_of(error),
         _ => ASTRAY,
     }
@@ -127,8 +123,31 @@ fn told_of(note: Note) -> Told
     }
 }
 
+// The note that is shown.
+fn owed(reply: &Reply) -> Option<Note>
+    ensures value { IfSome result (λ note. reply.now ≡ Reply.IsOwed (Some note)) }
+{
+    let Reply::IsOwed(note) = reply else {
+        return None;
+    };
+    *note
+}
+
+// The status where none is shown.
+fn not_owed(reply: &Reply) -> i32
+    ensures not_done { result ≢ pos 0 }
+    ensures nothing { result ≡ pos 1 → reply.now ≡ Reply.IsOwed None }
+{
+    match reply {
+        Reply::IsOwed(None) => NOTHING,
+        Reply::Refused(error) => status_of(*error),
+        _ => ASTRAY,
+    }
+}
+
 /// Shows the note that is owed first: its kind, 0 for an element that waits and 1 for one that has finished, the element, the round,
 /// the load and the bytes. What a kind has not is written as 0.
+#[tactic(auto, using(crate::proofs::Kept::peeked))]
 #[unsafe(no_mangle)]
 pub extern "C" fn tezgumi_pe_next_note(
     alloc: Global,
@@ -145,20 +164,15 @@ pub extern "C" fn tezgumi_pe_next_note(
     ensures shown { result ≡ pos 0 → IsSomeAnd (slice_get handle.old.pe.notes 0) (note_in kind.new index.new round.new load.new bytes.new) }
     ensures nothing { result ≡ pos 1 → slice_get handle.old.pe.notes 0 ≡ None }
 {
-    match handle.call(alloc, Request::NextNote) {
-        Reply::IsOwed(note) => {
-            let Some(note) = note else {
-                return NOTHING;
-            };
-            let told = told_of(note);
-            *kind = told.kind;
-            *index = told.index;
-            *round = told.round;
-            *load = told.load;
-            *bytes = told.bytes;
-            0
-        }
-        Reply::Refused(error) => status_of(error),
-        _ => ASTRAY,
-    }
+    let reply = handle.call(alloc, Request::NextNote);
+    let Some(note) = owed(&reply) else {
+        return not_owed(&reply);
+    };
+    let told = told_of(note);
+    *kind = told.kind;
+    *index = told.index;
+    *round = told.round;
+    *load = told.load;
+    *bytes = told.bytes;
+    0
 }

@@ -1,6 +1,6 @@
 //! The steps.
 
-ghost use Rattle.std.specs.Prelude.{◌≡◌, ◌≢◌, ◌⊎◌, IfErr, IfOk, IfSome, negsuc, pos, true};
+ghost use Rattle.std.specs.Prelude.{◌≡◌, ◌≢◌, ◌⊎◌, ℕ, IfErr, IfOk, IfSome, Ok, negsuc, pos, true};
 ghost use Rattle.foreign_chare.specs.Answers.{answer_in};
 ghost use Rattle.pe_state.specs.Pes.{acting, departed, looked, noted, pe_after, resumed};
 ghost use Rattle.rank_calls.specs.Calls.{due, IsRight};
@@ -15,7 +15,7 @@ use std::alloc::Global;
 
 // The answer in these bytes, all of which it takes, or the status.
 fn read(alloc: Global, bytes: &[u8]) -> Result<Answer, i32>
-    ensures value { IfOk result (λ answer. IfOk (answer_in bytes.now) (λ a. a.0 ≡ answer)) }
+    ensures value { IfOk result (λ answer. (len : ℕ) × (answer_in bytes.now ≡ Ok (answer, len))) }
     ensures status { IfErr result (λ status. (status ≡ negsuc 0) ⊎ (status ≡ negsuc 1)) }
 {
     match Answer::unpack(alloc, bytes) {
