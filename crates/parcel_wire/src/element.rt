@@ -7,16 +7,17 @@ use crate::mark::WireMark;
 use crate::marks::{kept_marks, wire_marks};
 use chare_index::{Index, Limits, Round};
 use chares::{Packed, Past, Progress};
-use pup_pack::{Bytes, Fields, Items, Pup, PupError};
+use pup_pack::{Fields, Items, Pup, PupError};
 use std::alloc::{AllocError, Global};
 use std::marker::Model;
+use zero_tails::Trimmed;
 
 /// What is sent of an element: its index, the pack of its chare, how many entries its journal has, how far it has come, and its
 /// marks. Contracts see it as the record `SentElement`.
 #[derive(Drop)]
 pub struct WireElement {
     index: u32,
-    bytes: Bytes,
+    bytes: Trimmed,
     entries: u64,
     // The round, whether it has started, waits and has finished, and the load.
     progress: ProgressParts,
@@ -27,7 +28,7 @@ pub struct WireElement {
 type ProgressParts = (u32, (bool, (bool, (bool, u64))));
 
 /// The fields of an element, as they are packed.
-type Parts = (u32, (Bytes, (u64, (ProgressParts, Items<WireMark>))));
+type Parts = (u32, (Trimmed, (u64, (ProgressParts, Items<WireMark>))));
 
 impl Model for WireElement {
     ghost use Rattle.std.specs.Prelude.{◌≡◌, true};
@@ -46,7 +47,7 @@ impl WireElement {
     /// # Errors
     ///
     /// - [`OutOfMemory`](PupError::OutOfMemory): memory was refused.
-    /// - [`TooLong`](PupError::TooLong): its journal has 2^64 entries or more.
+    /// - [`TooLong`](PupError::TooLong): its journal has 2^64 entries or more, or its pack more than 1,048,576 bytes.
     /// - [`Bad`](PupError::Bad): it waits for the last round, or the load of a mark is above the limit of a load.
     #[tactic(auto, using(crate::proofs::Lengths::journal_length))]
     pub fn of(alloc: Global, element: &Packed) -> Result<Self, PupError>
@@ -61,10 +62,10 @@ impl WireElement {
             return Err(PupError::TooLong);
         };
         let marks = wire_marks(alloc, element.marks())?;
-        let bytes = Vec::from_slice(alloc, element.bytes())?;
+        let bytes = Trimmed::of(alloc, element.bytes())?;
         Ok(WireElement {
             index: element.index().get(),
-            bytes: Bytes::new(bytes),
+            bytes,
             entries,
             progress: (
                 progress.round.get(),
@@ -118,22 +119,16 @@ impl WireElement {
         };
         let marks = kept_marks(alloc, marks.as_slice())?;
         let index = Index::new(index).unwrap();
-        Packed::arrived(
-            alloc,
-            index,
-            bytes.into_vec(),
-            past,
-            entries,
-            progress,
-            marks,
-        )
+        let bytes = bytes.into_vec()?;
+        Packed::arrived(alloc, index, bytes, past, entries, progress, marks)
     }
 }
 
 impl Pup<Global> for WireElement {
     ghost use Rattle.std.specs.Prelude.{◌≡◌, refl, true};
     ghost use Rattle.pup_pack.specs.Structs.{made, judged};
-    ghost use Rattle.pup_pack.specs.Trips.{bool_trips, bytes_trips, judged_trips, list_trips, pair_trips, struct_trips, u32_trips, u64_trips};
+    ghost use Rattle.pup_pack.specs.Trips.{bool_trips, judged_trips, list_trips, pair_trips, struct_trips, u32_trips, u64_trips};
+    ghost use Rattle.zero_tails.specs.Tails.{trimmed_trips};
     ghost use Rattle.parcel_wire.specs.Elements.{is_element, of_parts, parts};
     ghost use Rattle.parcel_wire.specs.Marks.{mark_trips};
 
@@ -146,7 +141,7 @@ impl Pup<Global> for WireElement {
     ghost unpack = { λ bytes. judged is_element (made of_parts (⟦<Parts as Pup<Global>>⟧.unpack bytes)) };
 
     ghost round_trip = { (judged_trips is_element (struct_trips parts of_parts (λ _. refl)
-        (pair_trips u32_trips (pair_trips bytes_trips (pair_trips u64_trips (pair_trips
+        (pair_trips u32_trips (pair_trips trimmed_trips (pair_trips u64_trips (pair_trips
         (pair_trips u32_trips (pair_trips bool_trips (pair_trips bool_trips (pair_trips bool_trips u64_trips))))
         (list_trips mark_trips))))))).trip };
 

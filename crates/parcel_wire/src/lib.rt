@@ -7,6 +7,7 @@
 //! # What an element brings
 //!
 //! An element travels with its index, the pack of its chare, how many entries its journal has, how far it has come, and its marks.
+//! Of the pack the zeros at its end are not sent, only its length.
 //! The entries themselves stay where they are: the one who takes the element in says which they are, by a value of no bytes
 //! ([`told_past`]). That they are the entries which the element had, as it was sent, no test can tell.
 #![tactic(auto)]

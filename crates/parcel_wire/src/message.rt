@@ -1,6 +1,6 @@
 //! A parcel as the bytes of a message.
 
-ghost use Rattle.std.specs.Prelude.{◌≡◌, ◌++◌, ◌≤◌, length, IfOk, OnOk, OnErr, Ok};
+ghost use Rattle.std.specs.Prelude.{◌≡◌, ◌++◌, ◌∷◌, ◌≤◌, length, IfOk, OnOk, OnErr, Ok};
 ghost use Rattle.parcel_wire.specs.declared.message.WireParcel.{WireParcel};
 ghost use Rattle.pup_pack.specs.Packing.{PackAnswer, UnpackAnswer};
 ghost use Rattle.parcel_wire.specs.Messages.{came, decoded, encoded, sent, AreEntriesOf, FitsMessage};
@@ -53,17 +53,20 @@ pub fn encode(parcel: &WireParcel, out: &mut Vec<u8>) -> Result<(), PupError>
     ensures ok { OnOk result (out.new.items ≡ out.old.items ++ encoded ⟦<WireLetter as Pup<Global>>⟧.pack ⟦<WireElement as Pup<Global>>⟧.pack parcel.now) }
     ensures err { OnErr result (out.new.items ≡ out.old.items) }
 {
+    match parcel {
+        WireParcel::Letter(letter) => append(0, letter, out),
+        WireParcel::Element(element) => append(1, element, out),
+    }
+}
+
+// Appends this kind, and then these fields. On an error nothing is appended.
+fn append<T: Pup<Global>>(kind: u8, fields: &T, out: &mut Vec<u8>) -> Result<(), PupError>
+    ensures ok { OnOk result (out.new.items ≡ out.old.items ++ kind ∷ T.pack fields.now) }
+    ensures err { OnErr result (out.new.items ≡ out.old.items) }
+{
     let before = out.len();
-    let kind = match parcel {
-        WireParcel::Letter(_) => 0u8,
-        WireParcel::Element(_) => 1,
-    };
     out.push(kind)?;
-    let packed = match parcel {
-        WireParcel::Letter(letter) => letter.pack_into(out),
-        WireParcel::Element(element) => element.pack_into(out),
-    };
-    if let Err(refusal) = packed {
+    if let Err(refusal) = fields.pack_into(out) {
         out.truncate(before);
         return Err(refusal);
     }

@@ -8,10 +8,11 @@ use std::alloc::Global;
 use std::marker::Brand;
 use std::process::Abort;
 
-// 258 work units, ready to be balanced, not finished; two sends, "ab" to element 3 and nothing to element 65,535.
-const ANSWER: [u8; 32] = [
-    0, 0, 0, 0, 0, 0, 1, 2, 1, 0, 0, 0, 0, 2, 0, 0, 0, 3, 0, 0, 0, 2, 97, 98, 0, 0, 255, 255, 0, 0,
-    0, 0,
+// 258 work units, ready to be balanced, not finished; an object of 7 bytes; two sends, "ab" to element 3 and nothing to element
+// 65,535.
+const ANSWER: [u8; 36] = [
+    0, 0, 0, 0, 0, 0, 1, 2, 1, 0, 0, 0, 0, 7, 0, 0, 0, 2, 0, 0, 0, 3, 0, 0, 0, 2, 97, 98, 0, 0,
+    255, 255, 0, 0, 0, 0,
 ];
 
 // The same, made by calls.
@@ -25,7 +26,7 @@ fn made(rt: &(impl Abort + AllocGlobal)) -> Answer {
         at_sync: true,
         finished: false,
     };
-    Answer::new(effect, sends)
+    Answer::new(effect, 7, sends)
 }
 
 // Whether a value packs into these bytes.
@@ -49,21 +50,24 @@ fn bytes_that_are_no_answer(rt: HostRuntime) {
     truth[8] = 2;
     assert!(rt; again::<Answer>(&rt, &truth) == Err(PupError::Bad));
     let mut stranger = ANSWER;
-    stranger[15] = 1;
+    stranger[19] = 1;
     assert!(rt; again::<Answer>(&rt, &stranger) == Err(PupError::Bad));
+    let mut large = ANSWER;
+    large[11] = 16;
+    assert!(rt; again::<Answer>(&rt, &large) == Err(PupError::Bad));
     let mut many = ANSWER;
-    many[10] = 1;
+    many[14] = 1;
     assert!(rt; again::<Answer>(&rt, &many) == Err(PupError::TooLong));
 }
 
 #[test]
 fn a_send_by_itself(rt: HostRuntime) {
-    assert!(rt; again::<Send>(&rt, &ANSWER[14..24]) == Ok(true));
-    expect_short::<Send>(&rt, &ANSWER[14..24]);
+    assert!(rt; again::<Send>(&rt, &ANSWER[18..28]) == Ok(true));
+    expect_short::<Send>(&rt, &ANSWER[18..28]);
 }
 
-// The stamp of element 7, which has handled 258 entries.
-const STAMP: [u8; 12] = [0, 0, 0, 7, 0, 0, 0, 0, 0, 0, 1, 2];
+// The stamp of element 7, which has handled 258 entries, and whose object has 3 bytes.
+const STAMP: [u8; 19] = [0, 0, 0, 7, 0, 0, 0, 0, 0, 0, 1, 2, 0, 0, 0, 3, 0, 0, 0];
 
 // How many entries the chare with this stamp has handled.
 fn version_of(rt: &impl AllocGlobal, stamp: &[u8]) -> Result<u64, PupError> {
@@ -78,9 +82,28 @@ fn a_chare_packs_into_its_stamp(rt: HostRuntime) {
     expect_short::<Foreign<Brand>>(&rt, &STAMP);
 }
 
+// An object of so many bytes, in the length of its stamp.
+fn refusal_of_size(rt: &impl AllocGlobal, size: [u8; 4]) -> Option<PupError> {
+    let [a, b, c, d] = size;
+    let stamp = [0, 0, 0, 7, 0, 0, 0, 0, 0, 0, 1, 2, a, b, c, d, 0, 0, 0];
+    version_of(rt, &stamp).err()
+}
+
+#[test]
+fn an_object_that_is_too_large(rt: HostRuntime) {
+    assert!(rt; refusal_of_size(&rt, [0, 0, 0, 4]) == Some(PupError::Short));
+    assert!(rt; refusal_of_size(&rt, [0, 16, 0, 1]) == Some(PupError::TooLong));
+}
+
 #[test]
 fn a_chare_that_has_handled_nothing(rt: HostRuntime) {
     let chare = Foreign::<Brand>::new(7);
-    assert!(rt; packs_into(&rt, &chare, &[0, 0, 0, 7, 0, 0, 0, 0, 0, 0, 0, 0]));
+    assert!(rt;
+        packs_into(
+            &rt,
+            &chare,
+            &[0, 0, 0, 7, 0, 0, 0, 0, 0, 0, 0, 0, 0, 0, 0, 0]
+        )
+    );
     assert!(rt; chare.version() == 0);
 }

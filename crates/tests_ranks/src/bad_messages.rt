@@ -48,24 +48,28 @@ const LETTERS: [Edit; 5] = [
     (20, 4, PupError::Short),
 ];
 
-// An element and a round past their limits, a truth value that is none, and too many marks. Of the first mark a kind that is none,
+// An element past the limit; of its pack a length past the limit, and one below the bytes that come, and a zero at the end of these.
+// A round past the limit, a truth value that is none, and too many marks. Of the first mark a kind that is none,
 // an element, a load and bytes that its kind has not, and a round and a PE past their limits; of the second an element, a load and
 // bytes past their limits; and a round, which the third has not.
-const ELEMENTS: [Edit; 14] = [
+const ELEMENTS: [Edit; 17] = [
     (2, 1, PupError::Bad),
-    (19, 128, PupError::Bad),
-    (23, 2, PupError::Bad),
-    (34, 1, PupError::TooLong),
-    (38, 3, PupError::Bad),
-    (42, 1, PupError::Bad),
-    (43, 129, PupError::Bad),
-    (54, 1, PupError::Bad),
+    (6, 17, PupError::Bad),
+    (8, 1, PupError::Bad),
+    (14, 0, PupError::Bad),
+    (23, 128, PupError::Bad),
+    (27, 2, PupError::Bad),
+    (38, 1, PupError::TooLong),
+    (42, 3, PupError::Bad),
+    (46, 1, PupError::Bad),
+    (47, 129, PupError::Bad),
     (58, 1, PupError::Bad),
-    (61, 1, PupError::Bad),
+    (62, 1, PupError::Bad),
     (65, 1, PupError::Bad),
-    (72, 1, PupError::Bad),
-    (80, 1, PupError::Bad),
-    (96, 1, PupError::Bad),
+    (69, 1, PupError::Bad),
+    (76, 1, PupError::Bad),
+    (84, 1, PupError::Bad),
+    (100, 1, PupError::Bad),
 ];
 
 #[test]
@@ -100,10 +104,20 @@ fn messages_that_end_too_early_or_too_late(rt: HostRuntime) {
 
 #[test]
 fn an_element_that_is_too_long_for_a_message(rt: HostRuntime) {
-    let bytes = vec![in rt.alloc(); 0_u8; 1_048_576].expect(&rt, "out of memory");
+    let bytes = vec![in rt.alloc(); 1_u8; 1_048_576].expect(&rt, "out of memory");
     let parcel = element_of(&rt, bytes);
     let mut out = list(&rt, &[255]);
     assert!(rt; append(rt.alloc(), &parcel, &mut out) == Err(PupError::TooLong));
     assert!(rt; out.as_slice() == [255].as_slice());
+    drop(parcel);
+}
+
+#[test]
+fn zeros_are_not_sent(rt: HostRuntime) {
+    let bytes = vec![in rt.alloc(); 0_u8; 1_048_576].expect(&rt, "out of memory");
+    let parcel = element_of(&rt, bytes);
+    let mut out = Vec::new(rt.alloc());
+    assert!(rt; append(rt.alloc(), &parcel, &mut out) == Ok(()));
+    assert!(rt; out.len() == ELEMENT.len() - 2);
     drop(parcel);
 }

@@ -1,6 +1,7 @@
 //! Handlers that run elsewhere, on a PE: with the answer that was handed in, and without one.
 
 ghost use Rattle.std.specs.Prelude.{◌≡◌, ℕ, ◌∷◌, [], true, false};
+ghost use Rattle.foreign_chare.specs.Scripts.{new_stamp};
 
 use crate::fixtures::{index, list, pe, round};
 use chare_index::NoGate;
@@ -17,7 +18,7 @@ struct FiveUnits;
 impl Script for FiveUnits {
     ghost use Rattle.std.specs.Prelude.{◌∷◌, [], false};
 
-    ghost answers = { λ i v. record { effect = record { units = 5; at_sync = false; finished = false }; sends = (0, 97 ∷ 98 ∷ []) ∷ [] } };
+    ghost answers = { λ i v. record { effect = record { units = 5; at_sync = false; finished = false }; bytes = 9; sends = (0, 97 ∷ 98 ∷ []) ∷ [] } };
 }
 
 // The only PE, with one element.
@@ -25,7 +26,7 @@ fn alone<S: Script, H: Openings<Foreign<S>>>(
     rt: &(impl Abort + AllocGlobal),
 ) -> PeState<Foreign<S>, H>
     requires pes { H.pes ≡ 1 }
-    requires opening { H.opened ≡ record { index = 0; version = 0 } ∷ [] }
+    requires opening { H.opened ≡ new_stamp 0 ∷ [] }
 {
     let e0 = index(rt, 0);
     let mut at = PeState::new(rt.alloc(), pe(rt, 0), 1, 1);
@@ -35,7 +36,7 @@ fn alone<S: Script, H: Openings<Foreign<S>>>(
 
 // 5 work units, and "ab" to element 0.
 fn answer(rt: &(impl Abort + AllocGlobal)) -> Answer
-    ensures value { result ≡ record { effect = record { units = 5; at_sync = false; finished = false }; sends = (0, 97 ∷ 98 ∷ []) ∷ [] } }
+    ensures value { result ≡ record { effect = record { units = 5; at_sync = false; finished = false }; bytes = 9; sends = (0, 97 ∷ 98 ∷ []) ∷ [] } }
 {
     let mut sends = Vec::new(rt.alloc());
     sends
@@ -46,7 +47,7 @@ fn answer(rt: &(impl Abort + AllocGlobal)) -> Answer
         at_sync: false,
         finished: false,
     };
-    Answer::new(effect, sends)
+    Answer::new(effect, 9, sends)
 }
 
 fn start<S: Script, H: Openings<Foreign<S>>>(
@@ -107,7 +108,7 @@ fn handles<S: Script, H: Openings<Foreign<S>>>(
     second: Answer,
 )
     requires pes { H.pes ≡ 1 }
-    requires opening { H.opened ≡ record { index = 0; version = 0 } ∷ [] }
+    requires opening { H.opened ≡ new_stamp 0 ∷ [] }
     requires first { (i v : ℕ) → first ≡ S.answers i v }
     requires second { (i v : ℕ) → second ≡ S.answers i v }
 {

@@ -16,14 +16,14 @@ pub(crate) const LETTER: [u8; 24] = [
     0, 0, 0, 0, 2, 0, 0, 0, 9, 0, 0, 1, 0, 0, 0, 0, 1, 0, 0, 0, 3, 97, 98, 99,
 ];
 
-/// Element 5, whose chare packs into 7 and 8. It has handled three entries; it was resumed after round 1, waits for the end of
+/// Element 5, whose chare packs into 7, 8 and 0. It has handled three entries; it was resumed after round 1, waits for the end of
 /// round 2, and has a load of 260. It was resumed after round 0 on PE 1, waited for the end of round 1 there, and a mark says that
 /// it has finished.
-pub(crate) const ELEMENT: [u8; 113] = [
-    1, 0, 0, 0, 5, 0, 0, 0, 2, 7, 8, 0, 0, 0, 0, 0, 0, 0, 3, 0, 0, 0, 1, 1, 1, 0, 0, 0, 0, 0, 0, 0,
-    1, 4, 0, 0, 0, 3, 0, 0, 0, 0, 0, 0, 0, 0, 0, 0, 0, 0, 0, 0, 0, 0, 0, 0, 0, 0, 0, 0, 0, 0, 1, 1,
-    0, 0, 0, 5, 0, 0, 0, 1, 0, 0, 0, 0, 0, 0, 1, 4, 0, 0, 0, 2, 0, 0, 0, 1, 2, 0, 0, 0, 5, 0, 0, 0,
-    0, 0, 0, 0, 0, 0, 0, 0, 0, 0, 0, 0, 0, 0, 0, 0, 0,
+pub(crate) const ELEMENT: [u8; 117] = [
+    1, 0, 0, 0, 5, 0, 0, 0, 3, 0, 0, 0, 2, 7, 8, 0, 0, 0, 0, 0, 0, 0, 3, 0, 0, 0, 1, 1, 1, 0, 0, 0,
+    0, 0, 0, 0, 1, 4, 0, 0, 0, 3, 0, 0, 0, 0, 0, 0, 0, 0, 0, 0, 0, 0, 0, 0, 0, 0, 0, 0, 0, 0, 0, 0,
+    0, 0, 1, 1, 0, 0, 0, 5, 0, 0, 0, 1, 0, 0, 0, 0, 0, 0, 1, 4, 0, 0, 0, 2, 0, 0, 0, 1, 2, 0, 0, 0,
+    5, 0, 0, 0, 0, 0, 0, 0, 0, 0, 0, 0, 0, 0, 0, 0, 0, 0, 0, 0, 0,
 ];
 
 type HeldParcel = Carried<Letter, Packed>;
@@ -156,7 +156,7 @@ fn is_the_element(rt: &impl Abort, parcel: &HeldParcel) -> bool {
     let progress = element.progress();
     let flags = (progress.started, progress.synced, progress.finished);
     element.index() == index(rt, 5)
-        && element.bytes() == [7, 8].as_slice()
+        && element.bytes() == [7, 8, 0].as_slice()
         && element.journal().settled() == 3
         && (progress.round, progress.load) == (round(rt, 1), 260)
         && flags == (true, true, false)
@@ -165,7 +165,7 @@ fn is_the_element(rt: &impl Abort, parcel: &HeldParcel) -> bool {
 
 #[test]
 fn the_message_of_an_element(rt: HostRuntime) {
-    let parcel = element_of(&rt, list(&rt, &[7, 8]));
+    let parcel = element_of(&rt, list(&rt, &[7, 8, 0]));
     assert!(rt; has_message(&rt, &parcel, &ELEMENT));
     drop(parcel);
 }

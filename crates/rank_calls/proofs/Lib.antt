@@ -1,0 +1,4 @@
+pub mod Openings
+pub mod Fields
+pub mod Values
+pub mod Spent

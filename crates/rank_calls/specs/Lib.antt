@@ -1,0 +1,4 @@
+pub mod Calls
+pub mod Messages
+pub mod Owning
+pub mod Runs

@@ -1,0 +1,209 @@
+//! The steps of a PE behind a handle: each is tested, and then done.
+
+ghost use Rattle.std.specs.Prelude.{◌≡◌, ◌≤◌, ℕ, List, length, IfOk, IfSome, MatchOption, None, OnOk, OnErr, Some, slice_get};
+ghost use Rattle.pe_state.specs.Pes.{acting, departed, front_address, front_parcel, gave_up, looked, noted, pe_after, received, resumed, wanted};
+ghost use Rattle.rank_calls.specs.Calls.{due, IsRight};
+ghost use Rattle.rank_calls.specs.Messages.{message_of};
+ghost use Rattle.rank_calls.specs.Runs.{IsOfRun, stamp_pack, stamp_unpack, step_in};
+
+use crate::rank::Rank;
+use crate::request::CallError;
+use crate::run::{RunName, Told};
+use chare_index::{Index, Limits, NoGate, Pe, Round};
+use chares::{Carried, History, Letter, PackedElement};
+use foreign_chare::{Answer, Foreign};
+use parcel_wire::{WireParcel, encode};
+use pe_state::{HeldParcel, Parcel};
+use std::alloc::Global;
+
+// A parcel of the run.
+fn into_parcel<R: RunName>(held: HeldParcel) -> Parcel<Foreign<Told<R>>, Told<R>, Global>
+    requires of_run { IsOfRun R.run held }
+    ensures value { result ≡ held }
+{
+    match held {
+        Carried::Letter(letter) => Carried::Letter(letter),
+        Carried::Element(element) => Carried::Element(PackedElement::new(element)),
+    }
+}
+
+impl<R: RunName> Rank<R> {
+    /// Takes this parcel into its hand, where that is empty.
+    pub(crate) fn receive(&mut self, parcel: HeldParcel) -> Result<(), CallError>
+        requires of_run { IsOfRun R.run parcel }
+        ensures done { OnOk result (self.new ≡ received self.old parcel) }
+        ensures refused { OnErr result (self.new ≡ self.old) }
+    {
+        if self.pe.as_end().hand().is_some() {
+            return Err(CallError::NotEnabled);
+        }
+        self.pe.receive(into_parcel(parcel));
+        Ok(())
+    }
+
+    /// Takes it that the element that is wanted is on this PE.
+    pub(crate) fn look(&mut self, address: Pe) -> Result<(), CallError>
+        ensures done { OnOk result (self.new ≡ looked self.old address) }
+        ensures refused { OnErr result (self.new ≡ self.old) }
+    {
+        if address.get() >= self.pe.pes() {
+            return Err(CallError::BadInput);
+        }
+        if self.pe.wants().is_none() {
+            return Err(CallError::NotEnabled);
+        }
+        self.pe.look(address);
+        Ok(())
+    }
+
+    /// Acts on the parcel in its hand, where no handler is due.
+    pub(crate) fn act(&mut self) -> Result<(), CallError>
+        ensures done { OnOk result (self.new ≡ pe_after self.old (acting (step_in R.run) stamp_pack stamp_unpack self.old)) }
+        ensures refused { OnErr result (self.new ≡ self.old) }
+    {
+        if self.due_letter().is_some() {
+            return Err(CallError::NotEnabled);
+        }
+        let arriving = self.arriving();
+        self.act_now()?;
+        if let Some(index) = arriving {
+            self.pe.set_history(index, History::Dropped);
+        }
+        Ok(())
+    }
+
+    // The element in its hand.
+    fn arriving(&self) -> Option<Index> {
+        let hand = self.pe.as_end().hand()?;
+        let Carried::Element(element) = &hand.parcel else {
+            return None;
+        };
+        Some(element.index())
+    }
+
+    // Acts on the parcel in its hand.
+    fn act_now(&mut self) -> Result<(), CallError>
+        ensures done { OnOk result (self.new ≡ pe_after self.old (acting (step_in R.run) stamp_pack stamp_unpack self.old)) }
+        ensures refused { OnErr result (self.new ≡ self.old) }
+    {
+        match self.pe.act(&NoGate) {
+            Ok(Some(_)) => Ok(()),
+            Ok(None) => Err(CallError::NotEnabled),
+            Err(error) => Err(CallError::from(error)),
+        }
+    }
+
+    /// Has the letter in its hand executed, with this answer.
+    pub(crate) fn execute(&mut self, answer: Answer) -> Result<(), CallError>
+        requires right { IfSome (due self.old) (λ d. IsRight R.run self.old answer d.0) }
+        ensures done { OnOk result (self.new ≡ pe_after self.old (acting (step_in R.run) stamp_pack stamp_unpack self.old)) }
+        ensures refused { OnErr result (self.new ≡ self.old) }
+    {
+        let Some(letter) = self.due_letter() else {
+            return Err(CallError::NotEnabled);
+        };
+        let index = letter.to();
+        if self.pe.room().element(index).is_none() {
+            return Err(CallError::NotEnabled);
+        }
+        self.pe.arm(index, answer);
+        self.act_now()
+    }
+
+    /// Resumes an element after this round, or starts it where that is 0, with this answer.
+    pub(crate) fn resume(
+        &mut self,
+        index: Index,
+        round: Round,
+        answer: Answer,
+    ) -> Result<(), CallError>
+        requires right { IsRight R.run self.old answer index }
+        ensures done { OnOk result (self.new ≡ resumed (step_in R.run) stamp_pack self.old index round) }
+        ensures refused { OnErr result (self.new ≡ self.old) }
+    {
+        if round.get() >= Limits::ROUND {
+            return Err(CallError::BadInput);
+        }
+        if !self.pe.may_resume(index, round) {
+            return Err(CallError::NotEnabled);
+        }
+        if self.pe.room().element(index).is_none() {
+            return Err(CallError::NotEnabled);
+        }
+        self.pe.arm(index, answer);
+        match self.pe.resume(&NoGate, index, round) {
+            Ok(()) => Ok(()),
+            Err(error) => Err(CallError::from(error)),
+        }
+    }
+
+    /// Packs an element and puts it into the outbox, addressed to this PE.
+    pub(crate) fn depart(&mut self, index: Index, to: Pe) -> Result<(), CallError>
+        ensures done { OnOk result (self.new ≡ departed stamp_pack self.old index to) }
+        ensures refused { OnErr result (self.new ≡ self.old) }
+    {
+        if to.get() >= self.pe.pes() {
+            return Err(CallError::BadInput);
+        }
+        if !self.pe.may_depart(index) {
+            return Err(CallError::NotEnabled);
+        }
+        match self.pe.depart(index, to) {
+            Ok(()) => Ok(()),
+            Err(error) => Err(CallError::from(error)),
+        }
+    }
+
+    /// Takes it that the board has the note that is owed first.
+    pub(crate) fn note_done(&mut self) -> Result<(), CallError>
+        ensures done { OnOk result (self.new ≡ noted self.old) }
+        ensures refused { OnErr result (self.new ≡ self.old) }
+    {
+        if self.pe.next_note().is_none() {
+            return Err(CallError::NotEnabled);
+        }
+        self.pe.note_done();
+        Ok(())
+    }
+
+    /// The message of the front of its outbox, which has an address.
+    pub(crate) fn front_message(&self, alloc: Global) -> Result<Vec<u8>, CallError>
+        ensures value { IfOk result (λ bytes. IfSome (front_parcel self.now.outbox) (λ p. bytes.items ≡ message_of p)) }
+    {
+        let Some(front) = self.pe.as_end().outbox().front() else {
+            return Err(CallError::NotEnabled);
+        };
+        let parcel = WireParcel::of(alloc, &front.parcel)?;
+        let mut bytes = Vec::new(alloc);
+        encode(&parcel, &mut bytes)?;
+        Ok(bytes)
+    }
+
+    /// Gives up the front of its outbox, and returns where it goes.
+    pub(crate) fn give_up(&mut self) -> Result<Pe, CallError>
+        ensures done { OnOk result (self.new ≡ gave_up self.old) }
+        ensures address { IfOk result (λ to. front_address self.old.outbox ≡ Some to) }
+        ensures refused { OnErr result (self.new ≡ self.old) }
+    {
+        let Some(to) = self.pe.front_out() else {
+            return Err(CallError::NotEnabled);
+        };
+        let _parcel = self.pe.sent();
+        Ok(to)
+    }
+
+    /// The letter in its hand, where the handler of its element is due for it.
+    pub(crate) fn due_letter(&self) -> Option<&Letter>
+        ensures value { MatchOption result (due self.now ≡ None) (λ l. due self.now ≡ Some (l.now.to, l.now.body)) }
+    {
+        let hand = self.pe.as_end().hand()?;
+        let Carried::Letter(letter) = &hand.parcel else {
+            return None;
+        };
+        let element = self.pe.room().element(letter.to())?;
+        if !element.progress().started {
+            return None;
+        }
+        Some(letter)
+    }
+}
