@@ -333,8 +333,8 @@ private:
             pup::bytes bytes;
             pup::pack(*latest_, bytes);
             for (std::uint32_t to = 1; to < ranks_; to++) post(to, round_decided, pup::bytes(bytes));
-            if (how_.on_round) how_.on_round(board_->report());
             rounds_.push_back(board_->report());
+            tezgumi::detail::tell(how_.on_round, rounds_.back());
         }
         if (board_->all_finished()) end();
     }
@@ -386,7 +386,7 @@ private:
     std::vector<std::uint64_t> sent_, received_, expected_;
     std::vector<std::uint32_t> outstanding_, unused_;
     std::uint64_t counted_sent_ = 0, counted_received_ = 0; // but questions and answers
-    std::deque<std::pair<std::uint32_t, pup::bytes>> inbox_;
+    std::list<std::pair<std::uint32_t, pup::bytes>> inbox_; // takes no memory before all ranks have agreed that they have theirs
     std::list<sending> sendings_;
     std::shared_ptr<const decision> latest_;
     told_fault own_, end_;
@@ -400,6 +400,18 @@ private:
     std::unique_ptr<quiet_question> question_;
     std::vector<round_report> rounds_;
 };
+
+// Waits for the end of all, on a rank that cannot run its PE.
+inline void wait_for_end(rank_link &link)
+{
+    while (!link.ended()) {
+        try {
+            link.poll();
+        } catch (const std::exception &) {
+            std::this_thread::sleep_for(std::chrono::milliseconds(1));
+        }
+    }
+}
 
 } // namespace detail
 
@@ -478,7 +490,7 @@ template <class C, class Make> outcome<C> run(MPI_Comm comm, const settings &how
             met.kind = fault_kind::memory;
             met.pe = link.me();
             link.fail(met);
-            while (!link.ended()) link.poll();
+            detail::wait_for_end(link);
         }
         if (one) one->run(make);
         link.drain();

@@ -122,7 +122,7 @@ public:
         decision next = present_;
         next.round = present_.round + 1;
         next.result = contribution();
-        for (const contribution &one : given_) next.result.join(one);
+        join(next.result);
         report_ = round_report();
         report_.round = next.round;
         report_.balanced = how_.every != 0 && next.round % how_.every == 0 && next.round < last_balanced_round;
@@ -138,6 +138,17 @@ public:
     const round_report &report() const { return report_; }
 
 private:
+    // Folds what the elements contributed, in the order of the indices.
+    void join(contribution &result) const
+    {
+        for (std::uint32_t i = 0; i < n_; i++) {
+            try {
+                result.join(given_[i]);
+            } catch (const std::invalid_argument &met) {
+                throw run_fault(fault_kind::input, met.what(), i);
+            }
+        }
+    }
     void weigh()
     {
         std::vector<std::uint64_t> on(pes_, 0);

@@ -55,8 +55,8 @@ public:
         if (board_.is_complete()) {
             latest_ = std::make_shared<const decision>(board_.decide());
             decided_ = latest_->round;
-            if (how_.on_round) how_.on_round(board_.report());
             rounds_.push_back(board_.report());
+            tell(how_.on_round, rounds_.back());
         }
         if (board_.all_finished()) ended_ = true;
     }

@@ -231,6 +231,17 @@ public:
     std::uint32_t element;
 };
 
+// Tells a function of the program. What that throws is a fault of the run.
+template <class T> void tell(const std::function<void(T)> &of, const typename std::decay<T>::type &what)
+{
+    if (!of) return;
+    try {
+        of(what);
+    } catch (const std::exception &met) {
+        throw run_fault(fault_kind::handler, met.what());
+    }
+}
+
 // What a PE owes the board: that an element waits for the end of a round, or has finished.
 struct note {
     bool finished = false;

@@ -41,7 +41,7 @@ public:
         }
         while (!link_.ended()) {
             try {
-                if (how_.on_turn) how_.on_turn(me_);
+                tell(how_.on_turn, me_);
                 if (has_failed_) {
                     link_.poll();
                     rest(false);
@@ -67,6 +67,7 @@ public:
         for (arrival &one : later_) leave_batch(one.parcels);
         if (has_inbox_) leave_batch(inbox_.parcels);
         leave_batch(own_);
+        for (batch &one : own_ready_) leave_batch(one);
         leave_batch(own_next_);
         for (batch &one : pending_) leave_batch(one);
         for (std::deque<batch> &all : ready_) {
@@ -131,7 +132,7 @@ private:
             wake();
             return;
         }
-        if (gate != 0) ungate();
+        if (gate == 2) ungate();
         rest(backlog_ == 0 && due_.empty() && later_.empty() && !has_hand_);
     }
 
@@ -139,19 +140,19 @@ private:
     // that is not enough, and it runs none.
     int gate_now() const
     {
-        if (grace_ > 0 || backlog_ <= how_.backlog) return 0;
-        return backlog_ <= 2 * how_.backlog ? 1 : 2;
+        if (backlog_ <= how_.backlog) return 0;
+        return backlog_ <= 2 * how_.backlog || grace_ > 0 ? 1 : 2;
     }
-    // PEs that hold back each other would wait for ever. So after a while without anything to do a PE that is held back runs some
-    // handlers, and each time more of them.
+    // PEs that hold back each other would wait for ever. So after a while a PE that runs no handler, and for which letters of others
+    // wait, runs some of these. One for which none wait holds back nobody.
     void ungate()
     {
+        if (!has_inbox_) has_inbox_ = next_inbox();
+        if (!has_inbox_) return;
         const auto now = std::chrono::steady_clock::now();
-        if (stalls_ == 0 || now - stalled_since_ > std::chrono::milliseconds(1)) {
-            if (stalls_ != 0) grace_ = 1 << std::min(stalls_, 12);
-            stalls_++;
-            stalled_since_ = now;
-        }
+        if (is_stalled_ && now - stalled_since_ > std::chrono::milliseconds(1)) grace_ = steps_a_turn;
+        if (!is_stalled_) stalled_since_ = now;
+        is_stalled_ = grace_ == 0;
     }
 
     // One parcel further. Whether anything was done.
@@ -175,7 +176,12 @@ private:
     {
         if (!own_.has_next()) {
             own_.clear();
-            std::swap(own_, own_next_);
+            if (own_ready_.empty()) {
+                std::swap(own_, own_next_);
+            } else {
+                own_ = std::move(own_ready_.front());
+                own_ready_.pop_front();
+            }
         }
         return fetch_from(own_);
     }
@@ -292,7 +298,12 @@ private:
             onto.add(message, len, nullptr, 0);
             gone_++;
         }
-        if (to == me_) return;
+        if (to == me_) {
+            if (onto.size() < how_.batch) return;
+            own_ready_.push_back(std::move(onto));
+            onto.clear();
+            return;
+        }
         if (backlog_ == 0) oldest_ = now_;
         backlog_ += onto.size() - before;
         if (onto.size() < how_.batch) return;
@@ -317,7 +328,7 @@ private:
                 link_.send(to, front.take());
                 ready_[to].pop_front();
                 backlog_ -= size;
-                stalls_ = 0;
+                is_stalled_ = false;
                 did = true;
             }
         }
@@ -604,6 +615,7 @@ private:
     std::map<std::uint32_t, slot> room_;
     // Parcels: those of this PE to itself, the batch that is being used up, those that came too early, and those that leave.
     batch own_, own_next_;
+    std::deque<batch> own_ready_;
     arrival inbox_;
     bool has_inbox_ = false, others_first_ = false;
     std::vector<arrival> later_;
@@ -611,7 +623,8 @@ private:
     std::vector<std::deque<batch>> ready_;
     std::size_t backlog_ = 0;
     std::chrono::steady_clock::time_point oldest_{}, now_{}, stalled_since_{};
-    int stalls_ = 0, grace_ = 0;
+    bool is_stalled_ = false;
+    int grace_ = 0;
     // What goes beside parcels: the objects of elements that leave, and long bodies.
     std::map<std::uint32_t, pup::bytes> leaving_;
     besides besides_;
