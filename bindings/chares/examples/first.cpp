@@ -35,6 +35,7 @@ int main()
 {
     tezgumi::settings how;
     how.pes = 4;
+    how.clock = tezgumi::clock_kind::none; // handlers name their work
     how.on_round = [](const tezgumi::round_report &of) {
         std::printf("round %d: greatest load %d, then %d\n", int(of.round), int(of.greatest), int(of.bottleneck));
     };
