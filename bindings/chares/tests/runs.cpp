@@ -40,7 +40,7 @@ struct link : tezgumi::chare {
     void pup(pup::er &p) { p(seen, why); }
     void resume(tezgumi::round r, tezgumi::array<link> &all)
     {
-        if (r == 0 && all.me() == 0) all[1 % all.size()].send(token{1000});
+        if (r == 0 && all.me() == 0) all[1 % all.size()].send(token{300});
     }
     void receive(const token &one, tezgumi::array<link> &all)
     {
@@ -63,13 +63,13 @@ void rings()
     for (std::uint32_t n : {1u, 2u, 7u, 40u}) {
         const auto end = launch::run<link>(usual(), n, [](std::uint32_t) { return link(); });
         const auto seen = end.collect([](const link &one) { return std::make_pair(one.seen, one.why); });
-        bool good = end.is_good() && end.letters.posted == 1000 + n && end.letters.executed == 1000 + n && end.letters.held == 0;
+        bool good = end.is_good() && end.letters.posted == 300 + n && end.letters.executed == 300 + n && end.letters.held == 0;
         if (tests::prints()) {
             good = good && seen.size() == n;
             std::uint32_t all = 0;
             for (const auto &one : seen) all += one.first;
             for (const auto &one : seen) good = good && one.second == "done";
-            good = good && all == 1000;
+            good = good && all == 300;
         }
         expect(at("a ring of " + std::to_string(n)), good);
     }
