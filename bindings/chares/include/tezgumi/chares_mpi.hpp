@@ -40,7 +40,7 @@ enum tag : int { parcels = 1, used = 2, notes = 3, round_decided = 4, failed = 5
 
 // A fault as bytes of a size that is known before, so that telling of it takes no memory.
 struct told_fault {
-    std::uint32_t kind = 0, pe = 0, element = 0;
+    std::uint32_t kind = 0, pe = 0, element = fault::no_element;
     char what[500] = {0};
 
     static told_fault of(const fault &met)
@@ -375,7 +375,6 @@ private:
     {
         if (!question_->answer(number, sent, received) || ended_) return;
         end_.kind = static_cast<std::uint32_t>(fault_kind::quiet);
-        end_.element = fault::no_element;
         end();
     }
 

@@ -42,6 +42,8 @@ template <class T> struct place_of<T, messages<>> {
 constexpr std::uint8_t beside_bit = 0x80;
 constexpr std::size_t ticket_bytes = 13, longest_body = TEZGUMI_PE_BODY_BYTES;
 constexpr std::size_t longest_beside = std::size_t(1) << 30;
+// So many letters an answer has at most.
+constexpr std::uint64_t most_letters = std::uint64_t(1) << 20;
 using beside = std::shared_ptr<const pup::bytes>;
 
 // The number of a ticket, by which its body is kept.
@@ -108,6 +110,7 @@ public:
     void post(std::uint32_t to)
     {
         if (to >= n) throw stranger("there is no element " + std::to_string(to) + " in an array of " + std::to_string(n));
+        if (letters == most_letters) throw run_fault(fault_kind::toolong, "a handler sends more than 2^20 letters");
         if (shared) {
             const ticket made{pe, next_ticket};
             pup::detail::write_word<std::uint64_t>(&body[5], next_ticket++);
