@@ -445,10 +445,10 @@ private:
     void resume(std::uint32_t index, slot &at)
     {
         out_.result = round_ == 0 ? &nothing_ : &result_;
-        handle(index, at, [&](C &object) { call_resume(object, round_, all_); });
-        pe_->resume(index, round_, out_.answer);
         at.waits = false;
         at.round = round_;
+        handle(index, at, [&](C &object) { call_resume(object, round_, all_); });
+        pe_->resume(index, round_, out_.answer);
         handled(index, at);
         out_.result = &nothing_;
     }
