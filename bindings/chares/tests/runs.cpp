@@ -162,6 +162,40 @@ void rounds()
     }
 }
 
+// ---- What moves is weighed: elements that are at sync as they are resumed, of different sizes ----
+
+struct weight : tezgumi::chare {
+    using messages = tezgumi::messages<int>;
+    static constexpr std::uint32_t rounds = 6;
+    std::array<std::uint32_t, rounds + 1> places{};
+    std::vector<std::uint8_t> ballast;
+    void pup(pup::er &p) { p(places, ballast); }
+    void resume(tezgumi::round r, tezgumi::array<weight> &all)
+    {
+        places[r] = all.pe();
+        ballast.resize(10 * all.me());
+        work((all.me() + 4 * r) % all.size() < 4 ? 100 : 3);
+        if (r == rounds) return finish();
+        at_sync();
+    }
+    void receive(int) {}
+};
+
+void weights()
+{
+    const auto end = launch::run<weight>(usual(), 20, [](std::uint32_t) { return weight(); });
+    bool good = end.is_good();
+    const auto places = end.collect([](const weight &one) { return one.places; });
+    for (std::uint32_t r = 0; tests::prints() && r < weight::rounds; r++) {
+        std::uint64_t moved = 0;
+        for (std::uint32_t i = 0; i < 20; i++) {
+            if (places[i][r] != places[i][r + 1]) moved += 4 * (weight::rounds + 1) + 4 + 10 * i;
+        }
+        good = good && end.rounds.at(r).moved == moved;
+    }
+    expect(at("the bytes that move"), good);
+}
+
 // ---- Contributions of doubles: the same bits on any number of PEs ----
 
 struct giver : tezgumi::chare {
@@ -451,6 +485,7 @@ void all()
 {
     rings();
     rounds();
+    weights();
     contributions();
     long_bodies();
     exceptions();
