@@ -12,7 +12,7 @@ use Rattle.rank_calls.specs.declared.request.Request.TheVariants.{Open, Close, R
 use Rattle.rank_capi.specs.Steps.{IsStep}
 
 not_sent : (request : Request) (n : ℕ) → IsStep request → IsRoomy request n → ⊥
-not_sent (Open me pes n) n step roomy = roomy
+not_sent (Open me pes elements) n step roomy = roomy
 not_sent Close n step roomy = roomy
 not_sent (Receive parcel) n step roomy = roomy
 not_sent (Look address) n step roomy = roomy
@@ -28,7 +28,7 @@ not_sent Front n step roomy = roomy
 not_sent NextNote n step roomy = roomy
 
 shown : (was : Bool) (before : PeView Stamp) (is : Bool) (after : PeView Stamp) → IsShown was before is after → IsSame was before is after
-shown was before is after s = (s.1.0 ∙ sym s.0, λ _. s.1.1)
+shown was before is after s = (s.1 ∙ sym s.0, λ _. s.2)
 
 pub kept : (run : Run) (was : Bool) (before : PeView Stamp) (request : Request) (reply : Reply) (is : Bool) (after : PeView Stamp)
     → IsServed run was before request reply is after → IsStep request → (reply ≡ Done → ⊥) → IsSame was before is after
