@@ -1,18 +1,20 @@
 -- What a PE is asked, what the program promises of the run, and what the PE is then.
-use Rattle.std.specs.Prelude.{◌≡◌, ℕ, ◌<◌, ◌≤◌, List, length, Bool, true, false, Option, Some, None, IfSome, IsSomeAnd, MatchOption, slice_get, if◌then◌else◌}
-use Rattle.std.specs.Option.{option_and_then}
+use Rattle.std.specs.Prelude.{◌≡◌, ℕ, ◌<◌, ◌≤◌, List, length, Bool, true, false, Option, Some, None, IfSome, IsSome, IsSomeAnd, ◌⊎◌, slice_get, if◌then◌else◌}
+use Rattle.std.specs.Option.{option_and_then, option_map}
+use Rattle.chare_index.specs.declared.limits.TheConstants.Limits.{ELEMENTS, PES, ROUND}
+use Rattle.chares.specs.declared.note.Note.{Note}
 use Rattle.chares.specs.declared.carried.Carried.TheVariants as Carried
 use Rattle.foreign_chare.specs.Scripts.{Answered, Stamp}
 use Rattle.pe_state.specs.declared.error.StepError.{StepError}
 use Rattle.pe_state.specs.declared.error.StepError.TheVariants as Step
-use Rattle.pe_state.specs.Pes.{PeView, Parcel, acting, departed, front_address, front_parcel, gave_up, has_started, looked, noted, pe_after, received, resumed, wanted}
+use Rattle.pe_state.specs.Pes.{PeView, Parcel, acting, departed, front_address, front_parcel, gave_up, has_started, looked, may_depart, may_resume, noted, pe_after, received, resumed, wanted}
 use Rattle.pe_state.specs.Rooms.{found}
 use Rattle.pup_pack.specs.declared.error.PupError.{PupError}
 use Rattle.pup_pack.specs.declared.error.PupError.TheVariants as Pup
 use Rattle.rank_calls.specs.Messages.{message_of}
 use Rattle.rank_calls.specs.Runs.{Run, IsOfRun, answers_in, opened, stamp_pack, stamp_unpack, step_in}
 use Rattle.rank_calls.specs.declared.request.CallError.{CallError}
-use Rattle.rank_calls.specs.declared.request.CallError.TheVariants.{OutOfMemory, Stranger, TooLong, Worn, BadPack}
+use Rattle.rank_calls.specs.declared.request.CallError.TheVariants.{IsClosed, IsOpen, BadInput, NotEnabled, OutOfMemory, Stranger, TooLong, Worn, BadPack}
 use Rattle.rank_calls.specs.declared.request.Reply.{Reply}
 use Rattle.rank_calls.specs.declared.request.Reply.TheVariants.{Done, Refused, Long, Sent, IsDue, IsWanted, IsFront, IsOwed}
 use Rattle.rank_calls.specs.declared.request.Request.{Request}
@@ -78,11 +80,66 @@ after_call run pe Wanted = pe
 after_call run pe Front = pe
 after_call run pe NextNote = pe
 
+-- the step that is asked for is enabled
+abbrev pub IsReady : Run → PeView Stamp → Request → Type 0
+IsReady run pe (Receive parcel) = pe.hand ≡ None
+IsReady run pe (Look address) = IsSome (wanted pe)
+IsReady run pe Act = (due pe ≡ None) × IsSome (acting (step_in run) stamp_pack stamp_unpack pe)
+IsReady run pe (Execute answer) = IsSome (due pe)
+IsReady run pe (Resume e round answer) = may_resume pe e round ≡ true
+IsReady run pe (Depart e to) = may_depart pe e ≡ true
+IsReady run pe NoteDone = IsSome (slice_get pe.notes 0)
+IsReady run pe request = ⊥
+
+-- it is not
+abbrev pub IsIdle : Run → PeView Stamp → Request → Type 0
+IsIdle run pe (Receive parcel) = IsSome pe.hand
+IsIdle run pe (Look address) = wanted pe ≡ None
+IsIdle run pe Act = IsSome (due pe) ⊎ (acting (step_in run) stamp_pack stamp_unpack pe ≡ None)
+IsIdle run pe (Execute answer) = due pe ≡ None
+IsIdle run pe (Resume e round answer) = may_resume pe e round ≡ false
+IsIdle run pe (Depart e to) = may_depart pe e ≡ false
+IsIdle run pe (Send room) = front_address pe.outbox ≡ None
+IsIdle run pe NoteDone = slice_get pe.notes 0 ≡ None
+IsIdle run pe request = ⊥
+
+-- a number that is handed in is past a limit, or that of no PE
+abbrev pub IsBad : Run → Request → Type 0
+IsBad run (Open me pes n) = (PES < pes) ⊎ ((pes ≤ me) ⊎ (ELEMENTS < n))
+IsBad run (Look address) = run.pes ≤ address
+IsBad run (Resume e round answer) = ROUND ≤ round
+IsBad run (Depart e to) = run.pes ≤ to
+IsBad run request = ⊥
+
+-- what a step would post or send may be refused for what it is
+abbrev pub MaySend : Request → Type 0
+MaySend Act = Unit {0}
+MaySend (Execute answer) = Unit {0}
+MaySend (Resume e round answer) = Unit {0}
+MaySend (Send room) = Unit {0}
+MaySend request = ⊥
+
+abbrev pub IsOpening : Request → Type 0
+IsOpening (Open me pes n) = Unit {0}
+IsOpening request = ⊥
+
+-- why nothing is done
+abbrev pub IsReason : Run → Bool → PeView Stamp → Request → CallError → Type 0
+IsReason run was pe request IsOpen = (was ≡ true) × IsOpening request
+IsReason run was pe request IsClosed = was ≡ false
+IsReason run was pe request BadInput = IsBad run request
+IsReason run was pe request NotEnabled = (was ≡ true) × IsIdle run pe request
+IsReason run was pe request OutOfMemory = Unit {0}
+IsReason run was pe request Stranger = MaySend request
+IsReason run was pe request TooLong = MaySend request
+IsReason run was pe request Worn = MaySend request
+IsReason run was pe request BadPack = MaySend request
+
 -- it opens, or closes, or has done what it was asked, as an open one
 abbrev pub IsDone : Run → Bool → PeView Stamp → Request → Bool → PeView Stamp → Type 0
 IsDone run was before (Open me pes n) is after = (was ≡ false) × (is ≡ true) × (after ≡ opened pes n me)
 IsDone run was before Close is after = (was ≡ true) × (is ≡ false)
-IsDone run was before request is after = (was ≡ true) × (is ≡ true) × (after ≡ after_call run before request)
+IsDone run was before request is after = (was ≡ true) × (is ≡ true) × IsReady run before request × (after ≡ after_call run before request)
 
 -- nothing is changed; so of an open one, which shows something
 abbrev pub IsSame : Bool → PeView Stamp → Bool → PeView Stamp → Type 0
@@ -91,19 +148,30 @@ IsSame was before is after = (is ≡ was) × (was ≡ true → after ≡ before)
 abbrev pub IsShown : Bool → PeView Stamp → Bool → PeView Stamp → Type 0
 IsShown was before is after = (was ≡ true) × (is ≡ true) × (after ≡ before)
 
--- the front of the outbox is given up: where it goes, and its message
-abbrev pub IsSent : Bool → PeView Stamp → ℕ → List ℕ → Bool → PeView Stamp → Type 0
-IsSent was before to bytes is after =
-    (was ≡ true) × (is ≡ true) × (front_address before.outbox ≡ Some to) × IfSome (front_parcel before.outbox) (λ p. bytes ≡ message_of p) × (after ≡ gave_up before)
+-- the front of the outbox is given up: where it goes, and its message, which is no longer than what was asked for
+abbrev pub IsSent : Bool → PeView Stamp → Request → ℕ → List ℕ → Bool → PeView Stamp → Type 0
+IsSent was before (Send room) to bytes is after =
+    (was ≡ true) × (is ≡ true) × (front_address before.outbox ≡ Some to) × IfSome (front_parcel before.outbox) (λ p. bytes ≡ message_of p)
+    × (length bytes ≤ room) × (after ≡ gave_up before)
+IsSent was before request to bytes is after = ⊥
 
--- the message is what was asked for, and no longer than that
-abbrev pub IsRoomy : Request → ℕ → Type 0
-IsRoomy (Send room) n = n ≤ room
-IsRoomy request n = ⊥
+-- whether a handler is due, with a body that is no longer than what was asked for
+abbrev pub IsDueNow : PeView Stamp → Request → Option (ℕ × List ℕ) → Type 0
+IsDueNow pe (Due room) letter = (due pe ≡ letter) × IfSome letter (λ d. length d.1 ≤ room)
+IsDueNow pe request letter = ⊥
 
-abbrev pub IsRoomyFor : Request → ℕ → Type 0
-IsRoomyFor (Due room) n = n ≤ room
-IsRoomyFor request n = ⊥
+-- what else it shows
+abbrev pub IsWantedNow : PeView Stamp → Request → Option ℕ → Type 0
+IsWantedNow pe Wanted index = index ≡ wanted pe
+IsWantedNow pe request index = ⊥
+
+abbrev pub IsFrontNow : PeView Stamp → Request → Option ℕ → Type 0
+IsFrontNow pe Front to = to ≡ front_address pe.outbox
+IsFrontNow pe request to = ⊥
+
+abbrev pub IsOwedNow : PeView Stamp → Request → Option Note → Type 0
+IsOwedNow pe NextNote note = note ≡ slice_get pe.notes 0
+IsOwedNow pe request note = ⊥
 
 -- the body, or the message, is so long, and longer than what was asked for
 abbrev pub IsLong : PeView Stamp → Request → ℕ → Type 0
@@ -114,12 +182,10 @@ IsLong pe request len = ⊥
 -- What is answered is so, and the PE is as its definitions say, or as it was. An error changes nothing.
 abbrev pub IsServed : Run → Bool → PeView Stamp → Request → Reply → Bool → PeView Stamp → Type 0
 IsServed run was before request Done is after = IsDone run was before request is after
-IsServed run was before request (Refused error) is after = IsSame was before is after
-IsServed run was before request (Long len) is after = IsSame was before is after × IsLong before request len
-IsServed run was before request (Sent to bytes) is after = IsSent was before to bytes.items is after × IsRoomy request (length bytes.items)
-IsServed run was before request (IsDue letter) is after =
-    IsShown was before is after
-    × MatchOption letter (due before ≡ None) (λ d. (due before ≡ Some (d.0, d.1.items)) × IsRoomyFor request (length d.1.items))
-IsServed run was before request (IsWanted index) is after = IsShown was before is after × (index ≡ wanted before)
-IsServed run was before request (IsFront to) is after = IsShown was before is after × (to ≡ front_address before.outbox)
-IsServed run was before request (IsOwed note) is after = IsShown was before is after × (note ≡ slice_get before.notes 0)
+IsServed run was before request (Refused error) is after = IsSame was before is after × IsReason run was before request error
+IsServed run was before request (Long len) is after = IsShown was before is after × IsLong before request len
+IsServed run was before request (Sent to bytes) is after = IsSent was before request to bytes.items is after
+IsServed run was before request (IsDue letter) is after = IsShown was before is after × IsDueNow before request (option_map (λ d. (d.0, d.1.items)) letter)
+IsServed run was before request (IsWanted index) is after = IsShown was before is after × IsWantedNow before request index
+IsServed run was before request (IsFront to) is after = IsShown was before is after × IsFrontNow before request to
+IsServed run was before request (IsOwed note) is after = IsShown was before is after × IsOwedNow before request note

@@ -1,19 +1,20 @@
 //! The steps of a PE behind a handle: each is tested, and then done.
 
-ghost use Rattle.std.specs.Prelude.{◌≡◌, ◌≤◌, ℕ, List, length, IfOk, IfSome, MatchOption, None, OnOk, OnErr, Some, slice_get};
+ghost use Rattle.std.specs.Prelude.{◌≡◌, ℕ, true, IfErr, IfOk, IfSome, IsSomeAnd, MatchOption, None, OnOk, OnErr, Some};
+ghost use Rattle.pe_state.specs.Acts.{Acts};
 ghost use Rattle.pe_state.specs.Pes.{acting, departed, front_address, front_parcel, gave_up, looked, noted, pe_after, received, resumed, wanted};
-ghost use Rattle.rank_calls.specs.Calls.{due, IsRight};
+ghost use Rattle.rank_calls.specs.Calls.{due, IsReady, IsReason, IsRight};
 ghost use Rattle.rank_calls.specs.Messages.{message_of};
 ghost use Rattle.rank_calls.specs.Runs.{IsOfRun, stamp_pack, stamp_unpack, step_in};
 
 use crate::rank::Rank;
-use crate::request::CallError;
+use crate::request::{CallError, Request};
 use crate::run::{RunName, Told};
 use chare_index::{Index, Limits, NoGate, Pe, Round};
 use chares::{Carried, History, Letter, PackedElement};
 use foreign_chare::{Answer, Foreign};
 use parcel_wire::{WireParcel, encode};
-use pe_state::{HeldParcel, Parcel};
+use pe_state::{Acted, HeldParcel, Parcel, StepError};
 use std::alloc::Global;
 
 // A parcel of the run.
@@ -31,8 +32,10 @@ impl<R: RunName> Rank<R> {
     /// Takes this parcel into its hand, where that is empty.
     pub(crate) fn receive(&mut self, parcel: HeldParcel) -> Result<(), CallError>
         requires of_run { IsOfRun R.run parcel }
+        ensures ready { OnOk result (IsReady R.run self.old (Request.Receive parcel)) }
         ensures done { OnOk result (self.new ≡ received self.old parcel) }
         ensures refused { OnErr result (self.new ≡ self.old) }
+        ensures reason { IfErr result (IsReason R.run true self.old (Request.Receive parcel)) }
     {
         if self.pe.as_end().hand().is_some() {
             return Err(CallError::NotEnabled);
@@ -43,8 +46,10 @@ impl<R: RunName> Rank<R> {
 
     /// Takes it that the element that is wanted is on this PE.
     pub(crate) fn look(&mut self, address: Pe) -> Result<(), CallError>
+        ensures ready { OnOk result (IsReady R.run self.old (Request.Look address)) }
         ensures done { OnOk result (self.new ≡ looked self.old address) }
         ensures refused { OnErr result (self.new ≡ self.old) }
+        ensures reason { IfErr result (IsReason R.run true self.old (Request.Look address)) }
     {
         if address.get() >= self.pe.pes() {
             return Err(CallError::BadInput);
@@ -57,19 +62,34 @@ impl<R: RunName> Rank<R> {
     }
 
     /// Acts on the parcel in its hand, where no handler is due.
+    #[tactic(auto, using(crate::proofs::Reasons::act_reason))]
     pub(crate) fn act(&mut self) -> Result<(), CallError>
+        ensures ready { OnOk result (IsReady R.run self.old Request.Act) }
         ensures done { OnOk result (self.new ≡ pe_after self.old (acting (step_in R.run) stamp_pack stamp_unpack self.old)) }
         ensures refused { OnErr result (self.new ≡ self.old) }
+        ensures reason { IfErr result (IsReason R.run true self.old Request.Act) }
     {
         if self.due_letter().is_some() {
             return Err(CallError::NotEnabled);
         }
         let arriving = self.arriving();
-        self.act_now()?;
-        if let Some(index) = arriving {
+        match self.act_now() {
+            Ok(Some(_)) => {
+                self.drop_history(arriving);
+                Ok(())
+            }
+            Ok(None) => Err(CallError::NotEnabled),
+            Err(error) => Err(CallError::from(error)),
+        }
+    }
+
+    // Keeps no more of what this element handles, where it stands here.
+    fn drop_history(&mut self, index: Option<Index>)
+        ensures same { self.new ≡ self.old }
+    {
+        if let Some(index) = index {
             self.pe.set_history(index, History::Dropped);
         }
-        Ok(())
     }
 
     // The element in its hand.
@@ -82,35 +102,38 @@ impl<R: RunName> Rank<R> {
     }
 
     // Acts on the parcel in its hand.
-    fn act_now(&mut self) -> Result<(), CallError>
-        ensures done { OnOk result (self.new ≡ pe_after self.old (acting (step_in R.run) stamp_pack stamp_unpack self.old)) }
-        ensures refused { OnErr result (self.new ≡ self.old) }
+    fn act_now(&mut self) -> Result<Option<Acted>, StepError>
+        ensures acts { Acts result (acting (step_in R.run) stamp_pack stamp_unpack self.old) self.old self.new }
     {
-        match self.pe.act(&NoGate) {
-            Ok(Some(_)) => Ok(()),
-            Ok(None) => Err(CallError::NotEnabled),
-            Err(error) => Err(CallError::from(error)),
-        }
+        self.pe.act(&NoGate)
     }
 
     /// Has the letter in its hand executed, with this answer.
+    #[tactic(auto, using(crate::proofs::Reasons::execute_reason))]
     pub(crate) fn execute(&mut self, answer: Answer) -> Result<(), CallError>
         requires right { IfSome (due self.old) (λ d. IsRight R.run self.old answer d.0) }
+        ensures ready { OnOk result (IsReady R.run self.old (Request.Execute answer)) }
         ensures done { OnOk result (self.new ≡ pe_after self.old (acting (step_in R.run) stamp_pack stamp_unpack self.old)) }
         ensures refused { OnErr result (self.new ≡ self.old) }
+        ensures reason { IfErr result (IsReason R.run true self.old (Request.Execute answer)) }
     {
         let Some(letter) = self.due_letter() else {
             return Err(CallError::NotEnabled);
         };
         let index = letter.to();
         if self.pe.room().element(index).is_none() {
-            return Err(CallError::NotEnabled);
+            unreachable!()
         }
         self.pe.arm(index, answer);
-        self.act_now()
+        match self.act_now() {
+            Ok(Some(_)) => Ok(()),
+            Ok(None) => unreachable!(),
+            Err(error) => Err(CallError::from(error)),
+        }
     }
 
     /// Resumes an element after this round, or starts it where that is 0, with this answer.
+    #[tactic(auto, using(crate::proofs::Reasons::resume_reason))]
     pub(crate) fn resume(
         &mut self,
         index: Index,
@@ -118,8 +141,10 @@ impl<R: RunName> Rank<R> {
         answer: Answer,
     ) -> Result<(), CallError>
         requires right { IsRight R.run self.old answer index }
+        ensures ready { OnOk result (IsReady R.run self.old (Request.Resume index round answer)) }
         ensures done { OnOk result (self.new ≡ resumed (step_in R.run) stamp_pack self.old index round) }
         ensures refused { OnErr result (self.new ≡ self.old) }
+        ensures reason { IfErr result (IsReason R.run true self.old (Request.Resume index round answer)) }
     {
         if round.get() >= Limits::ROUND {
             return Err(CallError::BadInput);
@@ -128,7 +153,7 @@ impl<R: RunName> Rank<R> {
             return Err(CallError::NotEnabled);
         }
         if self.pe.room().element(index).is_none() {
-            return Err(CallError::NotEnabled);
+            unreachable!()
         }
         self.pe.arm(index, answer);
         match self.pe.resume(&NoGate, index, round) {
@@ -139,8 +164,10 @@ impl<R: RunName> Rank<R> {
 
     /// Packs an element and puts it into the outbox, addressed to this PE.
     pub(crate) fn depart(&mut self, index: Index, to: Pe) -> Result<(), CallError>
+        ensures ready { OnOk result (IsReady R.run self.old (Request.Depart index to)) }
         ensures done { OnOk result (self.new ≡ departed stamp_pack self.old index to) }
         ensures refused { OnErr result (self.new ≡ self.old) }
+        ensures reason { IfErr result (IsReason R.run true self.old (Request.Depart index to)) }
     {
         if to.get() >= self.pe.pes() {
             return Err(CallError::BadInput);
@@ -156,8 +183,10 @@ impl<R: RunName> Rank<R> {
 
     /// Takes it that the board has the note that is owed first.
     pub(crate) fn note_done(&mut self) -> Result<(), CallError>
+        ensures ready { OnOk result (IsReady R.run self.old Request.NoteDone) }
         ensures done { OnOk result (self.new ≡ noted self.old) }
         ensures refused { OnErr result (self.new ≡ self.old) }
+        ensures reason { IfErr result (IsReason R.run true self.old Request.NoteDone) }
     {
         if self.pe.next_note().is_none() {
             return Err(CallError::NotEnabled);
@@ -167,8 +196,10 @@ impl<R: RunName> Rank<R> {
     }
 
     /// The message of the front of its outbox, which has an address.
+    #[tactic(auto, using(crate::proofs::Reasons::send_reason))]
     pub(crate) fn front_message(&self, alloc: Global) -> Result<Vec<u8>, CallError>
-        ensures value { IfOk result (λ bytes. IfSome (front_parcel self.now.outbox) (λ p. bytes.items ≡ message_of p)) }
+        ensures value { IfOk result (λ bytes. IsSomeAnd (front_parcel self.now.outbox) (λ p. bytes.items ≡ message_of p)) }
+        ensures reason { IfErr result (λ e. (room : ℕ) → IsReason R.run true self.now (Request.Send room) e) }
     {
         let Some(front) = self.pe.as_end().outbox().front() else {
             return Err(CallError::NotEnabled);
@@ -184,6 +215,7 @@ impl<R: RunName> Rank<R> {
         ensures done { OnOk result (self.new ≡ gave_up self.old) }
         ensures address { IfOk result (λ to. front_address self.old.outbox ≡ Some to) }
         ensures refused { OnErr result (self.new ≡ self.old) }
+        ensures reason { IfErr result (λ e. (room : ℕ) → IsReason R.run true self.old (Request.Send room) e) }
     {
         let Some(to) = self.pe.front_out() else {
             return Err(CallError::NotEnabled);
