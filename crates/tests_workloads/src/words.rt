@@ -28,11 +28,15 @@ fn plain() -> CharmRunOptions<'static> {
         replay: None,
         trace: None,
         no_journal: false,
+        checkpoint: None,
+        every: None,
+        restart: false,
+        procs: None,
     }
 }
 
 // Every option at once.
-static EVERY_OPTION: [&str; 19] = [
+static EVERY_OPTION: [&str; 26] = [
     "charm_run",
     "--replay",
     "r",
@@ -52,6 +56,13 @@ static EVERY_OPTION: [&str; 19] = [
     "--trace",
     "t",
     "--no-journal",
+    "--checkpoint",
+    "c",
+    "--every",
+    "1000",
+    "--procs",
+    "256",
+    "--restart",
 ];
 
 // What they ask for.
@@ -68,6 +79,10 @@ fn all_asked(tolerance: Tolerance) -> CharmRunOptions<'static> {
         replay: Some("r"),
         trace: Some("t"),
         no_journal: true,
+        checkpoint: Some("c"),
+        every: Some(1_000),
+        restart: true,
+        procs: Some(256),
     }
 }
 
@@ -81,7 +96,7 @@ fn words_and_what_they_ask_for(rt: HostRuntime) {
 // Arguments that ask for no run, and the status: those for help and for the version are no mistakes.
 type NoRun<'a> = (&'a [&'a str], u8);
 
-static NO_RUNS: [NoRun<'static>; 13] = [
+static NO_RUNS: [NoRun<'static>; 17] = [
     (&["charm_run", "--help"], 0),
     (&["charm_run", "--version"], 0),
     (&["charm_run"], NO_WORDS),
@@ -98,6 +113,10 @@ static NO_RUNS: [NoRun<'static>; 13] = [
     ),
     (&["charm_run", "--seeds", "0", "f"], NO_WORDS),
     (&["charm_run", "--seeds", "1000001", "f"], NO_WORDS),
+    (&["charm_run", "--checkpoint"], NO_WORDS),
+    (&["charm_run", "--every", "0", "f"], NO_WORDS),
+    (&["charm_run", "--every", "1001", "f"], NO_WORDS),
+    (&["charm_run", "--procs", "257", "f"], NO_WORDS),
 ];
 
 #[test]
@@ -110,7 +129,59 @@ fn words_that_ask_for_no_run(rt: HostRuntime) {
 // Arguments for runs on one thread, and the task that they ask for, or the line of those that do not go together.
 type TaskRow<'a> = (&'a [&'a str], Result<Task<'a>, &'a str>);
 
-static TASKS: [TaskRow<'static>; 16] = [
+static TASKS: [TaskRow<'static>; 29] = [
+    (
+        &["charm_run", "--checkpoint", "c", "--every", "2", "f"],
+        Ok(Task::Threads),
+    ),
+    (
+        &["charm_run", "--restart", "--procs", "3", "f"],
+        Ok(Task::Threads),
+    ),
+    (
+        &["charm_run", "--restart", "--checkpoint", "c", "f"],
+        Ok(Task::Threads),
+    ),
+    (
+        &["charm_run", "--checkpoint", "c", "--seed", "7", "f"],
+        Err("charm_run: --checkpoint with --seed, --seeds or --replay\n"),
+    ),
+    (
+        &["charm_run", "--restart", "--replay", "e", "f"],
+        Err("charm_run: --restart with --seed, --seeds or --replay\n"),
+    ),
+    (
+        &["charm_run", "--checkpoint", "c", "--dump", "p", "f"],
+        Err("charm_run: --checkpoint and --dump\n"),
+    ),
+    (
+        &["charm_run", "--checkpoint", "c", "--lbd1", "f"],
+        Err("charm_run: --checkpoint and --lbd1\n"),
+    ),
+    (
+        &["charm_run", "--checkpoint", "c", "--trace", "t", "f"],
+        Err("charm_run: --checkpoint and --trace\n"),
+    ),
+    (
+        &["charm_run", "--restart", "--dump", "p", "f"],
+        Err("charm_run: --restart and --dump\n"),
+    ),
+    (
+        &["charm_run", "--restart", "--lbd1", "f"],
+        Err("charm_run: --restart and --lbd1\n"),
+    ),
+    (
+        &["charm_run", "--restart", "--trace", "t", "f"],
+        Err("charm_run: --restart and --trace\n"),
+    ),
+    (
+        &["charm_run", "--restart", "--every", "2", "f"],
+        Err("charm_run: --every without --checkpoint\n"),
+    ),
+    (
+        &["charm_run", "--procs", "2", "f"],
+        Err("charm_run: --procs without --restart\n"),
+    ),
     (&["charm_run", "--trace", "t", "f"], Ok(Task::Threads)),
     (&["charm_run", "--no-journal", "f"], Ok(Task::Threads)),
     (

@@ -1,0 +1,4 @@
+pub mod Judging
+pub mod Places
+pub mod Replacing
+pub mod RoundLines

@@ -1,0 +1,158 @@
+//! The run of what is left of a workload.
+
+ghost use Rattle.std.specs.Prelude.{◌≡◌, ◌≤◌, IfOk, length};
+ghost use Rattle.checkpointed_runs.specs.Driving.{EndsFrom, IsLeftFrom, TellsWhole};
+ghost use Rattle.checkpointed_runs.specs.Whole.{whole_text};
+ghost use Rattle.run_checkpoint.specs.Text.{IsWithin};
+ghost use Rattle.run_text.specs.Sums.{AreTallies};
+
+use crate::checkpoints::Checkpoints;
+use crate::files::CheckpointFiles;
+use crate::placing::run_told;
+use crate::whole::whole_text;
+use at_sync::Strategy;
+use chare_index::Limits;
+use pup_pack::Pup;
+use rts_run::{BodyLimit, Config, History, Outcome};
+use run_checkpoint::{Checkpoint, DecidedRound, tallies_after};
+use std::alloc::{AllocError, Allocator};
+use std::io::Write;
+use std::sync::Wait;
+use std::thread::Threads;
+use tally::Tally;
+use workload_run::{Driven, Onlooker, RunEnd, report_memory, report_text};
+
+/// The capacity of each queue in parcels.
+const CAPACITY: u32 = 1_024;
+
+/// Threads that search for a division.
+const PROBE_WORKERS: u32 = 4;
+
+/// Runs what is left of a workload from where a checkpoint has it, writes checkpoints meanwhile, where they are wanted, and then the text of
+/// the whole run, or the line for refused memory. A worker gives up after this number of idle turns in a row, of 1 to
+/// [`Limits::IDLE_TURNS`], and rounds are decided by `strategy`. Elements keep or drop what they have handled, as `history` says; the
+/// text is the same. The watch is told of the rounds that are left, which it counts from 1 on.
+///
+/// The workload is dropped before the run, unless checkpoints are written. One that is not kept changes nothing of the text:
+/// [`Checkpoints::failed`] has it.
+pub fn drive_from<
+    T: Threads + Wait + Sync,
+    W: Write,
+    V: Onlooker + Sync,
+    F: CheckpointFiles + Drop,
+    A: Allocator + Copy + Send + Sync,
+>(
+    rt: &T,
+    alloc: A,
+    from: Checkpoint<A>,
+    writer: &mut W,
+    turns: u64,
+    strategy: Strategy,
+    history: History,
+    watch: &V,
+    checkpoints: &mut Checkpoints<'_, F, A>,
+) -> Driven<A>
+    requires some_turn { 1 ≤ turns }
+    requires few_turns { turns ≤ Limits.IDLE_TURNS }
+    requires within { IsWithin from }
+    ensures ends { EndsFrom ⟦<Tally<A> as Pup<A>>⟧.fits strategy from (W.contents writer.old) (W.contents writer.new) result.outcome result.ended }
+{
+    let chares = from.workload.chares as usize;
+    let left = from
+        .workload
+        .rounds
+        .saturating_sub(from.decided.len() as u32);
+    watch.expects(left);
+    let Ok(decided) = Vec::from_slice(alloc, &from.decided) else {
+        return without_run(report_memory(writer));
+    };
+    match outcome_from(
+        rt,
+        alloc,
+        from,
+        turns,
+        strategy,
+        history,
+        watch,
+        checkpoints,
+    ) {
+        Ok(outcome) => {
+            let ended = tell_whole(alloc, &decided, chares, &outcome, writer);
+            Driven {
+                ended,
+                outcome: Some(outcome),
+            }
+        }
+        Err(_) => without_run(report_memory(writer)),
+    }
+}
+
+// The result where nothing was run.
+fn without_run<A: Allocator + Copy>(ended: RunEnd) -> Driven<A>
+    ensures ended { result.ended ≡ ended }
+    ensures outcome { result.outcome ≡ None }
+{
+    Driven {
+        ended,
+        outcome: None,
+    }
+}
+
+// What a run from a checkpoint left. The only error is that memory was refused.
+fn outcome_from<
+    T: Threads + Wait + Sync,
+    V: Onlooker + Sync,
+    F: CheckpointFiles + Drop,
+    A: Allocator + Copy + Send + Sync,
+>(
+    rt: &T,
+    alloc: A,
+    from: Checkpoint<A>,
+    turns: u64,
+    strategy: Strategy,
+    history: History,
+    watch: &V,
+    checkpoints: &mut Checkpoints<'_, F, A>,
+) -> Result<Outcome<Tally<A>, A>, AllocError>
+    requires some_turn { 1 ≤ turns }
+    requires few_turns { turns ≤ Limits.IDLE_TURNS }
+    requires within { IsWithin from }
+    ensures left { IfOk result (IsLeftFrom ⟦<Tally<A> as Pup<A>>⟧.fits from strategy) }
+{
+    let config = Config {
+        pes: from.workload.pes,
+        capacity: CAPACITY,
+        turns,
+        probe_workers: PROBE_WORKERS,
+        longest: BodyLimit::usual(),
+        strategy,
+        history,
+    };
+    let chares = tallies_after(alloc, &from.workload, from.decided.len() as u32)?;
+    let Checkpoint {
+        decided,
+        places,
+        workload,
+    } = from;
+    checkpoints.begin(&places, decided, workload);
+    let outcome = run_told(rt, alloc, &config, watch, checkpoints, chares, &places)?;
+    checkpoints.end(&outcome);
+    Ok(outcome)
+}
+
+// Writes the text of a whole run, or the line for refused memory, and returns how the run ended.
+fn tell_whole<W: Write, A: Allocator + Copy>(
+    alloc: A,
+    decided: &[DecidedRound],
+    chares: usize,
+    outcome: &Outcome<Tally<A>, A>,
+    writer: &mut W,
+) -> RunEnd
+    requires tallies { AreTallies chares outcome.now }
+    ensures told { TellsWhole (whole_text decided.now chares outcome.now) (W.contents writer.old) (W.contents writer.new) outcome.now.fault result }
+{
+    let Ok(text) = whole_text(alloc, decided, chares, outcome) else {
+        return report_memory(writer);
+    };
+    report_text(writer, text.as_bytes(), RunEnd::Ran(outcome.fault()))
+}

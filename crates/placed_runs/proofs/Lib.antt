@@ -1,0 +1,4 @@
+pub mod Account
+pub mod Fresh
+pub mod Placing
+pub mod Stopped

@@ -1,0 +1,57 @@
+//! A run whose elements open on told PEs.
+
+ghost use Rattle.std.specs.Prelude.{◌≡◌, ◌<◌, All, IfOk, MatchResult, length};
+ghost use Rattle.rts_run.specs.Configs.{MayBegin, RefusesRun};
+ghost use Rattle.rts_run.specs.Outcomes.{IsOutcome};
+
+use crate::opening::placed_outcome;
+use carried_runs::{Pauses, carry_on_in_parts};
+use chare_index::{Gate, Pe, Pes};
+use chares::Chare;
+use pe_worker::Watch;
+use rts_run::{Config, Outcome, RunError};
+use std::alloc::Allocator;
+use std::snapshot::Snapshot;
+use std::sync::Wait;
+use std::thread::Threads;
+
+/// Runs chares as [`carried_runs::run_in_parts`] does, but element `i` opens on the PE `places[i]`. There is a place for each chare, and
+/// each is one of the PEs.
+///
+/// Where an element starts on another PE than that of the block map, its marks do not agree with what a run expects: the fault is
+/// [`Mismatch`](pe_worker::Fault::Mismatch) then, in place of any other, and the run ends at its first pause.
+///
+/// # Errors
+///
+/// Those of [`rts_run::run`]. The chares are dropped then.
+pub fn run_placed<
+    C: Chare<A> + Send,
+    G: Gate + Sync,
+    V: Watch + Sync,
+    P: Pauses<C, A>,
+    R: Threads + Wait + Sync,
+    A: Allocator + Copy + Send + Sync,
+>(
+    rt: &R,
+    alloc: A,
+    config: &Config,
+    gate: &G,
+    watch: &V,
+    pauses: &mut P,
+    chares: Vec<C, A>,
+    places: &[Pe],
+) -> Result<Outcome<C, A>, RunError>
+    requires one_each { length places.now ≡ length chares.items }
+    requires named { All (λ q. q < config.now.pes) places.now }
+    ensures answer { MatchResult result (λ _. MayBegin config.now (length chares.items)) (RefusesRun config.now (length chares.items)) }
+    ensures outcome { IfOk result (IsOutcome C.step C.fits C.pack C.refuses chares.items config.now.pes config.now.strategy) }
+{
+    if let Some(setting) = config.first_outside(chares.len()) {
+        return Err(RunError::Config(setting));
+    }
+    let opening = Snapshot::of(&chares);
+    match placed_outcome(alloc, Pes::of(config.pes), config.strategy, chares, places) {
+        Ok(outcome) => carry_on_in_parts(rt, alloc, config, gate, watch, pauses, &opening, outcome),
+        Err(_) => Err(RunError::OutOfMemory),
+    }
+}
