@@ -1,4 +1,3 @@
-pub mod Judging
 pub mod Places
 pub mod Replacing
 pub mod RoundLines

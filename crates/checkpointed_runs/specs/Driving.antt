@@ -2,10 +2,9 @@
 use Rattle.std.specs.Prelude.{◌≡◌, ◌⊎◌, ℕ, List, Option, None, Some, length}
 use Rattle.std.specs.Io.KnownBytes.{Appends}
 use Rattle.at_sync.specs.declared.strategy.Strategy.{Strategy}
-use Rattle.checkpointed_runs.specs.Placed.{IsPlacedOutcome}
 use Rattle.checkpointed_runs.specs.Whole.{whole_text}
 use Rattle.pe_worker.specs.declared.fault.Fault.{Fault}
-use Rattle.rts_run.specs.Outcomes.{OutcomeView}
+use Rattle.rts_run.specs.Outcomes.{IsOutcome, OutcomeView}
 use Rattle.run_checkpoint.specs.Tallies.{tallies_after}
 use Rattle.run_checkpoint.specs.Text.{CheckpointView}
 use Rattle.streams.specs.Writing.{WritesPrefix}
@@ -15,10 +14,11 @@ use Rattle.workload_run.specs.Telling.{TellsOutcome}
 use Rattle.workload_run.specs.declared.ended.RunEnd.{RunEnd}
 use Rattle.workload_run.specs.declared.ended.RunEnd.TheVariants.{Ran, Refused, OutOfMemory, WriteFailed}
 
--- what a run from a checkpoint left: one of the tallies of the workload after the rounds that were decided, on its PEs, opened on its places
-abbrev pub IsLeftFrom : {A : Type 0} → (TallyView → Type 0) → CheckpointView → Strategy → OutcomeView TallyView A → Type 0
-IsLeftFrom fits from strategy o =
-    IsPlacedOutcome tally_step fits tally_pack TallyRefuses (tallies_after from.workload (length from.decided)) from.places from.workload.pes strategy o
+-- what a run from a checkpoint left: an outcome of the tallies of the workload after the rounds that were decided, on its PEs, each of
+-- which opened on its place
+pub record IsLeftFrom {A : Type 0} (fits : TallyView → Type 0) (from : CheckpointView) (strategy : Strategy) (o : OutcomeView TallyView A) : Type 0 where
+  pub outcome : IsOutcome tally_step fits tally_pack TallyRefuses (tallies_after from.workload (length from.decided)) from.workload.pes strategy o
+  pub homes : o.homes ≡ from.places
 
 -- the text of a whole run was written, or the line for refused memory, or a prefix of one
 abbrev pub TellsWhole : List ℕ → Option (List ℕ) → Option (List ℕ) → Option Fault → RunEnd → Type 0

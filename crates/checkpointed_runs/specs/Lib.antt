@@ -2,5 +2,4 @@ pub mod Beginning
 pub mod Driving
 pub mod Keeping
 pub mod Lines
-pub mod Placed
 pub mod Whole

@@ -8,10 +8,10 @@ ghost use Rattle.run_text.specs.Sums.{AreTallies};
 
 use crate::checkpoints::Checkpoints;
 use crate::files::CheckpointFiles;
-use crate::placing::run_told;
 use crate::whole::whole_text;
 use at_sync::Strategy;
-use chare_index::Limits;
+use chare_index::{Limits, NoGate};
+use placed_runs::run_placed;
 use pup_pack::Pup;
 use rts_run::{BodyLimit, Config, History, Outcome};
 use run_checkpoint::{Checkpoint, DecidedRound, tallies_after};
@@ -135,9 +135,22 @@ fn outcome_from<
         workload,
     } = from;
     checkpoints.begin(&places, decided, workload);
-    let outcome = run_told(rt, alloc, &config, watch, checkpoints, chares, &places)?;
-    checkpoints.end(&outcome);
-    Ok(outcome)
+    match run_placed(
+        rt,
+        alloc,
+        &config,
+        &NoGate,
+        watch,
+        checkpoints,
+        chares,
+        places,
+    ) {
+        Ok(outcome) => {
+            checkpoints.end(&outcome);
+            Ok(outcome)
+        }
+        Err(_) => Err(AllocError),
+    }
 }
 
 // Writes the text of a whole run, or the line for refused memory, and returns how the run ended.

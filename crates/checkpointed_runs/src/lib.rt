@@ -13,10 +13,7 @@ mod checkpoints;
 mod driving;
 mod files;
 mod laws;
-mod pausing;
-mod placing;
 mod reading;
-mod told_marks;
 mod whole;
 
 pub use beginning::{on_pes, opening_of};

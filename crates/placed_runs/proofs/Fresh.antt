@@ -1,13 +1,13 @@
 -- The elements of PEs on which nothing has happened: none has a mark, and none is packed.
 use Rattle.std.proofs.Common.{◌≡◌, ◌∙◌, ℕ, zero, suc, ◌+◌, ◌<◌, ◌≤◌, List, [], ◌∷◌, length, map, replicate, Option, Some, None, arith, refl, sym, ap, subst}
-use Rattle.std.specs.Prelude.{All, IfSome, slice_get, slice_set}
+use Rattle.std.specs.Prelude.{All, IfSome, IsSomeAnd, get_or, slice_get, slice_set}
 use Rattle.std.specs.List.{range_with_len}
 use Rattle.std.specs.Map.{values_of}
 use Rattle.std.specs.Ordering.{nat_cmp}
 use Rattle.std.proofs.lemmas.List.{length-replicate}
 use Rattle.std.proofs.lemmas.List.Elements.{All-nil, All-get_or, All-map, All-replicate, All-set, All-weaker}
 use Rattle.std.proofs.lemmas.Map.Views.{All-values-insert_entry}
-use Rattle.std.proofs.lemmas.Option.{get_or_from_slice_get, slice_get_within}
+use Rattle.std.proofs.lemmas.Option.{get_or_from_slice_get, slice_get-get_or, slice_get_within}
 use Rattle.at_sync.specs.Boards.{BoardState, new_board}
 use Rattle.at_sync.specs.declared.strategy.Strategy.{Strategy}
 use Rattle.chares.specs.Elements.{ElementView, opening_element}
@@ -15,8 +15,8 @@ use Rattle.chares.specs.declared.note.Mark.{Mark}
 use Rattle.lb_database.specs.Measuring.{elements}
 use Rattle.pe_state.specs.Pes.{PeView, Parcel, Item, new_pe, placed}
 use Rattle.round_marks.specs.Marked.{AreMarked, IsResumptionMark, IsSyncMark}
-use Rattle.round_marks.specs.Runs.{AreAllMarked, IsMarkedOn, IsMarkedParcel, IsMarkedPe}
-use Rattle.rts_core.specs.Worlds.{home, placed_on}
+use Rattle.round_marks.specs.Runs.{AreAllMarked, IsMarked, IsMarkedOn, IsMarkedParcel, IsMarkedPe}
+use Rattle.rts_core.specs.Worlds.{placed_on}
 use Rattle.carried_runs.proofs.Again.{all_before}
 use Rattle.placed_runs.specs.Placed.{each_placed, placed_pes}
 
@@ -82,28 +82,30 @@ module _ {A C : Type 0} (pes : ℕ) (chares : List C) (strategy : Strategy) wher
         stands = tt;
       }
 
-  fresh_marked : (me : ℕ) (el : ElementView C) → IsFresh (length chares) el → IsMarkedOn b me el
-  fresh_marked me el h =
-      subst (λ (v : List Mark). AreMarked b el.index (home el.index (elements b.database) b.pes) (Some me) v) (sym h.unmarked)
-      (none_marked el.index (home el.index (elements b.database) b.pes) (Some me) h.member)
+  module _ (homes : List ℕ) (same : length homes ≡ length chares) where
+    fresh_marked : (me : ℕ) (el : ElementView C) → IsFresh (length chares) el → IsMarkedOn b homes me el
+    fresh_marked me el h =
+        let inside : el.index < length homes = omega (arith, same, h.member) in
+        subst (λ (v : List Mark). IsMarked b homes el.index (Some me) v) (sym h.unmarked)
+        (rw (slice_get-get_or homes el.index 0 inside) (none_marked el.index (get_or homes el.index 0) (Some me) h.member))
 
-  each_marked : (me : ℕ) (room : List (ℕ × ElementView C)) → All (IsFresh (length chares)) (values_of room) → All (λ x. IsMarkedOn b me x.1) room
-  each_marked me room h =
-      All-weaker (λ (x : ℕ × ElementView C). IsFresh (length chares) x.1) (λ x. IsMarkedOn b me x.1) (λ x k. fresh_marked me x.1 k) room
-      (all_before (IsFresh (length chares)) (λ (x : ℕ × ElementView C). x.1) room h)
+    each_marked : (me : ℕ) (room : List (ℕ × ElementView C)) → All (IsFresh (length chares)) (values_of room) → All (λ x. IsMarkedOn b homes me x.1) room
+    each_marked me room h =
+        All-weaker (λ (x : ℕ × ElementView C). IsFresh (length chares) x.1) (λ x. IsMarkedOn b homes me x.1) (λ x k. fresh_marked me x.1 k) room
+        (all_before (IsFresh (length chares)) (λ (x : ℕ × ElementView C). x.1) room h)
 
-  pe_marked : (pe : PeView C) → AreFresh (length chares) pe → IsMarkedPe b pe
-  pe_marked pe h =
-      record {
-        room = each_marked pe.me pe.room h.room;
-        hand = subst (λ (v : Option Item). IfSome v (λ x. IsMarkedParcel b x.parcel)) (sym h.hand) tt;
-        outbox = subst (λ (v : List Item). All (λ x. IsMarkedParcel b x.parcel) v) (sym h.outbox) (All-nil (λ (x : Item). IsMarkedParcel b x.parcel));
-      }
+    pe_marked : (pe : PeView C) → AreFresh (length chares) pe → IsMarkedPe b homes pe
+    pe_marked pe h =
+        record {
+          room = each_marked pe.me pe.room h.room;
+          hand = subst (λ (v : Option Item). IfSome v (λ x. IsMarkedParcel b homes x.parcel)) (sym h.hand) tt;
+          outbox = subst (λ (v : List Item). All (λ x. IsMarkedParcel b homes x.parcel) v) (sym h.outbox) (All-nil (λ (x : Item). IsMarkedParcel b homes x.parcel));
+        }
 
-  pub placed_marked : (places : List ℕ) → AreAllMarked b (placed_pes pes places chares) (replicate pes [])
-  placed_marked places =
-      record {
-        at_pes = All-weaker (AreFresh (length chares)) (IsMarkedPe b) pe_marked (placed_pes pes places chares)
-            (told_fresh (length chares) (map (λ q. new_pe q (length chares)) (range_with_len 0 pes)) 0 chares places (omega arith) (bare_fresh (length chares) pes));
-        in_queues = All-replicate (All (IsMarkedParcel b)) pes [] (All-nil (IsMarkedParcel b));
-      }
+    pub placed_marked : (places : List ℕ) → AreAllMarked b homes (placed_pes pes places chares) (replicate pes [])
+    placed_marked places =
+        record {
+          at_pes = All-weaker (AreFresh (length chares)) (IsMarkedPe b homes) pe_marked (placed_pes pes places chares)
+              (told_fresh (length chares) (map (λ q. new_pe q (length chares)) (range_with_len 0 pes)) 0 chares places (omega arith) (bare_fresh (length chares) pes));
+          in_queues = All-replicate (All (IsMarkedParcel b homes)) pes [] (All-nil (IsMarkedParcel b homes));
+        }

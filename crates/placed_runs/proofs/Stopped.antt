@@ -54,7 +54,7 @@ module _ {C : Type 0} (pes : ℕ) (places : List ℕ) (chares : List C) (same : 
     placed_adds_up step ends left e l = rw e (rw l (account step).counted)
 
     module _ {A : Type 0} (step : Step C) (fits : C → Type 0) (pack : C → List ℕ) (refuses : Refuses C) (strategy : Strategy) (o : OutcomeView C A)
-        (ends : o.ends ≡ states) (left : o.left ≡ replicate pes []) (board : o.board ≡ new_board (length chares) pes strategy) (fault : o.fault ≡ Some Stopped) where
+        (homes : o.homes ≡ places) (ends : o.ends ≡ states) (left : o.left ≡ replicate pes []) (board : o.board ≡ new_board (length chares) pes strategy) (fault : o.fault ≡ Some Stopped) where
       histories_left : All (HasHistories step fits pack chares) o.ends → AreHistories step fits pack chares (left_world o.ends o.left)
       histories_left h = rw left (opening_run step fits pack chares pes o.ends [] _ h)
 
@@ -76,7 +76,7 @@ module _ {C : Type 0} (pes : ℕ) (places : List ℕ) (chares : List C) (same : 
             on_pes = on;
             by_strategy = by;
             rounds = decided_on o.board (length chares) pes strategy counted on by is_board;
-            marks = λ _. rw board (rw ends (rw left (placed_marked pes chares strategy places)));
+            marks = λ _. rw board (rw homes (rw ends (rw left (placed_marked pes chares strategy places same places))));
             mismatch = λ is. absurd (cc);
             unpacks = λ is. cc;
             cause = λ _. rw fault tt;

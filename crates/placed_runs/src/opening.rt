@@ -22,26 +22,27 @@ use std::collections::VecDeque;
 use std::marker::Brand;
 
 /// The outcome of a run that was stopped before its first event: chare `i` stands, not started, as element `i` on the PE
-/// `places[i]`; nothing was posted, every queue is empty, and no round was decided. There is a place for each chare, and each is
-/// one of the PEs.
+/// `places[i]`, which is its home; nothing was posted, every queue is empty, and no round was decided. There is a place for each chare,
+/// and each is one of the PEs.
 ///
 /// # Errors
 ///
-/// The only one is that memory was refused. The chares are dropped then.
+/// The only one is that memory was refused. The chares and the places are dropped then.
 pub fn placed_outcome<C: Chare<A>, A: Allocator + Copy>(
     alloc: A,
     pes: Pes,
     strategy: Strategy,
     chares: Vec<C, A>,
-    places: &[Pe],
+    places: Vec<Pe, A>,
 ) -> Result<Outcome<C, A>, AllocError>
     requires few { length chares.items ≤ Limits.ELEMENTS }
-    requires one_each { length places.now ≡ length chares.items }
-    requires named { All (λ q. q < pes) places.now }
+    requires one_each { length places.items ≡ length chares.items }
+    requires named { All (λ q. q < pes) places.items }
     ensures outcome { IfOk result (IsOutcome C.step C.fits C.pack C.refuses chares.items pes strategy) }
     ensures fault { IfOk result (λ o. o.fault ≡ Some Stopped) }
-    ensures placed { IfOk result (λ o. o.ends ≡ placed_pes pes places.now chares.items) }
+    ensures placed { IfOk result (λ o. o.ends ≡ placed_pes pes places.items chares.items) }
     ensures left { IfOk result (λ o. o.left ≡ replicate pes []) }
+    ensures homes { IfOk result (λ o. o.homes ≡ places.items) }
 {
     outcome_as::<C, Brand, A>(alloc, pes, strategy, chares, places)
 }
@@ -52,23 +53,24 @@ fn outcome_as<C: Chare<A>, H: Openings<C>, A: Allocator + Copy>(
     pes: Pes,
     strategy: Strategy,
     chares: Vec<C, A>,
-    places: &[Pe],
+    places: Vec<Pe, A>,
 ) -> Result<Outcome<C, A>, AllocError>
     requires run { pes ≡ H.pes }
     requires opened { chares.items ≡ H.opened }
     requires few { length chares.items ≤ Limits.ELEMENTS }
-    requires one_each { length places.now ≡ length chares.items }
-    requires named { All (λ q. q < pes) places.now }
+    requires one_each { length places.items ≡ length chares.items }
+    requires named { All (λ q. q < pes) places.items }
     ensures outcome { IfOk result (IsOutcome C.step C.fits C.pack C.refuses chares.items pes strategy) }
     ensures fault { IfOk result (λ o. o.fault ≡ Some Stopped) }
-    ensures placed { IfOk result (λ o. o.ends ≡ placed_pes pes places.now chares.items) }
+    ensures placed { IfOk result (λ o. o.ends ≡ placed_pes pes places.items chares.items) }
     ensures left { IfOk result (λ o. o.left ≡ replicate pes []) }
+    ensures homes { IfOk result (λ o. o.homes ≡ places.items) }
 {
     let n = chares.len() as u32;
     let board = Board::new(alloc, n, pes.get(), strategy)?;
     let left = no_parcels(alloc, pes)?;
-    let ends = placed_ends::<C, H, A>(alloc, pes, chares, places)?;
-    Ok(Outcome::new(ends, left, board, Some(Fault::Stopped)))
+    let ends = placed_ends::<C, H, A>(alloc, pes, chares, &places)?;
+    Ok(Outcome::new(places, ends, left, board, Some(Fault::Stopped)))
 }
 
 // What each PE holds, with each element on its told PE.

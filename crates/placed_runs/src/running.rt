@@ -15,15 +15,12 @@ use std::snapshot::Snapshot;
 use std::sync::Wait;
 use std::thread::Threads;
 
-/// Runs chares as [`carried_runs::run_in_parts`] does, but element `i` opens on the PE `places[i]`. There is a place for each chare, and
-/// each is one of the PEs.
-///
-/// Where an element starts on another PE than that of the block map, its marks do not agree with what a run expects: the fault is
-/// [`Mismatch`](pe_worker::Fault::Mismatch) then, in place of any other, and the run ends at its first pause.
+/// Runs chares as [`carried_runs::run_in_parts`] does, but element `i` opens on the PE `places[i]`, which is its home. There is a place for
+/// each chare, and each is one of the PEs.
 ///
 /// # Errors
 ///
-/// Those of [`rts_run::run`]. The chares are dropped then.
+/// Those of [`rts_run::run`]. The chares and the places are dropped then.
 pub fn run_placed<
     C: Chare<A> + Send,
     G: Gate + Sync,
@@ -39,12 +36,13 @@ pub fn run_placed<
     watch: &V,
     pauses: &mut P,
     chares: Vec<C, A>,
-    places: &[Pe],
+    places: Vec<Pe, A>,
 ) -> Result<Outcome<C, A>, RunError>
-    requires one_each { length places.now ≡ length chares.items }
-    requires named { All (λ q. q < config.now.pes) places.now }
+    requires one_each { length places.items ≡ length chares.items }
+    requires named { All (λ q. q < config.now.pes) places.items }
     ensures answer { MatchResult result (λ _. MayBegin config.now (length chares.items)) (RefusesRun config.now (length chares.items)) }
     ensures outcome { IfOk result (IsOutcome C.step C.fits C.pack C.refuses chares.items config.now.pes config.now.strategy) }
+    ensures homes { IfOk result (λ o. o.homes ≡ places.items) }
 {
     if let Some(setting) = config.first_outside(chares.len()) {
         return Err(RunError::Config(setting));

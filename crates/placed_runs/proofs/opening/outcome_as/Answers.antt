@@ -9,11 +9,11 @@ use Rattle.placed_runs.proofs.opening.outcome_as.Goals as goal
 
 pub new-2-requires-clause-few_pes : goal.new-2-requires-clause-few_pes
 new-2-requires-clause-few_pes g c =
-    omega (arith, ap length c.in_ok-ends.ensures.value, placed_counted c.args.pes c.args.places.now c.args.chares.items, c.get.ensures.few_pes)
+    omega (arith, ap length c.in_ok-ends.ensures.value, placed_counted c.args.pes c.args.places.items c.args.chares.items, c.get.ensures.few_pes)
 
 pub new-2-requires-clause-counted : goal.new-2-requires-clause-counted
 new-2-requires-clause-counted g c =
-    placed_adds_up c.args.pes c.args.places.now c.args.chares.items c.requires.one_each c.requires.named g.C.Chare.step c.in_ok-ends.ends.items _
+    placed_adds_up c.args.pes c.args.places.items c.args.chares.items c.requires.one_each c.requires.named g.C.Chare.step c.in_ok-ends.ends.items _
     c.in_ok-ends.ensures.value c.in_ok-left.ensures.value
 
 pub returns-clause-outcome : goal.returns-clause-outcome
@@ -22,8 +22,8 @@ returns-clause-outcome g c =
     let board : c.in_ok-board.board ≡ new_board (length c.args.chares.items) c.args.pes c.args.strategy = c.in_ok-board.ensures.made ∙ rw (same, c.get.ensures.value) refl in
     let ends = c.new-2.ensures.ends ∙ c.in_ok-ends.ensures.value in
     let left = c.new-2.ensures.left ∙ c.in_ok-left.ensures.value in
-    stopped_outcome c.args.pes c.args.places.now c.args.chares.items c.requires.one_each c.requires.named g.C.Chare.step g.C.Pup.fits g.C.Pup.pack
-    g.C.Chare.refuses c.args.strategy c.new-2.result ends left (c.new-2.ensures.board ∙ board) c.new-2.ensures.fault c.get.ensures.some_pe c.get.ensures.few_pes
+    stopped_outcome c.args.pes c.args.places.items c.args.chares.items c.requires.one_each c.requires.named g.C.Chare.step g.C.Pup.fits g.C.Pup.pack
+    g.C.Chare.refuses c.args.strategy c.new-2.result c.new-2.ensures.homes ends left (c.new-2.ensures.board ∙ board) c.new-2.ensures.fault c.get.ensures.some_pe c.get.ensures.few_pes
     (subst (λ (v : List (PeView g.row.C.Denot)). All (HasHistories g.C.Chare.step g.C.Pup.fits g.C.Pup.pack c.args.chares.items) v) (sym c.new-2.ensures.ends)
     c.in_ok-ends.ensures.histories)
 
@@ -35,3 +35,6 @@ returns-clause-placed g c = c.new-2.ensures.ends ∙ c.in_ok-ends.ensures.value
 
 pub returns-clause-left : goal.returns-clause-left
 returns-clause-left g c = c.new-2.ensures.left ∙ c.in_ok-left.ensures.value
+
+pub returns-clause-homes : goal.returns-clause-homes
+returns-clause-homes g c = c.new-2.ensures.homes
