@@ -1,17 +1,19 @@
 //! Checkpoints that are written where a run pauses.
 
-ghost use Rattle.std.specs.Prelude.{◌≡◌, ◌⊎◌, IfOk, IsFalse, IsTrue, Ok, map};
-ghost use Rattle.std.specs.List.{range_with_len};
+ghost use Rattle.std.specs.Prelude.{◌≡◌, ◌<◌, ◌≤◌, None, Some, IfOk, IsFalse, IsTrue, IsSome, ◌↔◌, ℕ, length};
+ghost use Rattle.std.specs.Option.{option_map};
 ghost use Rattle.std.specs.String.{string_bytes};
 ghost use Rattle.checkpointed_runs.specs.Keeping.{Keeps, new_name};
 ghost use Rattle.checkpointed_runs.specs.Lines.{kept_line};
-ghost use Rattle.lb_database.specs.Measuring.{elements};
+ghost use Rattle.checkpointed_runs.specs.Pausing.{IsDue, KeepsAt, KeepsNoted, all_decided, first_failure, last_places, places_by};
+ghost use Rattle.lb_refinement.specs.Refined.{refined_cuts, refined_names};
+ghost use Rattle.lb_strategy.specs.Moves.{HasPlace};
 ghost use Rattle.streams.specs.Writing.{WritesPrefix};
 
 use crate::files::{CheckpointFiles, replace};
 use at_sync::Board;
 use carried_runs::Pauses;
-use chare_index::{Index, Pe, Round};
+use chare_index::{Index, Limits, Pe};
 use chares::Chare;
 use lb_refinement::Refined;
 use lb_snapshot::Snapshot;
@@ -38,11 +40,9 @@ pub struct Checkpoints<'a, F, A: Allocator = Global> {
     name: Option<&'a str>,
     // After how many rounds one is written.
     every: usize,
-    // What was decided for each round so far, also before the run.
-    decided: Vec<DecidedRound, A>,
-    // How many of these rounds are of the run.
-    noted: usize,
-    // How many of them had come by when the last checkpoint was written.
+    // What was decided for each round before the run.
+    before: Vec<DecidedRound, A>,
+    // How many rounds of the run had come by when the last checkpoint was written.
     written: usize,
     // The workload, while it runs.
     workload: Option<Workload<A>>,
@@ -52,14 +52,19 @@ pub struct Checkpoints<'a, F, A: Allocator = Global> {
 impl<'a, F: CheckpointFiles + Drop, A: Allocator + Copy> Checkpoints<'a, F, A> {
     /// Checkpoints in the file of this name, or none without a name, of which one is written after each so many rounds. Rounds that are
     /// decided while the run pauses come with those before.
-    pub fn new(alloc: A, files: F, name: Option<&'a str>, every: u32) -> Self {
+    pub fn new(alloc: A, files: F, name: Option<&'a str>, every: u32) -> Self
+        ensures files { result.files ≡ files }
+        ensures name { result.name ≡ name.entry }
+        ensures every { result.every ≡ every }
+        ensures not_begun { result.workload ≡ None }
+        ensures none_failed { result.failed ≡ None }
+    {
         Checkpoints {
             alloc,
             files,
             name,
             every: every as usize,
-            decided: Vec::new(alloc),
-            noted: 0,
+            before: Vec::new(alloc),
             written: 0,
             workload: None,
             failed: None,
@@ -67,85 +72,106 @@ impl<'a, F: CheckpointFiles + Drop, A: Allocator + Copy> Checkpoints<'a, F, A> {
     }
 
     /// Whether checkpoints are written.
-    pub fn is_on(&self) -> bool {
+    pub fn is_on(&self) -> bool
+        ensures value { IsTrue result ↔ IsSome self.now.name }
+    {
         self.name.is_some()
     }
 
     /// Why the first checkpoint was not kept that was not, if there is one. Those after it are written all the same.
-    pub fn failed(&self) -> Option<io::Error> {
+    pub fn failed(&self) -> Option<io::Error>
+        ensures value { result ≡ self.now.failed }
+    {
         self.failed
     }
 
     /// A run of a workload begins, of which these rounds were decided before, and whose chares are in these places. Writes the checkpoint of
     /// that. The workload is kept only where checkpoints are written.
-    pub(crate) fn begin(
-        &mut self,
-        places: &[Pe],
-        decided: Vec<DecidedRound, A>,
-        workload: Workload<A>,
-    ) {
+    pub fn begin(&mut self, places: &[Pe], before: Vec<DecidedRound, A>, workload: Workload<A>)
+        ensures off { self.old.name ≡ None → self.new ≡ self.old }
+        ensures asked { KeepsNoted (option_map (λ name. name.now) self.old.name) (Some workload) before.items places.now
+            (F.asked self.old.files) (F.asked self.new.files) self.old.failed self.new.failed }
+        ensures begun { IsSome self.old.name → self.new ≡ record self.old { files = self.new.files; before = before; written = 0; workload = Some workload; failed = self.new.failed } }
+    {
         if !self.is_on() {
             return;
         }
-        self.decided = decided;
         self.workload = Some(workload);
-        if let Err(reason) = self.keep(places) {
-            self.fail(reason);
-        }
+        self.written = 0;
+        let kept = self.keep(&before, places);
+        self.before = before;
+        self.note(kept);
+    }
+
+    /// The run has paused, and has left this so far. Writes the checkpoint after its last round, where enough rounds have come by since the
+    /// one before.
+    pub fn follow<C: Chare<A>>(&mut self, outcome: &Outcome<C, A>)
+        ensures early { ¬ (IsDue self.old.written self.old.every (length outcome.now.board.rounds)) → self.new ≡ self.old }
+        ensures asked { IsDue self.old.written self.old.every (length outcome.now.board.rounds) →
+            KeepsNoted (option_map (λ name. name.now) self.old.name) self.old.workload (all_decided self.old.before.items outcome.now.board.rounds)
+            (last_places outcome.now.board) (F.asked self.old.files) (F.asked self.new.files) self.old.failed self.new.failed }
+        ensures same { self.new ≡ record self.old { files = self.new.files; written = self.new.written; failed = self.new.failed } }
+    {
+        self.keep_due(outcome, self.every);
     }
 
     /// The run has ended with this. Where it ended early, the checkpoint after its last round is written, if that is not yet there.
-    pub(crate) fn end<C: Chare<A>>(&mut self, outcome: &Outcome<C, A>) {
-        if self.is_on() && outcome.fault().is_some() {
-            self.follow(outcome, 1);
+    pub fn end<C: Chare<A>>(&mut self, outcome: &Outcome<C, A>)
+        ensures well { outcome.now.fault ≡ None → self.new ≡ self.old }
+        ensures early { ¬ (IsDue self.old.written 1 (length outcome.now.board.rounds)) → self.new ≡ self.old }
+        ensures asked { IsSome outcome.now.fault → IsDue self.old.written 1 (length outcome.now.board.rounds) →
+            KeepsNoted (option_map (λ name. name.now) self.old.name) self.old.workload (all_decided self.old.before.items outcome.now.board.rounds)
+            (last_places outcome.now.board) (F.asked self.old.files) (F.asked self.new.files) self.old.failed self.new.failed }
+        ensures same { self.new ≡ record self.old { files = self.new.files; written = self.new.written; failed = self.new.failed } }
+    {
+        if outcome.fault().is_some() {
+            self.keep_due(outcome, 1);
         }
     }
 
     // Writes a checkpoint where this many rounds have come by since the last one, and notes why it was not kept where it was not.
-    fn follow<C: Chare<A>>(&mut self, outcome: &Outcome<C, A>, least: usize) {
-        if let Err(reason) = self.keep_after(outcome, least) {
-            self.fail(reason);
+    fn keep_due<C: Chare<A>>(&mut self, outcome: &Outcome<C, A>, least: usize)
+        ensures early { ¬ (IsDue self.old.written least (length outcome.now.board.rounds)) → self.new ≡ self.old }
+        ensures asked { IsDue self.old.written least (length outcome.now.board.rounds) →
+            KeepsNoted (option_map (λ name. name.now) self.old.name) self.old.workload (all_decided self.old.before.items outcome.now.board.rounds)
+            (last_places outcome.now.board) (F.asked self.old.files) (F.asked self.new.files) self.old.failed self.new.failed }
+        ensures same { self.new ≡ record self.old { files = self.new.files; written = self.new.written; failed = self.new.failed } }
+    {
+        if is_due(self.written, least, outcome.rounds().len()) {
+            let kept = self.keep_after(outcome);
+            self.note(kept);
         }
     }
 
-    // Notes what was decided, and writes a checkpoint where this many rounds have come by since the last one.
-    fn keep_after<C: Chare<A>>(&mut self, outcome: &Outcome<C, A>, least: usize) -> io::Result<()> {
-        self.note(outcome.rounds())?;
-        if self.decided.len().saturating_sub(self.written) < least {
-            return Ok(());
-        }
-        let places = places_after(self.alloc, outcome.board())?;
-        self.keep(&places)
+    // Writes the checkpoint after the rounds that a run has decided so far.
+    fn keep_after<C: Chare<A>>(&mut self, outcome: &Outcome<C, A>) -> io::Result<()>
+        ensures asked { KeepsAt (option_map (λ name. name.now) self.old.name) self.old.workload (all_decided self.old.before.items outcome.now.board.rounds)
+            (last_places outcome.now.board) (F.asked self.old.files) (F.asked self.new.files) result }
+        ensures same { self.new ≡ record self.old { files = self.new.files; written = self.new.written } }
+    {
+        let decided = all_decided(self.alloc, &self.before, outcome.rounds())?;
+        let places = last_places(self.alloc, outcome.board())?;
+        self.written = outcome.rounds().len();
+        self.keep(&decided, &places)
     }
 
-    // Notes what was decided for the rounds of a run since the last time. The only error is that memory was refused.
-    fn note(&mut self, rounds: &[(Snapshot<A>, Refined<A>)]) -> Result<(), AllocError> {
-        if rounds.len() <= self.noted {
-            return Ok(());
-        }
-        for (_, decision) in &rounds[self.noted..] {
-            self.decided.push(DecidedRound {
-                bottleneck: decision.bottleneck(),
-                moved: decision.moved(),
-            })?;
-            self.noted += 1;
-        }
-        Ok(())
-    }
-
-    // Writes the checkpoint after the rounds that were noted, with the chares in these places.
-    fn keep(&mut self, places: &[Pe]) -> io::Result<()> {
+    // Writes the checkpoint with these rounds and these places.
+    fn keep(&mut self, decided: &[DecidedRound], places: &[Pe]) -> io::Result<()>
+        ensures asked { KeepsAt (option_map (λ name. name.now) self.old.name) self.old.workload decided.now places.now
+            (F.asked self.old.files) (F.asked self.new.files) result }
+        ensures same { self.new ≡ record self.old { files = self.new.files } }
+    {
         let (Some(name), Some(workload)) = (self.name, &self.workload) else {
             return Ok(());
         };
-        self.written = self.decided.len();
-        let files = &mut self.files;
-        keep_checkpoint(self.alloc, files, name, &self.decided, places, workload)
+        keep_checkpoint(self.alloc, &mut self.files, name, decided, places, workload)
     }
 
-    // Notes why a checkpoint was not kept.
-    fn fail(&mut self, reason: io::Error) {
-        if self.failed.is_none() {
+    // Notes why a checkpoint was not kept, if it was not, and if it is the first.
+    fn note(&mut self, kept: io::Result<()>)
+        ensures noted { self.new ≡ record self.old { failed = first_failure self.old.failed kept } }
+    {
+        if let (None, Err(reason)) = (self.failed, kept) {
             self.failed = Some(reason);
         }
     }
@@ -157,9 +183,22 @@ impl<F: CheckpointFiles + Drop, C: Chare<A>, A: Allocator + Copy> Pauses<C, A>
         self.is_on()
     }
 
-    fn paused(&mut self, outcome: &Outcome<C, A>) {
-        self.follow(outcome, self.every);
+    fn paused(&mut self, outcome: &Outcome<C, A>)
+        ensures early { ¬ (IsDue self.old.written self.old.every (length outcome.now.board.rounds)) → self.new ≡ self.old }
+        ensures asked { IsDue self.old.written self.old.every (length outcome.now.board.rounds) →
+            KeepsNoted (option_map (λ name. name.now) self.old.name) self.old.workload (all_decided self.old.before.items outcome.now.board.rounds)
+            (last_places outcome.now.board) (F.asked self.old.files) (F.asked self.new.files) self.old.failed self.new.failed }
+        ensures same { self.new ≡ record self.old { files = self.new.files; written = self.new.written; failed = self.new.failed } }
+    {
+        self.follow(outcome);
     }
+}
+
+// Whether a checkpoint is due once this many rounds of a run were decided: some since the last one, and at least so many.
+fn is_due(written: usize, least: usize, rounds: usize) -> bool
+    ensures value { IsTrue result ↔ IsDue written least rounds }
+{
+    written < rounds && least <= rounds - written
 }
 
 // Writes a checkpoint to the file with this name followed by `.new`, which then takes the name.
@@ -186,25 +225,51 @@ fn new_name<A: Allocator>(alloc: A, name: &str) -> Result<String<A>, AllocError>
     Ok(new)
 }
 
-// Where the last decision of a board has each element. The only error is that memory was refused.
-fn places_after<A: Allocator + Copy>(alloc: A, board: &Board<A>) -> Result<Vec<Pe, A>, AllocError> {
+// What was decided for each round, before the run and by it. The only error is that memory was refused.
+fn all_decided<A: Allocator>(
+    alloc: A,
+    before: &[DecidedRound],
+    rounds: &[(Snapshot<A>, Refined<A>)],
+) -> Result<Vec<DecidedRound, A>, AllocError>
+    ensures value { IfOk result (λ all. all.items ≡ all_decided before.now rounds.now) }
+{
+    let mut all = Vec::from_slice(alloc, before)?;
+    for (_, decision) in rounds {
+        all.push(DecidedRound {
+            bottleneck: decision.bottleneck(),
+            moved: decision.moved(),
+        })?;
+    }
+    Ok(all)
+}
+
+// Where the last decision of a board has each element; nowhere without one. The only error is that memory was refused.
+fn last_places<A: Allocator>(alloc: A, board: &Board<A>) -> Result<Vec<Pe, A>, AllocError>
+    ensures value { IfOk result (λ places. places.items ≡ last_places board.now) }
+{
+    let n = board.len() as u32;
+    match board.rounds().last() {
+        Some((_, decision)) => places_by(alloc, decision, n),
+        None => Ok(Vec::new(alloc)),
+    }
+}
+
+// Where a decision has each of `n` elements. The only error is that memory was refused.
+fn places_by<A: Allocator>(
+    alloc: A,
+    decision: &Refined<A>,
+    n: u32,
+) -> Result<Vec<Pe, A>, AllocError>
+    requires few { n ≤ Limits.ELEMENTS }
+    requires placed { (e : ℕ) → e < n → HasPlace (refined_cuts decision.now) (refined_names decision.now) e }
+    ensures value { IfOk result (λ places. places.items ≡ places_by decision.now n) }
+{
     let mut places = Vec::new(alloc);
-    let Some(round) = last_round(board) else {
-        return Ok(places);
-    };
-    let Some(decision) = board.decision_for(round) else {
-        return Ok(places);
-    };
-    for e in 0..board.len() as u32 {
+    for e in 0..n {
         let index = Index::new(e).unwrap();
         places.push(decision.place_of(index))?;
     }
     Ok(places)
-}
-
-// The last round of a board that was decided.
-fn last_round<A: Allocator>(board: &Board<A>) -> Option<Round> {
-    Round::new(board.rounds().len() as u32)
 }
 
 /// The status that a program exits with whose checkpoints were written as the run went on: this one, or 5 where one was not kept. In
