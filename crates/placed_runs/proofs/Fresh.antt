@@ -63,7 +63,7 @@ module _ {C : Type 0} (n : ℕ) where
 
 -- ---- their marks agree with a board on which nothing was decided
 
-module _ {A C : Type 0} (pes : ℕ) (chares : List C) (strategy : Strategy) where
+module _ (A : Type 0) {C : Type 0} (pes : ℕ) (chares : List C) (strategy : Strategy) where
   abbrev b : BoardState A
   b = new_board (length chares) pes strategy
 

@@ -76,7 +76,7 @@ module _ {C : Type 0} (pes : ℕ) (places : List ℕ) (chares : List C) (same : 
             on_pes = on;
             by_strategy = by;
             rounds = decided_on o.board (length chares) pes strategy counted on by is_board;
-            marks = λ _. rw board (rw homes (rw ends (rw left (placed_marked pes chares strategy places same places))));
+            marks = λ _. rw board (rw homes (rw ends (rw left (placed_marked A pes chares strategy places same places))));
             mismatch = λ is. absurd (cc);
             unpacks = λ is. cc;
             cause = λ _. rw fault tt;
