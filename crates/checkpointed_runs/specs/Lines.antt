@@ -1,11 +1,11 @@
 -- The one line that is written where no checkpoint was read, or one was not kept.
 use Rattle.std.specs.Prelude.{◌≡◌, ◌≢◌, ◌⊎◌, ℕ, List, [], ◌∷◌, ◌++◌, codes, Option, Result, Ok, Err, IfSome}
 use Rattle.std.specs.Fmt.{decimal}
-use Rattle.std.specs.Io.KnownBytes.{Appends, Consumes}
+use Rattle.std.specs.Io.KnownBytes.{Appends}
 use Rattle.streams.specs.Writing.{WritesPrefix}
 use Rattle.checkpointed_runs.specs.declared.reading.NoCheckpoint.{NoCheckpoint}
 use Rattle.checkpointed_runs.specs.declared.reading.NoCheckpoint.TheVariants.{Refused, OutOfMemory, WriteFailed}
-use Rattle.run_checkpoint.specs.Reading.{IsFault, IsReading, ReadsToItsEnd}
+use Rattle.run_checkpoint.specs.Faults.{IsFault}
 use Rattle.run_checkpoint.specs.Text.{CheckpointView, IsCheckpointText}
 use Rattle.run_checkpoint.specs.declared.error.CheckpointError.{CheckpointError}
 use Rattle.run_checkpoint.specs.declared.error.CheckpointError.TheVariants as Why

@@ -1,10 +1,14 @@
 -- Lists that are made item by item from others.
-use Rattle.std.proofs.Common.{◌≡◌, ℕ, zero, suc, ◌+◌, ◌<◌, List, [], ◌∷◌, ◌++◌, length, map, take, get_or, slice_index, ap, sym, refl, ◌∙◌, arith, zero-add}
+use Rattle.std.proofs.Common.{◌≡◌, ℕ, zero, suc, ◌+◌, ◌<◌, ◌≤◌, true, replicate, List, [], ◌∷◌, ◌++◌, length, map, take, get_or, slice_index, ap, sym, refl, ◌∙◌, arith, zero-add}
 use Rattle.std.specs.Prelude.{All, Vec, sum}
-use Rattle.tally.specs.Tallies.{TallyView}
+use Rattle.tally.specs.Tallies.{TallyView, are_within, is_tally}
+use Rattle.tally.specs.declared.tally_limits.TheConstants.TallyLimits.{AMOUNTS, PAD_BYTES}
+use Rattle.workload.specs.Text.{IsWithin, WorkloadView}
+use Rattle.run_checkpoint.specs.Tallies.{amounts_of}
 use Rattle.std.proofs.Math.ListN.{get_or-map}
 use Rattle.std.proofs.lemmas.Simd.{map-map}
-use Rattle.std.proofs.lemmas.List.{length-map}
+use Rattle.std.proofs.lemmas.Bool.Decides.{nat_tests}
+use Rattle.std.proofs.lemmas.List.{length-map, length-replicate}
 use Rattle.std.specs.List.{range_with_len}
 use Rattle.std.proofs.lemmas.List.FromFn.{map-range_with_len_more}
 
@@ -45,3 +49,14 @@ summed {A} rows amounts n i k total is same at =
 pub same_tally : (posted : ℕ) (s t : ℕ) (a b p q : List ℕ) → s ≡ t → a ≡ b → p ≡ q
     → ◌≡◌ {A = TallyView} (record { posted = posted; got = posted; sum = s; amounts = a; pad = p }) (record { posted = posted; got = posted; sum = t; amounts = b; pad = q })
 same_tally posted s t a b p q one two three = rw (one, two, three) refl
+
+-- the parts of a tally of a workload are within its limits
+pub tally_within : (w : WorkloadView) (rounds i total : ℕ) → IsWithin w → rounds ≤ w.rounds
+    → is_tally (record { posted = rounds; got = rounds; sum = total; amounts = amounts_of w i; pad = replicate w.pad 0 }) ≡ true
+tally_within w rounds i total is few =
+    let amounts : length (amounts_of w i) ≡ w.rounds = length-map w.amounts (λ (row : List ℕ). slice_index row i) ∙ is.each_round in
+    let pad : length (replicate {A = ℕ} w.pad 0) ≡ w.pad = length-replicate {A = ℕ} w.pad 0 in
+    limits rounds (length (amounts_of w i)) (length (replicate {A = ℕ} w.pad 0)) (omega arith) (omega (arith, is.few_rounds)) (omega (arith, is.small_pad))
+  where
+    limits : (posted amounts pad : ℕ) → posted ≤ amounts → amounts ≤ AMOUNTS → pad ≤ PAD_BYTES → are_within posted amounts pad ≡ true
+    limits posted amounts pad some few small = grind (arith, nat_tests)

@@ -8,9 +8,11 @@ use Rattle.std.proofs.lemmas.List.{append-nil}
 use Rattle.tally.specs.declared.tally_limits.TheConstants.TallyLimits.{AMOUNTS}
 use Rattle.workload.specs.Text.{line}
 use Rattle.run_checkpoint.specs.declared.checkpoint.DecidedRound.{DecidedRound}
+use Rattle.run_checkpoint.specs.declared.error.CheckpointError.TheVariants.{Form, Limit}
 use Rattle.run_checkpoint.specs.declared.form.TheConstants.{DIGITS}
-use Rattle.run_checkpoint.specs.Text.{IsDecided}
-use Rattle.run_checkpoint.specs.Scanning.{behind, number_at, behind_number, head_at, round_at, RoundLine, behind_moved, behind_bottleneck, behind_round, IsFront, BeginsWithNone, head_text, IsHead, decided_line}
+use Rattle.run_checkpoint.specs.Text.{IsDecided, decided_line, head_line}
+use Rattle.run_checkpoint.specs.Faults.{IsBadHead, IsBadRound, IsHead, IsMalformed, IsRoundForm, IsShort}
+use Rattle.run_checkpoint.specs.Scanning.{behind, number_at, behind_number, head_at, round_at, RoundLine, behind_moved, behind_bottleneck, behind_round, IsFront}
 use Rattle.run_checkpoint.proofs.Digits.{same_parts}
 use Rattle.run_checkpoint.proofs.Words.{is_behind, is_number, IsNumberAt, number_reads}
 
@@ -21,14 +23,14 @@ lone_line word n tail =
     ∙ ap (λ t. word ++ (32 ∷ t)) (append_assoc (decimal n ++ []) (10 ∷ []) tail ∙ ap (λ t. t ++ 10 ∷ tail) (append-nil (decimal n)))
 
 -- the first line is read as it is
-head_reads : (r : ℕ) (tail : List ℕ) → r < 10 ^ DIGITS → head_at (head_text r ++ tail) ≡ Some (r, tail)
+head_reads : (r : ℕ) (tail : List ℕ) → r < 10 ^ DIGITS → head_at (head_line r ++ tail) ≡ Some (r, tail)
 head_reads r tail small =
     ap head_at (lone_line (codes "checkpoint") r tail)
     ∙ ap (option_and_then behind_number) (number_reads (codes "checkpoint ") r (10 ∷ tail) small refl)
 
 -- and what is read is such a line
 record IsHeadAt (bytes : List ℕ) (r : ℕ) (rest : List ℕ) : Type 0 where
-  spelled : bytes ≡ head_text r ++ rest
+  spelled : bytes ≡ head_line r ++ rest
   small : r < 10 ^ DIGITS
 
 is_head : (bytes : List ℕ) (r : ℕ) (rest : List ℕ) → head_at bytes ≡ Some (r, rest) → IsHeadAt bytes r rest
@@ -39,7 +41,7 @@ is_head bytes r rest read = by (number_at (codes "checkpoint ") bytes) refl read
     by_end n after None number none told = cc
     by_end n after (Some tail) number some told =
         let same = same_parts n r tail rest told in
-        let whole : bytes ≡ head_text n ++ tail =
+        let whole : bytes ≡ head_line n ++ tail =
         number.spelled ∙ ap (λ t. codes "checkpoint " ++ (decimal n ++ t)) (is_behind (10 ∷ []) after tail some) ∙ sym (lone_line (codes "checkpoint") n tail) in
         record { spelled = rw (← same.0, ← same.1) whole; small = rw (← same.0) number.small }
 
@@ -47,28 +49,21 @@ is_head bytes r rest read = by (number_at (codes "checkpoint ") bytes) refl read
     by None none told = cc
     by (Some (n, after)) some told = by_end n after (behind (10 ∷ []) after) (is_number (codes "checkpoint ") bytes n after some) refl told
 
-pub no_head : (bytes : List ℕ) → head_at bytes ≡ None → BeginsWithNone IsHead head_text bytes
-no_head bytes none =
-    λ r tail few spelled.
-    let read : head_at bytes ≡ Some (r, tail) = ap head_at spelled ∙ head_reads r tail (omega (arith, few)) in
-    cc
+pub no_head : (bytes : List ℕ) → head_at bytes ≡ None → IsBadHead bytes (Form 1)
+no_head bytes none = (
+  refl,
+  λ r tail short spelled.
+      let read : head_at bytes ≡ Some (r, tail) = ap head_at spelled ∙ head_reads r tail short in
+      cc,
+)
 
-pub past_head : (bytes : List ℕ) (r : ℕ) (rest : List ℕ) → head_at bytes ≡ Some (r, rest) → AMOUNTS < r → BeginsWithNone IsHead head_text bytes
+pub past_head : (bytes : List ℕ) (r : ℕ) (rest : List ℕ) → head_at bytes ≡ Some (r, rest) → AMOUNTS < r → IsBadHead bytes (Limit 1)
 past_head bytes r rest read past =
-    λ s tail few spelled.
-    let other : Some (s, tail) ≡ Some (r, rest) = sym (head_reads s tail (omega (arith, few))) ∙ ap head_at (sym spelled) ∙ read in
-    let both : (s ≡ r) × (tail ≡ rest) = same_parts s r tail rest other in
-    let same : s ≡ r = both.0 in
-    omega (arith, few, past, same)
+    let is = is_head bytes r rest read in
+    (refl, record { value = r; rest = rest; good = is.small; spelled = is.spelled; next = λ few. omega (arith, few, past) })
 
-pub head_front : (bytes : List ℕ) (r : ℕ) (rest : List ℕ) → head_at bytes ≡ Some (r, rest) → r ≤ AMOUNTS → IsFront IsHead head_text bytes r rest
-head_front bytes r rest read few =
-    record {
-      spelled = (is_head bytes r rest read).spelled;
-      valid = few;
-      lone = λ s tail small spelled.
-          same_parts s r tail rest (sym (head_reads s tail (omega (arith, small))) ∙ ap head_at (sym spelled) ∙ read);
-    }
+pub head_front : (bytes : List ℕ) (r : ℕ) (rest : List ℕ) → head_at bytes ≡ Some (r, rest) → r ≤ AMOUNTS → IsFront IsHead head_line bytes r rest
+head_front bytes r rest read few = record { good = few; spelled = (is_head bytes r rest read).spelled }
 
 -- the line of a round, and what is after it
 round_parts : (r : ℕ) (d : DecidedRound) (tail : List ℕ) → decided_line r d ++ tail
@@ -81,22 +76,18 @@ round_parts r d tail = plain (codes "round ") (decimal r) (codes " bottleneck ")
 said : ℕ → DecidedRound → List ℕ → RoundLine
 said r d tail = record { round = r; bottleneck = d.bottleneck; moved = d.moved; rest = tail }
 
--- the numbers of a round have at most 20 digits
-abbrev IsShort : DecidedRound → Type 0
-IsShort d = (d.bottleneck < 10 ^ DIGITS) × (d.moved < 10 ^ DIGITS)
+pub round_form : (d : DecidedRound) → IsDecided d → IsRoundForm d
+round_form d is = record { bottleneck = omega (arith, is.bottleneck); moved = omega (arith, is.moved) }
 
-decided_short : (d : DecidedRound) → IsDecided d → IsShort d
-decided_short d is = (omega (arith, is.bottleneck), omega (arith, is.moved))
-
-round_reads : (r : ℕ) (d : DecidedRound) (tail : List ℕ) → r < 10 ^ DIGITS → IsShort d → round_at (decided_line r d ++ tail) ≡ Some (said r d tail)
+round_reads : (r : ℕ) (d : DecidedRound) (tail : List ℕ) → r < 10 ^ DIGITS → IsRoundForm d → round_at (decided_line r d ++ tail) ≡ Some (said r d tail)
 unfolding said
 round_reads r d tail small short =
     let behind_b : List ℕ = codes " moved " ++ (decimal d.moved ++ 10 ∷ tail) in
     let behind_r : List ℕ = codes " bottleneck " ++ (decimal d.bottleneck ++ behind_b) in
     ap round_at (round_parts r d tail)
     ∙ ap (option_and_then behind_round) (number_reads (codes "round ") r behind_r small refl)
-    ∙ ap (option_and_then (behind_bottleneck r)) (number_reads (codes " bottleneck ") d.bottleneck behind_b short.0 refl)
-    ∙ ap (option_and_then (behind_moved r d.bottleneck)) (number_reads (codes " moved ") d.moved (10 ∷ tail) short.1 refl)
+    ∙ ap (option_and_then (behind_bottleneck r)) (number_reads (codes " bottleneck ") d.bottleneck behind_b short.bottleneck refl)
+    ∙ ap (option_and_then (behind_moved r d.bottleneck)) (number_reads (codes " moved ") d.moved (10 ∷ tail) short.moved refl)
 
 -- what is read is such a line
 abbrev of_line : RoundLine → DecidedRound
@@ -104,7 +95,7 @@ of_line l = record { bottleneck = l.bottleneck; moved = l.moved }
 
 record IsRoundAt (bytes : List ℕ) (l : RoundLine) : Type 0 where
   spelled : bytes ≡ decided_line l.round (of_line l) ++ l.rest
-  small : l.round < 10 ^ DIGITS
+  form : IsRoundForm (of_line l)
 
 is_round : (bytes : List ℕ) (l : RoundLine) → round_at bytes ≡ Some l → IsRoundAt bytes l
 is_round bytes l read = by_round (number_at (codes "round ") bytes) refl read
@@ -122,7 +113,7 @@ is_round bytes l read = by_round (number_at (codes "round ") bytes) refl read
               ∙ ap (λ t. codes "round " ++ (decimal r ++ t)) (bottleneck.spelled
               ∙ ap (λ t. codes " bottleneck " ++ (decimal b ++ t)) (moved.spelled ∙ ap (λ t. codes " moved " ++ (decimal m ++ t)) (is_behind (10 ∷ []) behind_m rest some)))
               ∙ sym (round_parts r (of_line line) rest);
-          small = round.small;
+          form = record { bottleneck = bottleneck.small; moved = moved.small };
         })
 
     by_moved : (r b : ℕ) (behind_r behind_b : List ℕ) (o : Option (ℕ × List ℕ)) → IsNumberAt (codes "round ") bytes r behind_r
@@ -143,32 +134,32 @@ is_round bytes l read = by_round (number_at (codes "round ") bytes) refl read
         by_bottleneck r behind_r (number_at (codes " bottleneck ") behind_r) (is_number (codes "round ") bytes r behind_r some) refl told
 
 -- bytes that begin with the line of a round, of which a line is read
-same_line : (bytes : List ℕ) (r : ℕ) (d : DecidedRound) (tail : List ℕ) (l : RoundLine) → r < 10 ^ DIGITS → IsShort d → bytes ≡ decided_line r d ++ tail
+same_line : (bytes : List ℕ) (r : ℕ) (d : DecidedRound) (tail : List ℕ) (l : RoundLine) → r < 10 ^ DIGITS → IsRoundForm d → bytes ≡ decided_line r d ++ tail
     → round_at bytes ≡ Some l → said r d tail ≡ l
 same_line bytes r d tail l small short spelled read =
     let both : Some (said r d tail) ≡ Some l = sym (round_reads r d tail small short) ∙ ap round_at (sym spelled) ∙ read in
     cc
 
-pub no_round : (bytes : List ℕ) (r : ℕ) → r < 10 ^ DIGITS → round_at bytes ≡ None → BeginsWithNone IsDecided (decided_line r) bytes
-no_round bytes r small none =
-    λ d tail is spelled.
-    let read : round_at bytes ≡ Some (said r d tail) = ap round_at spelled ∙ round_reads r d tail small (decided_short d is) in
-    cc
+pub no_round : (bytes : List ℕ) (r : ℕ) → r < 10 ^ DIGITS → round_at bytes ≡ None → IsBadRound r bytes (Form (r + 1))
+no_round bytes r small none = (
+  refl,
+  λ d tail form spelled.
+      let read : round_at bytes ≡ Some (said r d tail) = ap round_at spelled ∙ round_reads r d tail small form in
+      cc,
+)
 
-pub other_round : (bytes : List ℕ) (r : ℕ) (l : RoundLine) → r < 10 ^ DIGITS → round_at bytes ≡ Some l → (l.round ≡ r → ⊥) → BeginsWithNone IsDecided (decided_line r) bytes
+pub other_round : (bytes : List ℕ) (r : ℕ) (l : RoundLine) → r < 10 ^ DIGITS → round_at bytes ≡ Some l → (l.round ≡ r → ⊥) → IsBadRound r bytes (Form (r + 1))
 unfolding said
-other_round bytes r l small read other =
-    λ d tail is spelled. other (sym (ap (λ (x : RoundLine). x.round) (same_line bytes r d tail l small (decided_short d is) spelled read)))
+other_round bytes r l small read other = (
+  refl,
+  λ d tail form spelled. other (sym (ap (λ (x : RoundLine). x.round) (same_line bytes r d tail l small form spelled read))),
+)
 
-pub past_round : (bytes : List ℕ) (r : ℕ) (l : RoundLine) → r < 10 ^ DIGITS → round_at bytes ≡ Some l → ((l.bottleneck < 2 ^ 64) × (l.moved < 2 ^ 64) → ⊥)
-    → BeginsWithNone IsDecided (decided_line r) bytes
-unfolding said
-past_round bytes r l small read past =
-    λ d tail is spelled.
-    let same = same_line bytes r d tail l small (decided_short d is) spelled read in
-    let b : d.bottleneck ≡ l.bottleneck = ap (λ (x : RoundLine). x.bottleneck) same in
-    let m : d.moved ≡ l.moved = ap (λ (x : RoundLine). x.moved) same in
-    past (rw (← b) is.bottleneck, rw (← m) is.moved)
+pub past_round : (bytes : List ℕ) (r : ℕ) (l : RoundLine) → round_at bytes ≡ Some l → l.round ≡ r → ((l.bottleneck < 2 ^ 64) × (l.moved < 2 ^ 64) → ⊥)
+    → IsBadRound r bytes (Limit (r + 1))
+past_round bytes r l read round past =
+    let is = is_round bytes l read in
+    (refl, record { value = of_line l; rest = l.rest; good = is.form; spelled = rw (← round) is.spelled; next = λ good. past (good.bottleneck, good.moved) })
 
 -- rounds with the same numbers are the same
 equal : (e f : DecidedRound) → e.bottleneck ≡ f.bottleneck → e.moved ≡ f.moved → e ≡ f
@@ -177,30 +168,21 @@ equal e f b m = joined e.bottleneck f.bottleneck e.moved f.moved b m
     joined : (x y v w : ℕ) → x ≡ y → v ≡ w → ◌≡◌ {A = DecidedRound} (record { bottleneck = x; moved = v }) (record { bottleneck = y; moved = w })
     joined x y v w one two = rw (one, two) refl
 
-pub round_front : (bytes : List ℕ) (r : ℕ) (l : RoundLine) (d : DecidedRound) → r < 10 ^ DIGITS → round_at bytes ≡ Some l → l.round ≡ r → d.bottleneck ≡ l.bottleneck
-    → d.moved ≡ l.moved → IsDecided d → IsFront IsDecided (decided_line r) bytes d l.rest
-unfolding said
-round_front bytes r l d small read round bottleneck moved is =
-    record {
-      spelled = rw (← round, bottleneck, moved) (is_round bytes l read).spelled;
-      valid = is;
-      lone = λ e tail other spelled.
-          let same = same_line bytes r e tail l small (decided_short e other) spelled read in
-          let b : e.bottleneck ≡ d.bottleneck = ap (λ (x : RoundLine). x.bottleneck) same ∙ sym bottleneck in
-          let m : e.moved ≡ d.moved = ap (λ (x : RoundLine). x.moved) same ∙ sym moved in
-          (equal e d b m, ap (λ (x : RoundLine). x.rest) same);
-    }
+pub round_front : (bytes : List ℕ) (r : ℕ) (l : RoundLine) (d : DecidedRound) → round_at bytes ≡ Some l → l.round ≡ r → d.bottleneck ≡ l.bottleneck → d.moved ≡ l.moved
+    → IsDecided d → IsFront IsDecided (decided_line r) bytes d l.rest
+round_front bytes r l d read round bottleneck moved is =
+    record { good = is; spelled = rw (← round, bottleneck, moved) (is_round bytes l read).spelled }
 
 -- bytes begin with one first line at most
-pub one_head : (r s : ℕ) (t u : List ℕ) → r ≤ AMOUNTS → s ≤ AMOUNTS → head_text r ++ t ≡ head_text s ++ u → (r ≡ s) × (t ≡ u)
-one_head r s t u few other same =
-    same_parts r s t u (sym (head_reads r t (omega (arith, few))) ∙ ap head_at same ∙ head_reads s u (omega (arith, other)))
+pub one_head : (r s : ℕ) (t u : List ℕ) → IsShort r → IsShort s → head_line r ++ t ≡ head_line s ++ u → (r ≡ s) × (t ≡ u)
+one_head r s t u one other same = same_parts r s t u (sym (head_reads r t one) ∙ ap head_at same ∙ head_reads s u other)
 
 -- and with one line of a round
-pub one_round : (r : ℕ) (d e : DecidedRound) (t u : List ℕ) → r < 10 ^ DIGITS → IsDecided d → IsDecided e → decided_line r d ++ t ≡ decided_line r e ++ u → (d ≡ e) × (t ≡ u)
+pub one_round : (r : ℕ) (d e : DecidedRound) (t u : List ℕ) → r < 10 ^ DIGITS → IsRoundForm d → IsRoundForm e → decided_line r d ++ t ≡ decided_line r e ++ u
+    → (d ≡ e) × (t ≡ u)
 unfolding said
 one_round r d e t u small one other same =
-    let lines = same_line (decided_line r d ++ t) r e u (said r d t) small (decided_short e other) same (round_reads r d t small (decided_short d one)) in
+    let lines = same_line (decided_line r d ++ t) r e u (said r d t) small other same (round_reads r d t small one) in
     let b : d.bottleneck ≡ e.bottleneck = sym (ap (λ (x : RoundLine). x.bottleneck) lines) in
     let m : d.moved ≡ e.moved = sym (ap (λ (x : RoundLine). x.moved) lines) in
     (equal d e b m, sym (ap (λ (x : RoundLine). x.rest) lines))

@@ -1,58 +1,33 @@
 -- Bytes are the text of one checkpoint at most.
-use Rattle.std.proofs.Common.{◌≡◌, ℕ, ◌+◌, ◌^◌, ◌<◌, ◌≤◌, List, [], ◌∷◌, ◌++◌, length, map, take, replicate, sym, ap, subst, ◌∙◌, refl, arith, append_assoc, length-append}
-use Rattle.std.specs.Prelude.{All, sum}
-use Rattle.std.proofs.lemmas.List.Elements.{All-head, All-tail}
+use Rattle.std.proofs.Common.{◌≡◌, ◌⊎◌, inl, inr, ℕ, ◌+◌, ◌≤◌, List, [], ◌++◌, length, replicate, Result, Ok, Err, sym, ap, subst, ◌∙◌, refl, arith}
+use Rattle.std.specs.Prelude.{MatchResult}
 use Rattle.tally.specs.Tallies.{TallyView}
 use Rattle.workload.specs.Text.{IsText, WorkloadView, workload_text}
 use Rattle.workload.proofs.Texts.{one_workload}
 use Rattle.run_checkpoint.specs.declared.checkpoint.DecidedRound.{DecidedRound}
-use Rattle.run_checkpoint.specs.declared.form.TheConstants.{DIGITS, TEXT_BYTES}
-use Rattle.run_checkpoint.specs.Bodies.{body_text}
-use Rattle.run_checkpoint.specs.Scanning.{decided_line, head_text, places_line}
+use Rattle.run_checkpoint.specs.declared.error.CheckpointError.{CheckpointError}
+use Rattle.run_checkpoint.specs.declared.error.CheckpointError.TheVariants.{OutOfMemory}
+use Rattle.run_checkpoint.specs.Faults.{IsFault, IsHead}
+use Rattle.run_checkpoint.specs.Reading.{IsAnswer}
 use Rattle.run_checkpoint.specs.Tallies.{amounts_of, tally_after}
-use Rattle.run_checkpoint.specs.Text.{CheckpointView, IsCheckpointText, IsDecided, IsWithin, checkpoint_text, round_lines}
-use Rattle.run_checkpoint.proofs.Fronts.{one_head, one_round}
-use Rattle.run_checkpoint.proofs.PlacesLine.{one_places}
-use Rattle.run_checkpoint.proofs.BodyParts.{places_within}
+use Rattle.run_checkpoint.specs.Text.{CheckpointView, IsCheckpointText, IsWithin, body_text, checkpoint_text, places_line}
+use Rattle.run_checkpoint.proofs.Fronts.{one_head}
+use Rattle.run_checkpoint.proofs.PlacesLine.{one_places, places_form}
+use Rattle.run_checkpoint.proofs.Lone.{head_short, no_fault, one_fault, one_rounds, places_within}
 
--- as many rounds with the same lines are the same
-one_rounds : (r : ℕ) (a b : List DecidedRound) (t u : List ℕ) → r + length a < 10 ^ DIGITS → length a ≡ length b → All IsDecided a → All IsDecided b
-    → round_lines r a ++ t ≡ round_lines r b ++ u → (a ≡ b) × (t ≡ u)
-one_rounds r [] [] t u few counted one other same = (refl, same)
-one_rounds r [] (e ∷ b) t u few counted one other same = absurd (omega arith)
-one_rounds r (d ∷ a) [] t u few counted one other same = absurd (omega arith)
-one_rounds r (d ∷ a) (e ∷ b) t u few counted one other same =
-    let heads = one_round r d e (round_lines (r + 1) a ++ t) (round_lines (r + 1) b ++ u) (omega arith) (All-head IsDecided d a one) (All-head IsDecided e b other)
-    (sym (append_assoc (decided_line r d) (round_lines (r + 1) a) t) ∙ same ∙ append_assoc (decided_line r e) (round_lines (r + 1) b) u) in
-    let later = one_rounds (r + 1) a b t u (omega arith) (omega arith) (All-tail IsDecided d a one) (All-tail IsDecided e b other) heads.1 in
-    (joined d e a b heads.0 later.0, later.1)
-  where
-    joined : (v w : DecidedRound) (x y : List DecidedRound) → v ≡ w → x ≡ y → v ∷ x ≡ w ∷ y
-    joined v w x y one two = rw (one, two) refl
-
--- what is behind the first line and the rounds and the places is no longer than the whole
-short_workload : (c : CheckpointView) (bytes : List ℕ) → IsCheckpointText c bytes → length (workload_text c.workload) ≤ TEXT_BYTES
-short_workload c bytes is =
-    let a = ap length is.spelled in
-    let b = length-append (head_text (length c.decided)) (body_text c) in
-    let d = length-append (round_lines 1 c.decided) (places_line c.places ++ workload_text c.workload) in
-    let e = length-append (places_line c.places) (workload_text c.workload) in
-    tail (length bytes) (length (head_text (length c.decided))) (length (body_text c)) (length (round_lines 1 c.decided)) (length (places_line c.places ++ workload_text c.workload))
-    (length (places_line c.places)) (length (workload_text c.workload)) is.short (a ∙ b) d e
-  where
-    tail : (n a b c d e f : ℕ) → n ≤ TEXT_BYTES → n ≡ a + b → b ≡ c + d → d ≡ e + f → f ≤ TEXT_BYTES
-    tail n a b c d e f short one two three = omega arith
+-- the rounds of a checkpoint within its limits
+few_rounds : (c : CheckpointView) → IsWithin c → IsHead (length c.decided)
+few_rounds c is = omega (arith, is.few_rounds, is.workload.few_rounds)
 
 pub one_checkpoint : (c d : CheckpointView) (bytes : List ℕ) → IsCheckpointText c bytes → IsCheckpointText d bytes → c ≡ d
 one_checkpoint c d bytes one other =
-    let head = one_head (length c.decided) (length d.decided) (body_text c) (body_text d) (omega (arith, one.within.few_rounds, one.within.workload.few_rounds))
-    (omega (arith, other.within.few_rounds, other.within.workload.few_rounds)) (sym one.spelled ∙ other.spelled) in
+    let head = one_head (length c.decided) (length d.decided) (body_text c) (body_text d) (head_short (length c.decided) (few_rounds c one.within))
+    (head_short (length d.decided) (few_rounds d other.within)) (sym one.spelled ∙ other.spelled) in
     let rounds = one_rounds 1 c.decided d.decided (places_line c.places ++ workload_text c.workload) (places_line d.places ++ workload_text d.workload)
     (omega (arith, one.within.few_rounds, one.within.workload.few_rounds)) head.0 one.within.decided other.within.decided head.1 in
-    let places = one_places c.places d.places (workload_text c.workload) (workload_text d.workload) (places_within c one.within) (places_within d other.within) rounds.1 in
-    let first : IsText c.workload (workload_text c.workload) = record { spelled = refl; within = one.within.workload; short = short_workload c bytes one } in
-    let second : IsText d.workload (workload_text c.workload) = record { spelled = places.1; within = other.within.workload; short = short_workload c bytes one } in
-    joined c.decided d.decided c.places d.places c.workload d.workload rounds.0 places.0 (one_workload c.workload d.workload (workload_text c.workload) first second)
+    let places = one_places c.places d.places (workload_text c.workload) (workload_text d.workload) (places_form c.places (places_within c one.within)) (places_form d.places (places_within d other.within)) rounds.1 in
+    let second : IsText d.workload (workload_text c.workload) = subst (IsText d.workload) (sym places.1) other.workload in
+    joined c.decided d.decided c.places d.places c.workload d.workload rounds.0 places.0 (one_workload c.workload d.workload (workload_text c.workload) one.workload second)
   where
     joined : (a b : List DecidedRound) (p q : List ℕ) (v w : WorkloadView) → a ≡ b → p ≡ q → v ≡ w
         → ◌≡◌ {A = CheckpointView} (record { decided = a; places = p; workload = v }) (record { decided = b; places = q; workload = w })
@@ -61,11 +36,21 @@ one_checkpoint c d bytes one other =
 pub one_text : (c : CheckpointView) (a b : List ℕ) → IsCheckpointText c a → IsCheckpointText c b → a ≡ b
 one_text c a b one other = one.spelled ∙ sym other.spelled
 
-pub written : (c : CheckpointView) → IsWithin c → length (checkpoint_text c) ≤ TEXT_BYTES → IsCheckpointText c (checkpoint_text c)
-written c within short = record { spelled = refl; within = within; short = short }
+pub written : (c : CheckpointView) → IsWithin c → IsText c.workload (workload_text c.workload) → IsCheckpointText c (checkpoint_text c)
+written c within text = record { spelled = refl; within = within; workload = text }
 
 pub opening : (w : WorkloadView) (i : ℕ) → ◌≡◌ {A = TallyView} (tally_after w 0 i) (record { posted = 0; got = 0; sum = 0; amounts = amounts_of w i; pad = replicate w.pad 0 })
 opening w i = refl
 
--- the laws of the text
-pub ruleset checkpoint_laws = (one_checkpoint, one_text, written, opening)
+-- the answer to a text is its checkpoint, and the answer to bytes with a fault is that
+pub answered : (bytes : List ℕ) (result : Result CheckpointView CheckpointError) → IsAnswer bytes result → (c : CheckpointView) → IsCheckpointText c bytes
+    → MatchResult result (λ d. d ≡ c) (λ e. e ≡ OutOfMemory)
+answered bytes (Ok d) answer c is = one_checkpoint d c bytes answer is
+answered bytes (Err e) (inl none) c is = none.0
+answered bytes (Err e) (inr fault) c is = absurd (no_fault c bytes e is fault)
+
+pub refused : (bytes : List ℕ) (result : Result CheckpointView CheckpointError) → IsAnswer bytes result → (e : CheckpointError) → IsFault bytes e
+    → MatchResult result (λ _. ⊥) (λ f. (f ≡ OutOfMemory) ⊎ (f ≡ e))
+refused bytes (Ok c) answer e fault = no_fault c bytes e answer fault
+refused bytes (Err f) (inl none) e fault = inl none.0
+refused bytes (Err f) (inr also) e fault = inr (one_fault bytes f e also fault)

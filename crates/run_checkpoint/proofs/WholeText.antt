@@ -9,7 +9,7 @@ use Rattle.run_checkpoint.specs.declared.error.CheckpointError.{CheckpointError}
 use Rattle.run_checkpoint.specs.declared.error.CheckpointError.TheVariants.{Form, Limit, Long, Read, OutOfMemory}
 use Rattle.run_checkpoint.specs.declared.form.TheConstants.{TEXT_BYTES}
 use Rattle.run_checkpoint.specs.Text.{CheckpointView}
-use Rattle.run_checkpoint.specs.Reading.{IsAnswer, IsReadAgain, IsReading, IsStop, ReadsToItsEnd}
+use Rattle.run_checkpoint.specs.Reading.{IsAnswer, IsReadAnswer, IsReading, IsStop, ReadsToItsEnd}
 
 -- bytes that were read before a reader stopped
 abbrev pub Shows : Option (List ℕ) → Option (List ℕ) → CheckpointError → Type 0
@@ -46,15 +46,15 @@ abbrev pub Readings : Option (List ℕ) → Option (List ℕ) → Result Checkpo
 Readings old new result = (bytes : List ℕ) × Consumes old new bytes × (length bytes ≤ TEXT_BYTES + 1) × IsReading bytes result
 
 abbrev pub Known : Option (List ℕ) → Result CheckpointView CheckpointError → Type 0
-Known old result = IfSome old (λ bytes. (result ≡ Err Read) ⊎ (IsAnswer bytes result × IsReadAgain bytes result))
+Known old result = IfSome old (λ bytes. (result ≡ Err Read) ⊎ IsReadAnswer bytes result)
 
 -- the reader stopped before the end
 pub stopped_reading : (old new : Option (List ℕ)) (e : CheckpointError) → Shows old new e → Readings old new (Err e)
 stopped_reading old new (Form n) (text, gone, short, is) = absurd is
 stopped_reading old new (Limit n) (text, gone, short, is) = absurd is
-stopped_reading old new Long (text, gone, short, is) = (text, gone, short, inr is)
+stopped_reading old new Long (text, gone, short, is) = (text, gone, short, inl (refl, is))
 stopped_reading old new Read (text, gone, short, is) = (text, gone, short, is)
-stopped_reading old new OutOfMemory (text, gone, short, is) = (text, gone, short, inl refl)
+stopped_reading old new OutOfMemory (text, gone, short, is) = (text, gone, short, tt)
 
 pub stopped_known : (old new : Option (List ℕ)) (e : CheckpointError) → Shows old new e → Known old (Err e)
 stopped_known None new e shows = tt
@@ -62,10 +62,10 @@ stopped_known (Some bytes) None e shows = absurd shows.1
 stopped_known (Some bytes) (Some rest) (Form n) (text, gone, short, is) = absurd is
 stopped_known (Some bytes) (Some rest) (Limit n) (text, gone, short, is) = absurd is
 stopped_known (Some bytes) (Some rest) Read shows = inl refl
-stopped_known (Some bytes) (Some rest) OutOfMemory shows = inr (inl refl, λ c is. refl)
+stopped_known (Some bytes) (Some rest) OutOfMemory shows = inr (inl refl)
 stopped_known (Some bytes) (Some rest) Long (text, gone, short, is) =
     let long : TEXT_BYTES < length bytes = omega (arith, is, ap length gone, length-append text rest) in
-    inr (inr long, λ c text_is. absurd (omega (arith, long, text_is.short)))
+    inr (inr (inl (refl, long)))
 
 pub stopped_end : (new : Option (List ℕ)) (old : Option (List ℕ)) (e : CheckpointError) → Shows old new e → ReadsToItsEnd new (Err e)
 stopped_end new old (Form n) (text, gone, short, is) = absurd is
@@ -77,23 +77,31 @@ stopped_end new old OutOfMemory shows = tt
 -- the reader was read to its end
 reading_of : (bytes : List ℕ) (result : Result CheckpointView CheckpointError) → length bytes ≤ TEXT_BYTES → IsAnswer bytes result → IsReading bytes result
 reading_of bytes (Ok c) short answer = answer
-reading_of bytes (Err (Form n)) short answer = answer
-reading_of bytes (Err (Limit n)) short answer = answer
-reading_of bytes (Err Long) short answer = answer
+reading_of bytes (Err (Form n)) short (inl none) = absurd (let no : Form n ≡ OutOfMemory = none.0 in cc)
+reading_of bytes (Err (Form n)) short (inr fault) = fault
+reading_of bytes (Err (Limit n)) short (inl none) = absurd (let no : Limit n ≡ OutOfMemory = none.0 in cc)
+reading_of bytes (Err (Limit n)) short (inr fault) = fault
+reading_of bytes (Err Long) short (inl none) = absurd (let no : Long ≡ OutOfMemory = none.0 in cc)
+reading_of bytes (Err Long) short (inr fault) = fault
 reading_of bytes (Err Read) short answer = short
-reading_of bytes (Err OutOfMemory) short answer = answer
+reading_of bytes (Err OutOfMemory) short answer = tt
+
+read_answer : (bytes : List ℕ) (result : Result CheckpointView CheckpointError) → IsAnswer bytes result → IsReadAnswer bytes result
+read_answer bytes (Ok c) answer = answer
+read_answer bytes (Err e) (inl none) = inl none.0
+read_answer bytes (Err e) (inr fault) = inr fault
 
 pub whole_reading : (old new : Option (List ℕ)) (bytes : List ℕ) (result : Result CheckpointView CheckpointError) → Consumes old new bytes → length bytes ≤ TEXT_BYTES
     → IsAnswer bytes result → Readings old new result
 whole_reading old new bytes result gone short answer = (bytes, gone, omega (arith, short), reading_of bytes result short answer)
 
 pub whole_known : (old new : Option (List ℕ)) (bytes : List ℕ) (result : Result CheckpointView CheckpointError) → Consumes old new bytes → IsAtEnd new
-    → IsAnswer bytes result → IsReadAgain bytes result → Known old result
-whole_known None new bytes result gone end_ answer again = tt
-whole_known (Some all) None bytes result gone end_ answer again = absurd gone
-whole_known (Some all) (Some rest) bytes result gone end_ answer again =
+    → IsAnswer bytes result → Known old result
+whole_known None new bytes result gone end_ answer = tt
+whole_known (Some all) None bytes result gone end_ answer = absurd gone
+whole_known (Some all) (Some rest) bytes result gone end_ answer =
     let same : all ≡ bytes = gone ∙ ap (λ r. bytes ++ r) end_ ∙ append-nil bytes in
-    inr (subst (λ t. IsAnswer t result) (sym same) answer, subst (λ t. IsReadAgain t result) (sym same) again)
+    inr (subst (λ t. IsReadAnswer t result) (sym same) (read_answer bytes result answer))
 
 pub whole_end : (new : Option (List ℕ)) (result : Result CheckpointView CheckpointError) → IsAtEnd new → ReadsToItsEnd new result
 whole_end new (Ok c) end_ = end_

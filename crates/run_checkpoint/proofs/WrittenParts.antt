@@ -8,8 +8,7 @@ use Rattle.std.proofs.KnownBytes.{Appends-nil, Appends-trans}
 use Rattle.std.proofs.lemmas.List.{append-nil, take_more, length-take-le, take-append-drop}
 use Rattle.std.proofs.lemmas.List.Concat.{flat_map-append}
 use Rattle.run_checkpoint.specs.declared.checkpoint.DecidedRound.{DecidedRound}
-use Rattle.run_checkpoint.specs.Text.{round_lines}
-use Rattle.run_checkpoint.specs.Scanning.{decided_line}
+use Rattle.run_checkpoint.specs.Text.{decided_line, round_lines}
 use Rattle.run_checkpoint.specs.Writing.{Puts}
 use Rattle.run_checkpoint.proofs.RoundLines.{lines_more}
 

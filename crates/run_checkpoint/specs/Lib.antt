@@ -1,4 +1,5 @@
 pub mod Text
+pub mod Faults
 pub mod Reading
 pub mod Writing
 pub mod Tallies

@@ -1,17 +1,9 @@
 -- What the reader does with a line, step by step. No public clause uses these definitions.
-use Rattle.std.specs.Prelude.{◌≡◌, ℕ, ◌+◌, ◌*◌, ◌-◌, ◌^◌, ◌<◌, ◌≤◌, ◌⊎◌, min, Bool, ◌==◌, ◌&&◌, ◌||◌, if◌then◌else◌}
-use Rattle.std.specs.Prelude.{List, [], ◌∷◌, ◌++◌, length, codes, All, Option, None, Some, Result, Ok, Err}
+use Rattle.std.specs.Prelude.{◌≡◌, ℕ, ◌+◌, ◌*◌, ◌-◌, Bool, ◌==◌, ◌&&◌, ◌||◌, if◌then◌else◌}
+use Rattle.std.specs.Prelude.{List, [], ◌∷◌, ◌++◌, codes, Option, None, Some}
 use Rattle.std.specs.Option.{option_and_then}
 use Rattle.std.specs.Char.{is_ascii_digit}
-use Rattle.chare_index.specs.declared.limits.TheConstants.Limits.{ELEMENTS, PES}
-use Rattle.tally.specs.declared.tally_limits.TheConstants.TallyLimits.{AMOUNTS}
-use Rattle.run_checkpoint.specs.declared.checkpoint.DecidedRound.{DecidedRound}
-use Rattle.run_checkpoint.specs.declared.error.CheckpointError.{CheckpointError}
-use Rattle.run_checkpoint.specs.declared.error.CheckpointError.TheVariants.{Form, Limit, Long, Read, OutOfMemory}
 use Rattle.run_checkpoint.specs.declared.form.TheConstants.{DIGITS}
-use Rattle.run_checkpoint.specs.Text.{IsDecided, round_line, round_lines}
-use Rattle.workload.specs.declared.error.WorkError.{WorkError}
-use Rattle.workload.specs.Text.{WorkloadView, line}
 
 -- the bytes after a word that they begin with
 abbrev pub behind : List ℕ → List ℕ → Option (List ℕ)
@@ -67,60 +59,7 @@ behind_round r = option_and_then (behind_bottleneck r.0) (number_at (codes " bot
 abbrev pub round_at : List ℕ → Option RoundLine
 round_at bytes = option_and_then behind_round (number_at (codes "round ") bytes)
 
--- a fault of a line
-abbrev pub IsLineFault : CheckpointError → Type 0
-IsLineFault (Form n) = Unit {0}
-IsLineFault (Limit n) = Unit {0}
-IsLineFault e = ⊥
-
--- these bytes begin with the text of none of the valid values
-abbrev pub BeginsWithNone : {X : Type 0} → (X → Type 0) → (X → List ℕ) → List ℕ → Type 0
-BeginsWithNone {X} Valid text bytes = (x : X) (tail : List ℕ) → Valid x → bytes ≡ text x ++ tail → ⊥
-
--- what is read at the front of these bytes: a valid value, whose text they begin with, and no other one; and the rest
-pub record IsFront {X : Type 0} (Valid : X → Type 0) (text : X → List ℕ) (bytes : List ℕ) (x : X) (rest : List ℕ) : Type 0 where
+-- what is read at the front of these bytes: something good, whose text they begin with, and the rest
+pub record IsFront {X : Type 0} (Good : X → Type 0) (text : X → List ℕ) (bytes : List ℕ) (x : X) (rest : List ℕ) : Type 0 where
+  pub good : Good x
   pub spelled : bytes ≡ text x ++ rest
-  pub valid : Valid x
-  pub lone : (y : X) (tail : List ℕ) → Valid y → bytes ≡ text y ++ tail → (y ≡ x) × (tail ≡ rest)
-
--- why nothing was read there
-abbrev pub IsNotFront : {X : Type 0} → (X → Type 0) → (X → List ℕ) → List ℕ → CheckpointError → Type 0
-IsNotFront {X} Valid text bytes e = (e ≡ OutOfMemory) ⊎ (IsLineFault e × BeginsWithNone Valid text bytes)
-
--- the first line
-abbrev pub head_text : ℕ → List ℕ
-head_text rounds = line (codes "checkpoint") (rounds ∷ [])
-
-abbrev pub IsHead : ℕ → Type 0
-IsHead rounds = rounds ≤ AMOUNTS
-
--- the line of a round
-abbrev pub decided_line : ℕ → DecidedRound → List ℕ
-decided_line r d = round_line r d.bottleneck d.moved
-
--- the lines of so many rounds
-pub record AreRounds (count : ℕ) (decided : List DecidedRound) : Type 0 where
-  pub counted : length decided ≡ count
-  pub all : All IsDecided decided
-
--- the line of the places
-abbrev pub places_line : List ℕ → List ℕ
-places_line places = line (codes "places") places
-
-pub record ArePlaces (places : List ℕ) : Type 0 where
-  pub few : length places ≤ ELEMENTS
-  pub all : All (λ p. p < PES) places
-
--- a fault of a workload, of a line with so many lines more before it
-abbrev pub shifted : WorkError → ℕ → CheckpointError
-shifted (WorkError.Form n) before = Form (min 4294967295 (n + before))
-shifted (WorkError.Limit n) before = Limit (min 4294967295 (n + before))
-shifted WorkError.Long before = Long
-shifted WorkError.Read before = Read
-shifted WorkError.OutOfMemory before = OutOfMemory
-
--- what the workload says of the rounds and the places
-pub record AreOf (decided : List DecidedRound) (places : List ℕ) (w : WorkloadView) : Type 0 where
-  pub few_rounds : length decided ≤ w.rounds
-  pub each_chare : length places ≡ w.chares
-  pub placed : All (λ p. p < w.pes) places

@@ -2,8 +2,7 @@
 use Rattle.std.specs.Prelude.{◌≡◌, ℕ, ◌+◌, ◌^◌, ◌<◌, ◌≤◌, List, [], ◌∷◌, ◌++◌, length, codes, All}
 use Rattle.std.specs.Fmt.{decimal}
 use Rattle.run_checkpoint.specs.declared.checkpoint.DecidedRound.{DecidedRound}
-use Rattle.run_checkpoint.specs.declared.form.TheConstants.{TEXT_BYTES}
-use Rattle.workload.specs.Text.{WorkloadView, line, newline, workload_text}
+use Rattle.workload.specs.Text.{IsText, WorkloadView, line, newline, workload_text}
 use Rattle.workload.specs.Text.{IsWithin as IsWorkload}
 
 -- what was decided for each round so far, the PE of each chare, and the workload
@@ -29,11 +28,25 @@ abbrev pub round_lines : ℕ → List DecidedRound → List ℕ
 round_lines r [] = []
 round_lines r (d ∷ decided) = round_line r d.bottleneck d.moved ++ round_lines (r + 1) decided
 
--- checkpoint R, R lines of rounds, places p0 p1 .., and the text of the workload
+-- the line of a round
+abbrev pub decided_line : ℕ → DecidedRound → List ℕ
+decided_line r d = round_line r d.bottleneck d.moved
+
+-- the first line
+abbrev pub head_line : ℕ → List ℕ
+head_line rounds = line (codes "checkpoint") (rounds ∷ [])
+
+-- the line of the places
+abbrev pub places_line : List ℕ → List ℕ
+places_line places = line (codes "places") places
+
+-- R lines of rounds, places p0 p1 .., and the text of the workload
+abbrev pub body_text : CheckpointView → List ℕ
+body_text c = round_lines 1 c.decided ++ (places_line c.places ++ workload_text c.workload)
+
+-- checkpoint R, and what follows it
 abbrev pub checkpoint_text : CheckpointView → List ℕ
-checkpoint_text c =
-    line (codes "checkpoint") (length c.decided ∷ [])
-    ++ (round_lines 1 c.decided ++ (line (codes "places") c.places ++ workload_text c.workload))
+checkpoint_text c = head_line (length c.decided) ++ body_text c
 
 -- both numbers of a round have 64 bits
 pub record IsDecided (d : DecidedRound) : Type 0 where
@@ -48,8 +61,8 @@ pub record IsWithin (c : CheckpointView) : Type 0 where
   pub each_chare : length c.places ≡ c.workload.chares
   pub placed : All (λ p. p < c.workload.pes) c.places
 
--- these bytes are the text of this checkpoint
+-- these bytes are the text of this checkpoint, whose workload has a text of its own: one that is not too long
 pub record IsCheckpointText (c : CheckpointView) (bytes : List ℕ) : Type 0 where
   pub spelled : bytes ≡ checkpoint_text c
   pub within : IsWithin c
-  pub short : length bytes ≤ TEXT_BYTES
+  pub workload : IsText c.workload (workload_text c.workload)

@@ -1,6 +1,7 @@
-ghost use Rattle.std.specs.Prelude.{◌≡◌, ◌≤◌, MatchResult, length};
-ghost use Rattle.run_checkpoint.specs.Bodies.{IsBodyOf, IsNoBody};
-ghost use Rattle.run_checkpoint.specs.declared.form.TheConstants.{TEXT_BYTES};
+ghost use Rattle.std.specs.Prelude.{◌≡◌, ◌⊎◌, ◌≤◌, MatchResult};
+ghost use Rattle.run_checkpoint.specs.Bodies.{IsBody};
+ghost use Rattle.run_checkpoint.specs.Faults.{IsBodyFault};
+ghost use Rattle.run_checkpoint.specs.declared.error.CheckpointError.TheVariants.{OutOfMemory};
 ghost use Rattle.tally.specs.declared.tally_limits.TheConstants.TallyLimits.{AMOUNTS};
 
 use crate::checkpoint::Checkpoint;
@@ -21,9 +22,8 @@ pub(crate) fn read_body<A: Allocator + Copy>(
     rounds: u32,
     bytes: &[u8],
 ) -> Result<Checkpoint<A>, CheckpointError>
-    requires few { rounds ≤ AMOUNTS }
-    requires short { length bytes.now ≤ TEXT_BYTES }
-    ensures { MatchResult result (λ c. IsBodyOf rounds bytes.now c) (λ e. IsNoBody rounds bytes.now e) }
+    requires { rounds ≤ AMOUNTS }
+    ensures { MatchResult result (λ c. IsBody rounds bytes.now c) (λ e. (e ≡ OutOfMemory) ⊎ IsBodyFault rounds bytes.now e) }
 {
     let mut decided = Vec::new(alloc);
     let behind_rounds = read_rounds(&mut decided, rounds, bytes)?;

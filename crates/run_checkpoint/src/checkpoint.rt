@@ -1,7 +1,9 @@
-ghost use Rattle.std.specs.Prelude.{◌≡◌, ◌⊎◌, ◌+◌, ◌≤◌, Err, IfSome, List, length, ℕ};
+ghost use Rattle.std.specs.Prelude.{◌≡◌, ◌⊎◌, ◌+◌, ◌≤◌, Err, IfSome, List, MatchResult, length, ℕ};
 ghost use Rattle.std.specs.Io.KnownBytes.{Consumes};
-ghost use Rattle.run_checkpoint.specs.Reading.{IsAnswer, IsReadAgain, IsReading, ReadsToItsEnd};
-ghost use Rattle.run_checkpoint.specs.Text.{CheckpointView};
+ghost use Rattle.run_checkpoint.specs.Faults.{IsFault};
+ghost use Rattle.run_checkpoint.specs.Reading.{IsAnswer, IsReadAnswer, IsReading, ReadsToItsEnd};
+ghost use Rattle.run_checkpoint.specs.Text.{CheckpointView, IsCheckpointText};
+ghost use Rattle.run_checkpoint.specs.declared.error.CheckpointError.{CheckpointError};
 ghost use Rattle.run_checkpoint.specs.declared.form.TheConstants.{TEXT_BYTES};
 
 use crate::body::read_body;
@@ -56,7 +58,8 @@ impl<A: Allocator + Copy> Checkpoint<A> {
     /// [`OutOfMemory`](CheckpointError::OutOfMemory) where a request for memory is refused before a fault is met.
     pub fn parse(alloc: A, bytes: &[u8]) -> Result<Self, CheckpointError>
         ensures answer { IsAnswer bytes.now result }
-        ensures again { IsReadAgain bytes.now result }
+        ensures again { (c : CheckpointView) → IsCheckpointText c bytes.now → MatchResult result (λ d. d ≡ c) (λ e. e ≡ CheckpointError.OutOfMemory) }
+        ensures first { (e : CheckpointError) → IsFault bytes.now e → MatchResult result (λ _. ⊥) (λ f. (f ≡ CheckpointError.OutOfMemory) ⊎ (f ≡ e)) }
     {
         if bytes.len() > TEXT_BYTES {
             return Err(CheckpointError::Long);
@@ -76,7 +79,7 @@ impl<A: Allocator + Copy> Checkpoint<A> {
     /// the longest text, with any error, or has been called 134,217,728 times.
     pub fn read_from<R: Read>(alloc: A, reader: &mut R) -> Result<Self, CheckpointError>
         ensures read { (bytes : List ℕ) × Consumes (R.remaining reader.old) (R.remaining reader.new) bytes × (length bytes ≤ TEXT_BYTES + 1) × IsReading bytes result }
-        ensures known { IfSome (R.remaining reader.old) (λ bytes. (result ≡ Err CheckpointError.Read) ⊎ (IsAnswer bytes result × IsReadAgain bytes result)) }
+        ensures known { IfSome (R.remaining reader.old) (λ bytes. (result ≡ Err CheckpointError.Read) ⊎ IsReadAnswer bytes result) }
         ensures at_end { ReadsToItsEnd (R.remaining reader.new) result }
     {
         let bytes = read_whole(alloc, reader)?;

@@ -1,5 +1,5 @@
 ghost use Rattle.std.specs.Prelude.{◌≡◌};
-ghost use Rattle.run_checkpoint.specs.Reading.{error_number};
+ghost use Rattle.run_checkpoint.specs.Faults.{error_number};
 ghost use Rattle.run_checkpoint.specs.declared.error.CheckpointError.TheVariants.{OutOfMemory};
 
 use std::alloc::{AllocError, AllocFailed};

@@ -1,5 +1,7 @@
 ghost use Rattle.std.specs.Prelude.{◌≡◌, MatchOption, MatchResult};
-ghost use Rattle.run_checkpoint.specs.Scanning.{IsFront, IsHead, IsNotFront, head_at, head_text};
+ghost use Rattle.run_checkpoint.specs.Faults.{IsBadHead, IsHead};
+ghost use Rattle.run_checkpoint.specs.Scanning.{IsFront, head_at};
+ghost use Rattle.run_checkpoint.specs.Text.{head_line};
 
 use crate::error::CheckpointError;
 use crate::numbers::{behind, number_at};
@@ -11,7 +13,7 @@ use tally::TallyLimits;
 ///
 /// The fault of the first line.
 pub(crate) fn read_head(bytes: &[u8]) -> Result<(u32, &[u8]), CheckpointError>
-    ensures { MatchResult result (λ found. IsFront IsHead head_text bytes.now found.0 found.1.now) (λ e. IsNotFront IsHead head_text bytes.now e) }
+    ensures { MatchResult result (λ found. IsFront IsHead head_line bytes.now found.0 found.1.now) (λ e. IsBadHead bytes.now e) }
 {
     let Some((rounds, rest)) = head_at(bytes) else {
         return Err(CheckpointError::Form(1));

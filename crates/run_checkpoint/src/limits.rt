@@ -1,5 +1,6 @@
-ghost use Rattle.std.specs.Prelude.{◌≡◌, ◌≤◌, ◌<◌, ◌+◌, All, IsTrue, MatchBool, MatchOption, length, ◌^◌};
-ghost use Rattle.run_checkpoint.specs.Scanning.{AreOf};
+ghost use Rattle.std.specs.Prelude.{◌<◌, All, MatchBool, MatchOption, length, ◌^◌};
+ghost use Rattle.run_checkpoint.specs.Faults.{AreItsPlaces, AreItsRounds, IsApart};
+ghost use Rattle.run_checkpoint.specs.declared.error.CheckpointError.TheVariants.{Limit};
 
 use crate::checkpoint::DecidedRound;
 use chare_index::Pe;
@@ -13,7 +14,8 @@ pub(crate) fn past_line<A: Allocator>(
     workload: &Workload<A>,
 ) -> Option<u32>
     requires few { length decided.now < 2 ^ 31 }
-    ensures { MatchOption result (AreOf decided.now places.now workload.now) (λ line. AreOf decided.now places.now workload.now → ⊥) }
+    ensures { MatchOption result (AreItsRounds decided.now workload.now × AreItsPlaces places.now workload.now)
+        (λ line. IsApart decided.now places.now workload.now (Limit line)) }
 {
     if decided.len() > workload.rounds as usize {
         return Some(1);

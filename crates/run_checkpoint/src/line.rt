@@ -1,6 +1,7 @@
-ghost use Rattle.std.specs.Prelude.{◌≡◌, ◌⊎◌, ◌^◌, ◌<◌, MatchOption, MatchResult, SomeIff};
-ghost use Rattle.run_checkpoint.specs.Scanning.{IsFront, IsNotFront, decided_line, round_at};
-ghost use Rattle.run_checkpoint.specs.Text.{IsDecided};
+ghost use Rattle.std.specs.Prelude.{◌≡◌, ◌^◌, ◌<◌, MatchOption, MatchResult};
+ghost use Rattle.run_checkpoint.specs.Faults.{IsBadRound};
+ghost use Rattle.run_checkpoint.specs.Scanning.{IsFront, round_at};
+ghost use Rattle.run_checkpoint.specs.Text.{IsDecided, decided_line};
 
 use crate::checkpoint::DecidedRound;
 use crate::error::CheckpointError;
@@ -14,7 +15,7 @@ use crate::numbers::{behind, number_at};
 pub(crate) fn read_round(bytes: &[u8], round: u32) -> Result<(DecidedRound, &[u8]), CheckpointError>
     requires few { round < 2 ^ 31 }
     ensures { MatchResult result (λ found. IsFront IsDecided (decided_line round) bytes.now found.0 found.1.now)
-        (λ e. IsNotFront IsDecided (decided_line round) bytes.now e) }
+        (λ e. IsBadRound round bytes.now e) }
 {
     let Some((line, rest)) = round_at(bytes) else {
         return Err(CheckpointError::Form(round + 1));

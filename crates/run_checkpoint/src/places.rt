@@ -1,7 +1,10 @@
-ghost use Rattle.std.specs.Prelude.{◌≡◌, ◌≤◌, ◌<◌, ◌++◌, IfOk, List, [], ◌∷◌, MatchBool, MatchResult, OnErr, length, vec_len, ◌^◌};
+ghost use Rattle.std.specs.Prelude.{◌≡◌, ◌⊎◌, ◌<◌, ◌++◌, IfOk, [], ◌∷◌, MatchBool, MatchResult, length};
 ghost use Rattle.chare_index.specs.declared.limits.TheConstants.Limits.{ELEMENTS, PES};
-ghost use Rattle.run_checkpoint.specs.Scanning.{ArePlaces, IsFront, IsNotFront, places_line};
+ghost use Rattle.run_checkpoint.specs.Faults.{AreBadPlaces, ArePlaces};
 ghost use Rattle.run_checkpoint.specs.Fields.{AreFields};
+ghost use Rattle.run_checkpoint.specs.Scanning.{IsFront};
+ghost use Rattle.run_checkpoint.specs.Text.{places_line};
+ghost use Rattle.run_checkpoint.specs.declared.error.CheckpointError.TheVariants.{OutOfMemory};
 
 use crate::error::CheckpointError;
 use crate::numbers::{behind, number_at};
@@ -20,7 +23,7 @@ pub(crate) fn read_places<'b, A: Allocator>(
 ) -> Result<&'b [u8], CheckpointError>
     requires empty { places.old.items ≡ [] }
     ensures { MatchResult result (λ rest. IsFront ArePlaces places_line bytes.now places.new.items rest.now)
-        (λ e. IsNotFront ArePlaces places_line bytes.now e) }
+        (λ e. (e ≡ OutOfMemory) ⊎ AreBadPlaces line bytes.now e) }
 {
     let Some(rest) = behind(b"places", bytes) else {
         return Err(CheckpointError::Form(line));

@@ -1,6 +1,8 @@
-ghost use Rattle.std.specs.Prelude.{◌≡◌, ◌<◌, ◌^◌, ◌++◌, ◌∷◌, List, [], MatchResult, OnOk};
-ghost use Rattle.run_checkpoint.specs.Scanning.{AreRounds, IsFront, IsNotFront};
+ghost use Rattle.std.specs.Prelude.{◌≡◌, ◌⊎◌, ◌<◌, ◌^◌, ◌++◌, ◌∷◌, [], MatchResult, OnOk};
+ghost use Rattle.run_checkpoint.specs.Faults.{AreBadRounds, AreRounds};
+ghost use Rattle.run_checkpoint.specs.Scanning.{IsFront};
 ghost use Rattle.run_checkpoint.specs.Text.{round_lines};
+ghost use Rattle.run_checkpoint.specs.declared.error.CheckpointError.TheVariants.{OutOfMemory};
 
 use crate::checkpoint::DecidedRound;
 use crate::error::CheckpointError;
@@ -20,7 +22,7 @@ pub(crate) fn read_rounds<'b, A: Allocator>(
     requires empty { decided.old.items ≡ [] }
     requires few { count < 2 ^ 30 }
     ensures { MatchResult result (λ rest. IsFront (AreRounds count) (round_lines 1) bytes.now decided.new.items rest.now)
-        (λ e. IsNotFront (AreRounds count) (round_lines 1) bytes.now e) }
+        (λ e. (e ≡ OutOfMemory) ⊎ AreBadRounds count bytes.now e) }
 {
     let mut rest = bytes;
     for i in 0..count {

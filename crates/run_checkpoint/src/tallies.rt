@@ -1,5 +1,6 @@
-ghost use Rattle.std.specs.Prelude.{◌≡◌, ◌≤◌, ◌<◌, All, IfOk, OnOk, length, map, replicate, slice_index, sum};
+ghost use Rattle.std.specs.Prelude.{◌≡◌, ◌≤◌, ◌<◌, All, IfOk, OnOk, length, map, replicate, slice_index, sum, true};
 ghost use Rattle.run_checkpoint.specs.Tallies.{sender, tallies_after, tally_after};
+ghost use Rattle.tally.specs.Tallies.{is_tally};
 ghost use Rattle.tally.specs.declared.tally_limits.TheConstants.TallyLimits.{AMOUNTS};
 ghost use Rattle.workload.specs.Text.{IsWithin};
 
@@ -48,10 +49,15 @@ fn tally_after<A: Allocator + Copy>(
     let from = sender(workload.chares, i);
     let sum = sum_of(&workload.amounts[..rounds as usize], from as usize);
     let pad = zeros(alloc, workload.pad as usize)?;
-    match Tally::after(rounds, sum, Items::new(amounts), pad) {
-        Some(tally) => Ok(tally),
-        None => Err(AllocError),
-    }
+    Ok(made(rounds, sum, Items::new(amounts), pad))
+}
+
+// The tally with these parts.
+fn made<A: Allocator>(rounds: u32, sum: u64, amounts: Items<u32, A>, pad: Bytes<A>) -> Tally<A>
+    requires within { is_tally (record { posted = rounds; got = rounds; sum = sum; amounts = amounts; pad = pad }) ≡ true }
+    ensures value { result ≡ record { posted = rounds; got = rounds; sum = sum; amounts = amounts; pad = pad } }
+{
+    Tally::after(rounds, sum, amounts, pad).unwrap()
 }
 
 // Of this number of chares the one that sends its amounts to chare `i`.

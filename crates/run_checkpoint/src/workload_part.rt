@@ -1,8 +1,7 @@
-ghost use Rattle.std.specs.Prelude.{◌≡◌, ◌⊎◌, ◌≤◌, ◌<◌, ◌^◌, MatchResult, length};
-ghost use Rattle.workload.specs.Text.{IsText, WorkloadView};
-ghost use Rattle.run_checkpoint.specs.Scanning.{IsLineFault, shifted};
+ghost use Rattle.std.specs.Prelude.{◌≡◌, ◌⊎◌, MatchResult};
+ghost use Rattle.workload.specs.Text.{IsText};
+ghost use Rattle.run_checkpoint.specs.Faults.{IsBadWorkload, shifted};
 ghost use Rattle.run_checkpoint.specs.declared.error.CheckpointError.TheVariants.{OutOfMemory};
-ghost use Rattle.run_checkpoint.specs.declared.form.TheConstants.{TEXT_BYTES};
 
 use crate::error::CheckpointError;
 use std::alloc::Allocator;
@@ -18,9 +17,7 @@ pub(crate) fn read_workload<A: Allocator + Copy>(
     before: u32,
     bytes: &[u8],
 ) -> Result<Workload<A>, CheckpointError>
-    requires short { length bytes.now ≤ TEXT_BYTES }
-    ensures { MatchResult result (λ w. IsText w bytes.now × ((v : WorkloadView) → IsText v bytes.now → v ≡ w))
-        (λ e. (e ≡ OutOfMemory) ⊎ (IsLineFault e × ((v : WorkloadView) → IsText v bytes.now → ⊥))) }
+    ensures { MatchResult result (λ w. IsText w bytes.now) (λ e. (e ≡ OutOfMemory) ⊎ IsBadWorkload before bytes.now e) }
 {
     match Workload::parse(alloc, bytes) {
         Ok(workload) => Ok(workload),

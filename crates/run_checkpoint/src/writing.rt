@@ -3,8 +3,7 @@
 ghost use Rattle.std.specs.Prelude.{◌≡◌, ◌++◌, ◌∷◌, [], List, codes, length, OnOk};
 ghost use Rattle.std.specs.List.{flat_map};
 ghost use Rattle.std.specs.String.{string_bytes};
-ghost use Rattle.run_checkpoint.specs.Scanning.{decided_line, places_line};
-ghost use Rattle.run_checkpoint.specs.Text.{checkpoint_text, decision_end, round_lines, round_start};
+ghost use Rattle.run_checkpoint.specs.Text.{checkpoint_text, decided_line, decision_end, places_line, round_lines, round_start};
 ghost use Rattle.run_checkpoint.specs.Writing.{Puts};
 ghost use Rattle.workload.specs.Text.{amounts_text, line, workload_text};
 

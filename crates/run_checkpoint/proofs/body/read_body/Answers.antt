@@ -1,6 +1,6 @@
-use Rattle.std.proofs.Common.{inr}
 use Rattle.std.proofs.lemmas.Result.{err_from_is_err_and}
-use Rattle.run_checkpoint.proofs.BodyParts.{no_rounds, no_places, no_workload, short_places, not_of, body_of}
+use Rattle.run_checkpoint.specs.declared.error.CheckpointError.TheVariants.{Limit}
+use Rattle.run_checkpoint.proofs.BodyParts.{no_rounds, no_places, no_workload, not_of, body_of}
 use Rattle.run_checkpoint.proofs.body.read_body.Goals as goal
 
 pub returns-in_err-behind_rounds : goal.returns-in_err-behind_rounds
@@ -15,33 +15,24 @@ returns-in_err-behind_places g c =
     (no_places c.args.rounds c.args.bytes.now c.read_rounds.new.decided.items c.in_ok-behind_rounds.behind_rounds.now c.in_ok-behind_rounds.ensures
     c.in_err-behind_places.field-0.0 c.in_err-behind_places.ensures)
 
-pub read_workload-requires : goal.read_workload-requires
-read_workload-requires g c = record {
-  short = short_places c.args.rounds c.args.bytes.now c.read_rounds.new.decided.items c.in_ok-behind_rounds.behind_rounds.now c.in_ok-behind_rounds.ensures
-      c.read_places.new.places.items c.in_ok-behind_places.behind_places.now c.in_ok-behind_places.ensures c.requires.short;
-}
-
 pub returns-in_err-workload : goal.returns-in_err-workload
 returns-in_err-workload g c =
     let told = err_from_is_err_and c.from_residual-in_err-workload.result c.from_residual-in_err-workload.ensures.1 in
     rw (told.1, told.2)
     (no_workload c.args.rounds c.args.bytes.now c.read_rounds.new.decided.items c.in_ok-behind_rounds.behind_rounds.now c.in_ok-behind_rounds.ensures
-    c.read_places.new.places.items c.in_ok-behind_places.behind_places.now c.in_ok-behind_places.ensures c.requires.short
+    c.read_places.new.places.items c.in_ok-behind_places.behind_places.now c.in_ok-behind_places.ensures
     c.in_err-workload.field-0.0 c.in_err-workload.ensures)
 
 pub returns-in-Some : goal.returns-in-Some
 returns-in-Some g c =
-    let past = rw (c.deref.ensures.value, c.deref-2.ensures.value) at c.in-Some.ensures in
-    inr (
-      tt,
-      not_of c.args.rounds c.args.bytes.now c.read_rounds.new.decided.items c.in_ok-behind_rounds.behind_rounds.now c.in_ok-behind_rounds.ensures
-          c.read_places.new.places.items c.in_ok-behind_places.behind_places.now c.in_ok-behind_places.ensures c.requires.short
-          _ c.in_ok-workload.ensures.0 c.in_ok-workload.ensures.1 past,
-    )
+    let apart = rw (c.deref.ensures.value, c.deref-2.ensures.value) at c.in-Some.ensures in
+    not_of c.args.rounds c.args.bytes.now c.read_rounds.new.decided.items c.in_ok-behind_rounds.behind_rounds.now c.in_ok-behind_rounds.ensures
+    c.read_places.new.places.items c.in_ok-behind_places.behind_places.now c.in_ok-behind_places.ensures
+    _ c.in_ok-workload.ensures (Limit c.in-Some.line) apart
 
 pub returns : goal.returns
 returns g c =
     let are = rw (c.deref.ensures.value, c.deref-2.ensures.value) at c.in_default.ensures in
     body_of c.args.rounds c.args.bytes.now c.read_rounds.new.decided.items c.in_ok-behind_rounds.behind_rounds.now c.in_ok-behind_rounds.ensures
-    c.read_places.new.places.items c.in_ok-behind_places.behind_places.now c.in_ok-behind_places.ensures c.requires.short
-    _ c.in_ok-workload.ensures.0 c.in_ok-workload.ensures.1 are
+    c.read_places.new.places.items c.in_ok-behind_places.behind_places.now c.in_ok-behind_places.ensures
+    _ c.in_ok-workload.ensures are.0 are.1

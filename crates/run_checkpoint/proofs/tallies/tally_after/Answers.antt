@@ -2,7 +2,7 @@ use Rattle.std.proofs.Common.{◌≡◌, ◌<◌, List, ℕ, map, replicate, sli
 use Rattle.std.specs.Prelude.{All, Vec, sum}
 use Rattle.run_checkpoint.specs.Tallies.{amounts_of, sender}
 use Rattle.std.proofs.lemmas.List.Elements.{All-take}
-use Rattle.run_checkpoint.proofs.Collecting.{collected_rows, row_inside, same_tally, summed}
+use Rattle.run_checkpoint.proofs.Collecting.{collected_rows, row_inside, same_tally, summed, tally_within}
 use Rattle.run_checkpoint.proofs.tallies.tally_after.Goals as goal
 
 pub collect-requires : goal.collect-requires
@@ -21,8 +21,8 @@ sum_of-sum-requires-clause-inside g c =
     (All-take (λ (row : Vec ℕ g.row.A.Denot). c.sender-from.result < length row.items) c.args.rounds rows
     (row_inside rows c.args.workload.now.chares c.sender-from.result (rw is c.requires.within.each_chare) below))
 
-pub returns-in-Some : goal.returns-in-Some
-returns-in-Some g c =
+pub returns : goal.returns
+returns g c =
     let w = c.args.workload.now in
     let rows = c.workload.inside.amounts.items in
     let is : map (λ (row : Vec ℕ g.row.A.Denot). row.items) rows ≡ w.amounts = ap (λ v. v.amounts) c.workload.view_is in
@@ -35,7 +35,18 @@ returns-in-Some g c =
     let amounts : c.new.result ≡ amounts_of w c.args.i = c.new.ensures.value ∙ found ∙ ap (map (λ (row : List ℕ). slice_index row c.args.i)) is in
     let pad : c.in_ok-pad.pad ≡ replicate w.pad 0 = c.in_ok-pad.ensures.value ∙ ap (λ n. replicate n 0) pads in
     record {
-      value = c.in-Some.ensures.value
+      value = c.made.ensures.value
           ∙ same_tally c.args.rounds c.sum_of-sum.result (sum (take c.args.rounds (amounts_of w (sender w.chares c.args.i)))) c.new.result (amounts_of w c.args.i) c.in_ok-pad.pad
           (replicate w.pad 0) total amounts pad;
     }
+
+pub made-requires : goal.made-requires
+made-requires g c =
+    let w = c.args.workload.now in
+    let rows = c.workload.inside.amounts.items in
+    let is : map (λ (row : Vec ℕ g.row.A.Denot). row.items) rows ≡ w.amounts = ap (λ v. v.amounts) c.workload.view_is in
+    let pads : c.workload.inside.pad ≡ w.pad = ap (λ v. v.pad) c.workload.view_is in
+    let found = collected_rows rows c.args.i c.collect.new.amounts.items (rw c.deref.ensures.value at c.in_ok-collect.ensures.collected) in
+    let amounts : c.new.result ≡ amounts_of w c.args.i = c.new.ensures.value ∙ found ∙ ap (map (λ (row : List ℕ). slice_index row c.args.i)) is in
+    let pad : c.in_ok-pad.pad ≡ replicate w.pad 0 = c.in_ok-pad.ensures.value ∙ ap (λ n. replicate n 0) pads in
+    record { within = rw (amounts, pad) (tally_within w c.args.rounds c.args.i c.sum_of-sum.result c.requires.within c.requires.rounds) }

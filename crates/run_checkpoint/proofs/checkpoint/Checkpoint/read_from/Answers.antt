@@ -27,7 +27,7 @@ pub returns-clause-known : goal.returns-clause-known
 returns-clause-known g c =
     let ended = c.in_ok-bytes.ensures.ended in
     whole_known (g.R.Read.remaining c.args.reader.now) (g.R.Read.remaining c.read_whole.new.reader) c.in_ok-bytes.bytes.items c.parse.result ended.0 ended.1
-    (rw c.deref.ensures.value at c.parse.ensures.answer) (rw c.deref.ensures.value at c.parse.ensures.again)
+    (rw c.deref.ensures.value at c.parse.ensures.answer)
 
 pub returns-clause-at_end : goal.returns-clause-at_end
 returns-clause-at_end g c = whole_end (g.R.Read.remaining c.read_whole.new.reader) c.parse.result c.in_ok-bytes.ensures.ended.1
