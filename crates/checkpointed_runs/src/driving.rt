@@ -1,16 +1,19 @@
 //! The run of what is left of a workload.
 
-ghost use Rattle.std.specs.Prelude.{◌≡◌, ◌≤◌, IfOk, length};
-ghost use Rattle.checkpointed_runs.specs.Driving.{EndsFrom, IsLeftFrom, TellsWhole};
+ghost use Rattle.std.specs.Prelude.{◌≡◌, ◌-◌, ◌≤◌, IfOk, None, length};
+ghost use Rattle.checkpointed_runs.specs.Driving.{EndsFrom, IsLeftFrom};
 ghost use Rattle.checkpointed_runs.specs.Whole.{whole_text};
 ghost use Rattle.run_checkpoint.specs.Text.{IsWithin};
 ghost use Rattle.run_text.specs.Sums.{AreTallies};
+ghost use Rattle.workload_run.specs.Lines.{memory_line};
+ghost use Rattle.workload_run.specs.Telling.{TellsOutcome, WritesText};
+ghost use Rattle.workload_run.specs.declared.ended.RunEnd.TheVariants.{OutOfMemory};
 
 use crate::checkpoints::Checkpoints;
 use crate::files::CheckpointFiles;
 use crate::whole::whole_text;
 use at_sync::Strategy;
-use chare_index::{Limits, NoGate};
+use chare_index::{Limits, NoGate, Pe};
 use placed_runs::run_placed;
 use pup_pack::Pup;
 use rts_run::{BodyLimit, Config, History, Outcome};
@@ -20,6 +23,7 @@ use std::io::Write;
 use std::sync::Wait;
 use std::thread::Threads;
 use tally::Tally;
+use workload::Workload;
 use workload_run::{Driven, Onlooker, RunEnd, report_memory, report_text};
 
 /// The capacity of each queue in parcels.
@@ -57,19 +61,71 @@ pub fn drive_from<
     requires within { IsWithin from }
     ensures ends { EndsFrom ⟦<Tally<A> as Pup<A>>⟧.fits strategy from (W.contents writer.old) (W.contents writer.new) result.outcome result.ended }
 {
-    let chares = from.workload.chares as usize;
-    let left = from
-        .workload
-        .rounds
-        .saturating_sub(from.decided.len() as u32);
-    watch.expects(left);
-    let Ok(decided) = Vec::from_slice(alloc, &from.decided) else {
+    let Checkpoint {
+        decided,
+        places,
+        workload,
+    } = from;
+    watch.expects(rounds_left(&decided, &workload));
+    run_rest(
+        rt,
+        alloc,
+        decided,
+        places,
+        workload,
+        writer,
+        turns,
+        strategy,
+        history,
+        watch,
+        checkpoints,
+    )
+}
+
+// How many rounds of a workload are left after these.
+fn rounds_left<A: Allocator>(decided: &[DecidedRound], workload: &Workload<A>) -> u32
+    requires few { length decided.now ≤ workload.now.rounds }
+    ensures value { result ≡ workload.now.rounds - length decided.now }
+{
+    workload.rounds - decided.len() as u32
+}
+
+// The same, of a run with these parts.
+fn run_rest<
+    T: Threads + Wait + Sync,
+    W: Write,
+    V: Onlooker + Sync,
+    F: CheckpointFiles + Drop,
+    A: Allocator + Copy + Send + Sync,
+>(
+    rt: &T,
+    alloc: A,
+    decided: Vec<DecidedRound, A>,
+    places: Vec<Pe, A>,
+    workload: Workload<A>,
+    writer: &mut W,
+    turns: u64,
+    strategy: Strategy,
+    history: History,
+    watch: &V,
+    checkpoints: &mut Checkpoints<'_, F, A>,
+) -> Driven<A>
+    requires some_turn { 1 ≤ turns }
+    requires few_turns { turns ≤ Limits.IDLE_TURNS }
+    requires within { IsWithin (record { decided = decided.items; places = places.items; workload = workload }) }
+    ensures ends { EndsFrom ⟦<Tally<A> as Pup<A>>⟧.fits strategy (record { decided = decided.items; places = places.items; workload = workload })
+        (W.contents writer.old) (W.contents writer.new) result.outcome result.ended }
+{
+    let chares = workload.chares as usize;
+    let Ok(before) = Vec::from_slice(alloc, &decided) else {
         return without_run(report_memory(writer));
     };
     match outcome_from(
         rt,
         alloc,
-        from,
+        decided,
+        places,
+        workload,
         turns,
         strategy,
         history,
@@ -77,7 +133,7 @@ pub fn drive_from<
         checkpoints,
     ) {
         Ok(outcome) => {
-            let ended = tell_whole(alloc, &decided, chares, &outcome, writer);
+            let ended = tell_whole(alloc, &before, chares, &outcome, writer);
             Driven {
                 ended,
                 outcome: Some(outcome),
@@ -107,7 +163,9 @@ fn outcome_from<
 >(
     rt: &T,
     alloc: A,
-    from: Checkpoint<A>,
+    decided: Vec<DecidedRound, A>,
+    places: Vec<Pe, A>,
+    workload: Workload<A>,
     turns: u64,
     strategy: Strategy,
     history: History,
@@ -116,11 +174,11 @@ fn outcome_from<
 ) -> Result<Outcome<Tally<A>, A>, AllocError>
     requires some_turn { 1 ≤ turns }
     requires few_turns { turns ≤ Limits.IDLE_TURNS }
-    requires within { IsWithin from }
-    ensures left { IfOk result (IsLeftFrom ⟦<Tally<A> as Pup<A>>⟧.fits from strategy) }
+    requires within { IsWithin (record { decided = decided.items; places = places.items; workload = workload }) }
+    ensures left { IfOk result (IsLeftFrom ⟦<Tally<A> as Pup<A>>⟧.fits (record { decided = decided.items; places = places.items; workload = workload }) strategy) }
 {
     let config = Config {
-        pes: from.workload.pes,
+        pes: workload.pes,
         capacity: CAPACITY,
         turns,
         probe_workers: PROBE_WORKERS,
@@ -128,12 +186,7 @@ fn outcome_from<
         strategy,
         history,
     };
-    let chares = tallies_after(alloc, &from.workload, from.decided.len() as u32)?;
-    let Checkpoint {
-        decided,
-        places,
-        workload,
-    } = from;
+    let chares = tallies_after(alloc, &workload, decided.len() as u32)?;
     checkpoints.begin(&places, decided, workload);
     match run_placed(
         rt,
@@ -162,7 +215,7 @@ fn tell_whole<W: Write, A: Allocator + Copy>(
     writer: &mut W,
 ) -> RunEnd
     requires tallies { AreTallies chares outcome.now }
-    ensures told { TellsWhole (whole_text decided.now chares outcome.now) (W.contents writer.old) (W.contents writer.new) outcome.now.fault result }
+    ensures told { TellsOutcome (whole_text decided.now chares outcome.now) (W.contents writer.old) (W.contents writer.new) outcome.now.fault result }
 {
     let Ok(text) = whole_text(alloc, decided, chares, outcome) else {
         return report_memory(writer);
