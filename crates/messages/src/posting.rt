@@ -42,7 +42,7 @@ pub fn post<M: Pup<A>, P: Drop, A: Allocator + Copy>(
     if sends.count() == Limits::LETTERS {
         return Err(SendError::Worn);
     }
-    match pack_of(sends.allocator(), message) {
+    match pack_of(sends.allocator(), len, message) {
         Ok(body) => sends.put_vec(to, body),
         Err(error) => Err(error),
     }
@@ -76,7 +76,7 @@ pub fn broadcast<M: Pup<A>, P: Drop, A: Allocator + Copy>(
     if sends.count().saturating_add(u64::from(sends.n())) > Limits::LETTERS {
         return Err(SendError::Worn);
     }
-    match pack_of(sends.allocator(), message) {
+    match pack_of(sends.allocator(), len, message) {
         Ok(body) => put_to_all(sends, &body),
         Err(error) => Err(error),
     }
@@ -104,14 +104,18 @@ fn put_to_all<P: Drop, A: Allocator + Copy>(
     Ok(())
 }
 
-// The pack of a message, which is short. A list that is too long is refused as too long.
-fn pack_of<M: Pup<A>, A: Allocator>(alloc: A, message: &M) -> Result<Vec<u8, A>, SendError>
+// The pack of a message, which is short, in memory for so many bytes. A list that is too long is refused as too long.
+fn pack_of<M: Pup<A>, A: Allocator>(
+    alloc: A,
+    len: u32,
+    message: &M,
+) -> Result<Vec<u8, A>, SendError>
     requires short { length (M.pack message.now) ≤ STATE_BYTES }
     ensures value { IfOk result (λ body. body.items ≡ M.pack message.now) }
     ensures packs { OnOk result (M.counted message.now) }
     ensures refused { IfErr result (RefusesPack (M.counted message.now)) }
 {
-    let mut body = Vec::new(alloc);
+    let mut body = Vec::with_capacity(alloc, len as usize)?;
     match message.pack_into(&mut body) {
         Ok(()) => Ok(body),
         Err(PupError::TooLong) => Err(SendError::TooLong),
