@@ -29,12 +29,15 @@ status_of (Refused fault) = 3
 status_of OutOfMemory = 5
 status_of WriteFailed = 5
 
--- what the writer holds where this fault was met: its line, which is that for refused memory where a request for memory was refused,
--- or a prefix of one
+-- this line was written, and it belongs to this end; or a prefix of it was
+abbrev pub WritesLine : List ℕ → NoCheckpoint → Option (List ℕ) → Option (List ℕ) → NoCheckpoint → Type 0
+WritesLine line unread old new result =
+    ((result ≡ unread) × Appends old new line) ⊎ ((result ≡ WriteFailed) × WritesPrefix old new line)
+
+-- the line of a fault of a checkpoint was written, or the line for refused memory, or a prefix of one
 abbrev pub ReportsUnread : CheckpointError → Option (List ℕ) → Option (List ℕ) → NoCheckpoint → Type 0
-ReportsUnread fault old new (Refused e) = (e ≡ fault) × (fault ≢ Why.OutOfMemory) × Appends old new (checkpoint_line fault)
-ReportsUnread fault old new OutOfMemory = Appends old new memory_line
-ReportsUnread fault old new WriteFailed = WritesPrefix old new (checkpoint_line fault) ⊎ WritesPrefix old new memory_line
+ReportsUnread fault old new result =
+    ((fault ≢ Why.OutOfMemory) × WritesLine (checkpoint_line fault) (Refused fault) old new result) ⊎ WritesLine memory_line OutOfMemory old new result
 
 -- Where the bytes of the reader are known, the checkpoint is the one that they are the text of, and nothing was written. Otherwise the
 -- fault is that of these bytes, or that the reader failed, or that memory was refused.

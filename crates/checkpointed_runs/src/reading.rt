@@ -2,10 +2,11 @@
 
 ghost use Rattle.std.specs.Prelude.{◌≡◌, ◌≢◌, ◌⊎◌, ℕ, List, Option, Some, IfErr, IfOk, IsErr};
 ghost use Rattle.std.specs.String.{string_bytes};
-ghost use Rattle.checkpointed_runs.specs.Lines.{ReadsCheckpoint, ReportsUnread, checkpoint_line, status_of};
-ghost use Rattle.checkpointed_runs.specs.declared.reading.NoCheckpoint.{NoCheckpoint};
+ghost use Rattle.checkpointed_runs.specs.Lines.{ReadsCheckpoint, ReportsUnread, WritesLine, checkpoint_line, status_of};
+ghost use Rattle.checkpointed_runs.specs.declared.reading.NoCheckpoint.TheVariants.{OutOfMemory};
 ghost use Rattle.run_checkpoint.specs.Text.{IsWithin};
 ghost use Rattle.run_checkpoint.specs.declared.error.CheckpointError.TheVariants as Why;
+ghost use Rattle.workload_run.specs.Lines.{memory_line};
 
 use run_checkpoint::{Checkpoint, CheckpointError};
 use std::alloc::{AllocError, Allocator};
@@ -93,20 +94,25 @@ fn report<A: Allocator, W: Write>(alloc: A, writer: &mut W, fault: CheckpointErr
     let Ok(line) = fault_line(alloc, fault) else {
         return report_memory(writer);
     };
-    if write_out(writer, line.as_bytes()) {
-        return NoCheckpoint::Refused(fault);
-    }
-    NoCheckpoint::WriteFailed
+    report_line(writer, line.as_bytes(), NoCheckpoint::Refused(fault))
 }
 
 // Writes the line for refused memory.
 fn report_memory<W: Write>(writer: &mut W) -> NoCheckpoint
-    ensures reported { ReportsUnread Why.OutOfMemory (W.contents writer.old) (W.contents writer.new) result }
+    ensures written { WritesLine memory_line OutOfMemory (W.contents writer.old) (W.contents writer.new) result }
 {
-    if write_out(writer, NO_MEMORY.as_bytes()) {
-        return NoCheckpoint::OutOfMemory;
+    report_line(writer, NO_MEMORY.as_bytes(), NoCheckpoint::OutOfMemory)
+}
+
+// Writes a line, and returns `unread`, or that the writer failed.
+fn report_line<W: Write>(writer: &mut W, line: &[u8], unread: NoCheckpoint) -> NoCheckpoint
+    ensures written { WritesLine line.now unread (W.contents writer.old) (W.contents writer.new) result }
+{
+    if write_out(writer, line) {
+        unread
+    } else {
+        NoCheckpoint::WriteFailed
     }
-    NoCheckpoint::WriteFailed
 }
 
 // The line of a fault of a checkpoint. The only error is that memory was refused.
