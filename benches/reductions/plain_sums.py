@@ -1,5 +1,5 @@
 #!/usr/bin/env python3
-"""Prints what `tests_reductions` expects of sums of doubles and of numbers of digits, by plain arithmetic.
+"""Prints what `runs/tests_programs/src/reductions` expects of sums of doubles and of numbers of digits, by plain arithmetic.
 
 usage: benches/reductions/plain_sums.py
 

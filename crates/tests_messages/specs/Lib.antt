@@ -1,2 +1,0 @@
-pub mod Bulks
-pub mod Gossips

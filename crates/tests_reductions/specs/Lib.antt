@@ -1,3 +1,0 @@
-pub mod Givers
-pub mod Numerals
-pub mod Spans

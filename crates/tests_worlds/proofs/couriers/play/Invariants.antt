@@ -1,4 +1,0 @@
-use Rattle.tests_worlds.proofs.couriers.play.Given as goal
-
-abbrev pub ghosts-plays : goal.ghosts-plays
-ghosts-plays g a = record { opened = a.chares.items; pes = a.pes }

@@ -1,0 +1,109 @@
+#!/usr/bin/env python3
+"""Makes a tree with crates that are kept as text: those here, and those of benches/programs.
+
+usage: runs/tree.py FOLDER [NAME ..]      makes FOLDER/tree, with the crates here of these names, or all
+       runs/tree.py --fmt                 lays their files out here, as rt fmt does
+
+The files of such a crate end with .txt, since the toolchain refuses .rt and .antt files that belong to no crate of crates.txt.
+Its file `crate` is its line there. The tree has it with the plain endings, beside a copy of the crates that it stands on.
+"""
+
+import glob
+import os
+import shutil
+import subprocess
+import sys
+import tempfile
+
+HERE = os.path.dirname(os.path.abspath(__file__))
+TOP = os.path.dirname(HERE)
+
+
+def names_in(folder=HERE):
+    """The crates that a folder keeps as text, by name."""
+    return sorted(os.path.basename(os.path.dirname(it)) for it in glob.glob(os.path.join(folder, "*", "crate")))
+
+
+def lines_of(path):
+    """The lines of a crates.txt, by the names of the crates."""
+    with open(path, encoding="utf-8") as file:
+        return {it.split(":")[0].split()[0]: it.strip() for it in file if it.strip() and not it.startswith("#")}
+
+
+def below(names, lines):
+    """The crates of the tree that these stand on."""
+    found, left = set(), list(names)
+    while left:
+        for name in lines[left.pop()].split(":")[1].split():
+            if name in lines and name not in found:
+                found.add(name)
+                left.append(name)
+    return found
+
+
+def text_files(source):
+    """The files of a crate that is kept as text, each with the place that it has in a tree."""
+    for folder, _, files in os.walk(source):
+        for file in (it for it in files if it.endswith(".txt")):
+            path = os.path.join(folder, file)
+            yield path, os.path.relpath(path, source).removesuffix(".txt")
+
+
+def put(source, crate):
+    """Makes a crate of the files that are kept as text. What was proved of it before stays."""
+    for part in ("src", "specs", "proofs"):
+        shutil.rmtree(os.path.join(crate, part), ignore_errors=True)
+    for path, place in text_files(source):
+        target = os.path.join(crate, place)
+        os.makedirs(os.path.dirname(target), exist_ok=True)
+        shutil.copy2(path, target)
+
+
+def copy(source, crate, is_proved):
+    """Copies a crate of the tree, with what is proved of it or without."""
+    os.makedirs(crate, exist_ok=True)
+    parts = [os.path.join(source, it) for it in sorted(os.listdir(source)) if is_proved or it != "out"]
+    subprocess.run(["cp", "-au", "--reflink=auto", *parts, crate], check=True)
+
+
+def made(folder, sources, is_proved=False):
+    """Makes FOLDER/tree with the crates of these folders and what they stand on, which is copied with its proofs or without."""
+    tree = os.path.join(os.path.abspath(folder), "tree")
+    lines = lines_of(os.path.join(TOP, "crates.txt"))
+    kept = {name: line for it in sources for name, line in lines_of(os.path.join(it, "crate")).items()}
+    wanted = below(kept, lines | kept)
+    for name in wanted:
+        copy(os.path.join(TOP, "crates", name), os.path.join(tree, "crates", name), is_proved)
+    for source in sources:
+        put(source, os.path.join(tree, "crates", os.path.basename(source)))
+    shutil.copy2(os.path.join(TOP, "HANDLES"), tree)
+    with open(os.path.join(tree, "crates.txt"), "w", encoding="utf-8") as file:
+        file.writelines(f"{lines[it]}\n" for it in lines if it in wanted)
+        file.writelines(f"{it}\n" for it in kept.values())
+    return tree
+
+
+def lay_out(source):
+    """Lays out the files of a crate that is kept as text."""
+    with tempfile.TemporaryDirectory() as folder:
+        crate = os.path.join(folder, os.path.basename(source))
+        put(source, crate)
+        shutil.copy2(os.path.join(source, "crate"), os.path.join(folder, "crates.txt"))
+        subprocess.run(["rt", "fmt"], cwd=crate, check=True)
+        for path, place in text_files(source):
+            shutil.copyfile(os.path.join(crate, place), path)
+
+
+def main(words):
+    if words == ["--fmt"]:
+        for name in names_in():
+            lay_out(os.path.join(HERE, name))
+    elif words and not words[0].startswith("-") and set(words[1:]) <= set(names_in()):
+        print(made(words[0], [os.path.join(HERE, it) for it in words[1:] or names_in()]))
+    else:
+        print(__doc__)
+        sys.exit(0 if words in (["--help"], ["-h"]) else 2)
+
+
+if __name__ == "__main__":
+    main(sys.argv[1:])
