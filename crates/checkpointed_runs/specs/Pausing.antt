@@ -1,8 +1,8 @@
 -- When a checkpoint is written of a run that pauses or has ended, and what it holds.
-use Rattle.std.specs.Prelude.{◌≡◌, ℕ, ◌+◌, ◌-◌, ◌<◌, ◌≤◌, List, [], ◌++◌, length, map, Option, None, Some, Result, Ok, Err, ⊤, slice_get}
+use Rattle.std.specs.Prelude.{◌≡◌, ℕ, ◌+◌, ◌<◌, ◌≤◌, List, [], ◌++◌, length, map, Option, None, Some, Result, Ok, Err, ⊤}
 use Rattle.std.specs.List.{range_with_len}
 use Rattle.std.specs.Option.{option_map_or}
-use Rattle.at_sync.specs.Boards.{BoardState, Kept}
+use Rattle.at_sync.specs.Boards.{BoardState, Kept, decision_of}
 use Rattle.checkpointed_runs.specs.Keeping.{Asked, Keeps}
 use Rattle.lb_database.specs.Measuring.{elements}
 use Rattle.lb_refinement.specs.Refined.{refined_bottleneck, refined_cuts, refined_moved, refined_names}
@@ -25,7 +25,7 @@ places_by d n = map (λ e. planned_pe (refined_cuts d) (refined_names d) e) (ran
 
 -- where the last decision of a board has each of its elements
 abbrev pub last_places : {A : Type 0} → BoardState A → List ℕ
-last_places b = option_map_or (λ kept. places_by kept.1 (elements b.database)) (slice_get b.rounds (length b.rounds - 1)) []
+last_places b = option_map_or (λ d. places_by d (elements b.database)) (decision_of b (length b.rounds)) []
 
 -- a checkpoint is due once n rounds of a run were decided: some since the last one, which came after this many, and at least so many
 pub record IsDue (written least n : ℕ) : Type 0 where

@@ -1,19 +1,21 @@
 //! Checkpoints that are written where a run pauses.
 
-ghost use Rattle.std.specs.Prelude.{◌≡◌, ◌<◌, ◌≤◌, None, Some, IfOk, IsFalse, IsTrue, IsSome, ◌↔◌, ℕ, length};
-ghost use Rattle.std.specs.Option.{option_map};
+ghost use Rattle.std.specs.Prelude.{◌≡◌, ◌<◌, ◌≤◌, None, Some, IfOk, IfSome, IsFalse, IsTrue, IsSome, ◌↔◌, ℕ, length};
+ghost use Rattle.std.specs.Option.{option_copied, option_map};
 ghost use Rattle.std.specs.String.{string_bytes};
+ghost use Rattle.at_sync.specs.Boards.{decision_of};
 ghost use Rattle.checkpointed_runs.specs.Keeping.{Keeps, new_name};
 ghost use Rattle.checkpointed_runs.specs.Lines.{kept_line};
 ghost use Rattle.checkpointed_runs.specs.Pausing.{IsDue, KeepsAt, KeepsNoted, all_decided, first_failure, last_places, places_by};
-ghost use Rattle.lb_refinement.specs.Refined.{refined_cuts, refined_names};
+ghost use Rattle.lb_database.specs.Measuring.{elements};
+ghost use Rattle.lb_refinement.specs.Refined.{refined_bottleneck, refined_cuts, refined_moved, refined_names};
 ghost use Rattle.lb_strategy.specs.Moves.{HasPlace};
 ghost use Rattle.streams.specs.Writing.{WritesPrefix};
 
 use crate::files::{CheckpointFiles, replace};
 use at_sync::Board;
 use carried_runs::Pauses;
-use chare_index::{Index, Limits, Pe};
+use chare_index::{Index, Limits, Pe, Round};
 use chares::Chare;
 use lb_refinement::Refined;
 use lb_snapshot::Snapshot;
@@ -234,13 +236,20 @@ fn all_decided<A: Allocator>(
     ensures value { IfOk result (λ all. all.items ≡ all_decided before.now rounds.now) }
 {
     let mut all = Vec::from_slice(alloc, before)?;
-    for (_, decision) in rounds {
-        all.push(DecidedRound {
-            bottleneck: decision.bottleneck(),
-            moved: decision.moved(),
-        })?;
+    for kept in rounds {
+        all.push(round_of(&kept.1))?;
     }
     Ok(all)
+}
+
+// What a checkpoint keeps of a round.
+fn round_of<A: Allocator>(decision: &Refined<A>) -> DecidedRound
+    ensures value { result ≡ record { bottleneck = refined_bottleneck decision.now; moved = refined_moved decision.now } }
+{
+    DecidedRound {
+        bottleneck: decision.bottleneck(),
+        moved: decision.moved(),
+    }
 }
 
 // Where the last decision of a board has each element; nowhere without one. The only error is that memory was refused.
@@ -248,10 +257,22 @@ fn last_places<A: Allocator>(alloc: A, board: &Board<A>) -> Result<Vec<Pe, A>, A
     ensures value { IfOk result (λ places. places.items ≡ last_places board.now) }
 {
     let n = board.len() as u32;
-    match board.rounds().last() {
-        Some((_, decision)) => places_by(alloc, decision, n),
+    match last_decision(board) {
+        Some(decision) => places_by(alloc, decision, n),
         None => Ok(Vec::new(alloc)),
     }
+}
+
+// The decision of the last round of a board.
+fn last_decision<A: Allocator>(board: &Board<A>) -> Option<&Refined<A>>
+    ensures value { option_copied result ≡ decision_of board.now (length board.now.rounds) }
+    ensures placed { IfSome result (λ d. (e : ℕ) → e < elements board.now.database → HasPlace (refined_cuts d.now) (refined_names d.now) e) }
+{
+    let _measured = board.len();
+    let rounds = board.rounds();
+    let count = rounds.len() as u32;
+    let round = Round::new(count).unwrap();
+    board.decision_for(round)
 }
 
 // Where a decision has each of `n` elements. The only error is that memory was refused.

@@ -7,20 +7,22 @@ use Rattle.placed_runs.proofs.Placing.{placed_counted}
 use Rattle.placed_runs.proofs.Stopped.{placed_adds_up, stopped_outcome}
 use Rattle.placed_runs.proofs.opening.outcome_as.Goals as goal
 
-pub new-2-requires-clause-few_pes : goal.new-2-requires-clause-few_pes
-new-2-requires-clause-few_pes g c =
-    omega (arith, ap length c.in_ok-ends.ensures.value, placed_counted c.args.pes c.args.places.items c.args.chares.items, c.get.ensures.few_pes)
+pub new-requires-2-clause-few_pes : goal.new-requires-2-clause-few_pes
+new-requires-2-clause-few_pes g c =
+    let value = rw c.deref.ensures.value at c.in_ok-ends.ensures.value in
+    omega (arith, ap length value, placed_counted c.args.pes c.args.places.items c.args.chares.items, c.get.ensures.few_pes)
 
-pub new-2-requires-clause-counted : goal.new-2-requires-clause-counted
-new-2-requires-clause-counted g c =
+pub new-requires-2-clause-counted : goal.new-requires-2-clause-counted
+new-requires-2-clause-counted g c =
     placed_adds_up c.args.pes c.args.places.items c.args.chares.items c.requires.one_each c.requires.named g.C.Chare.step c.in_ok-ends.ends.items _
-    c.in_ok-ends.ensures.value c.in_ok-left.ensures.value
+    (rw c.deref.ensures.value at c.in_ok-ends.ensures.value) c.in_ok-left.ensures.value
 
 pub returns-clause-outcome : goal.returns-clause-outcome
 returns-clause-outcome g c =
     let same : length c.args.chares.items ≡ c.len-n.result = omega arith in
     let board : c.in_ok-board.board ≡ new_board (length c.args.chares.items) c.args.pes c.args.strategy = c.in_ok-board.ensures.made ∙ rw (same, c.get.ensures.value) refl in
-    let ends = c.new-2.ensures.ends ∙ c.in_ok-ends.ensures.value in
+    let value = rw c.deref.ensures.value at c.in_ok-ends.ensures.value in
+    let ends = c.new-2.ensures.ends ∙ value in
     let left = c.new-2.ensures.left ∙ c.in_ok-left.ensures.value in
     stopped_outcome c.args.pes c.args.places.items c.args.chares.items c.requires.one_each c.requires.named g.C.Chare.step g.C.Pup.fits g.C.Pup.pack
     g.C.Chare.refuses c.args.strategy c.new-2.result c.new-2.ensures.homes ends left (c.new-2.ensures.board ∙ board) c.new-2.ensures.fault c.get.ensures.some_pe c.get.ensures.few_pes
@@ -31,7 +33,7 @@ pub returns-clause-fault : goal.returns-clause-fault
 returns-clause-fault g c = c.new-2.ensures.fault
 
 pub returns-clause-placed : goal.returns-clause-placed
-returns-clause-placed g c = c.new-2.ensures.ends ∙ c.in_ok-ends.ensures.value
+returns-clause-placed g c = let value = rw c.deref.ensures.value at c.in_ok-ends.ensures.value in c.new-2.ensures.ends ∙ value
 
 pub returns-clause-left : goal.returns-clause-left
 returns-clause-left g c = c.new-2.ensures.left ∙ c.in_ok-left.ensures.value

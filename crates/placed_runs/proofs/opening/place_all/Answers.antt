@@ -28,8 +28,11 @@ loop-chare-preserved g c =
     let taken : c.loop-chare.left.items ≡ c.in-Some.chare ∷ c.take_next.new.left.items = c.in-Some.ensures.taken in
     let next = drop_next g.H.Openings.opened c.loop-chare.e c.in-Some.chare c.take_next.new.left.items (sym taken ∙ inv.what_is_left) in
     let inside : c.loop-chare.e < length c.args.places.now = omega (arith, inv.counted, ap length taken) in
-    let told : drop c.loop-chare.e c.args.places.now ≡ get_or c.args.places.now c.loop-chare.e 0 ∷ drop (c.loop-chare.e + 1) c.args.places.now =
-    rw (add-one, drop-cons c.args.places.now c.loop-chare.e 0) in
+    let place = c.index-places-e.result in
+    let split : drop c.loop-chare.e c.args.places.now ≡ get_or c.args.places.now c.loop-chare.e place ∷ drop (c.loop-chare.e + 1) c.args.places.now =
+    rw (add-one, drop-cons c.args.places.now c.loop-chare.e place) in
+    let told : drop c.loop-chare.e c.args.places.now ≡ place ∷ drop (c.loop-chare.e + 1) c.args.places.now =
+    split ∙ ap (λ (v : ℕ). v ∷ drop (c.loop-chare.e + 1) c.args.places.now) (sym c.index-places-e.is) in
     record {
       same_placed = placed_next c.loop-chare.pes.items c.place_told.new.pes.items c.loop-chare.e c.index_at-index.result _ c.in-Some.chare
           c.loop-chare.left.items c.take_next.new.left.items (drop c.loop-chare.e c.args.places.now) (drop (c.loop-chare.e + 1) c.args.places.now) _

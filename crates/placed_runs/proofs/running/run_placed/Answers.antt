@@ -4,8 +4,8 @@ use Rattle.rts_run.specs.Configs.{MayBegin, RefusesRun}
 use Rattle.rts_run.specs.Outcomes.{IsOutcome}
 use Rattle.placed_runs.proofs.running.run_placed.Goals as goal
 
-pub carry_on_in_parts-requires : goal.carry_on_in_parts-requires
-carry_on_in_parts-requires g c =
+pub carry_on_in_parts-requires-clause-earlier : goal.carry_on_in_parts-requires-clause-earlier
+carry_on_in_parts-requires-clause-earlier g c =
     subst (λ (v : List g.row.C.Denot). IsOutcome g.C.Chare.step g.C.Pup.fits g.C.Pup.pack g.C.Chare.refuses v c.args.config.now.pes
     c.args.config.now.strategy c.in-Ok.outcome) (sym (ap (λ v. v.items) c.of-opening.ensures))
     (subst (λ (v : ℕ). IsOutcome g.C.Chare.step g.C.Pup.fits g.C.Pup.pack g.C.Chare.refuses c.args.chares.items v
