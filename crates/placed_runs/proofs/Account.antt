@@ -1,16 +1,16 @@
 -- The account of PEs on which chares were placed: nothing is posted, and each element is in one place.
-use Rattle.std.proofs.Common.{◌≡◌, ◌∙◌, ℕ, suc, ◌+◌, ◌<◌, ◌≤◌, List, [], ◌∷◌, ◌++◌, length, map, replicate, Option, Some, None, sum_by, arith, refl, sym, ap, zero-add}
-use Rattle.std.specs.Prelude.{All, slice_get, nat_lt, ◌==◌, if◌then◌else◌}
+use Rattle.std.proofs.Common.{◌≡◌, ◌∙◌, ℕ, suc, ◌+◌, ◌≤◌, List, [], ◌∷◌, ◌++◌, length, map, replicate, Option, Some, None, sum_by, arith, refl, sym, ap}
+use Rattle.std.specs.Prelude.{slice_get, nat_lt, ◌==◌, if◌then◌else◌}
 use Rattle.std.specs.List.{flat_map, range_with_len}
 use Rattle.std.proofs.lemmas.Bool.Decides.{nat_tests}
 use Rattle.std.proofs.lemmas.List.Sums.{sum_by-cons}
 use Rattle.chares.specs.Steps.{Step}
-use Rattle.pe_state.specs.Pes.{PeView, Parcel}
+use Rattle.pe_state.specs.Pes.{PeView}
 use Rattle.at_sync.specs.declared.strategy.Strategy.TheVariants.{Least}
 use Rattle.rts_core.specs.Accounts.{times, is_number, message, AreSent, IsCounted}
 use Rattle.rts_core.specs.Places.{Life, letters, lives, journaled, sends_of, sends}
 use Rattle.rts_core.specs.Worlds.{WorldView}
-use Rattle.rts_core.proofs.Weights.{Weight, weigh, of_pe, of_queue, sum_by-flat_map}
+use Rattle.rts_core.proofs.Weights.{Weight, weigh, of_pe, sum_by-flat_map}
 use Rattle.rts_core.proofs.WorldSteps.{known}
 use Rattle.rts_core.proofs.Listings.{no_life, no_letter, sum_zero, world_letters, world_lives, world_journals}
 use Rattle.rts_core.proofs.LocalBalance.{in_journal}

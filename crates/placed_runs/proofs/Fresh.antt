@@ -1,6 +1,6 @@
 -- The elements of PEs on which nothing has happened: none has a mark, and none is packed.
-use Rattle.std.proofs.Common.{◌≡◌, ◌∙◌, ℕ, zero, suc, ◌+◌, ◌<◌, ◌≤◌, List, [], ◌∷◌, length, map, replicate, Option, Some, None, arith, refl, sym, ap, subst}
-use Rattle.std.specs.Prelude.{All, IfSome, IsSomeAnd, get_or, slice_get, slice_set}
+use Rattle.std.proofs.Common.{◌≡◌, ℕ, ◌+◌, ◌<◌, ◌≤◌, List, [], ◌∷◌, length, map, replicate, Option, Some, None, arith, refl, sym, subst}
+use Rattle.std.specs.Prelude.{All, IfSome, get_or, slice_get}
 use Rattle.std.specs.List.{range_with_len}
 use Rattle.std.specs.Map.{values_of}
 use Rattle.std.specs.Ordering.{nat_cmp}
@@ -13,7 +13,7 @@ use Rattle.at_sync.specs.declared.strategy.Strategy.{Strategy}
 use Rattle.chares.specs.Elements.{ElementView, opening_element}
 use Rattle.chares.specs.declared.note.Mark.{Mark}
 use Rattle.lb_database.specs.Measuring.{elements}
-use Rattle.pe_state.specs.Pes.{PeView, Parcel, Item, new_pe, placed}
+use Rattle.pe_state.specs.Pes.{PeView, Item, new_pe, placed}
 use Rattle.round_marks.specs.Marked.{AreMarked, IsResumptionMark, IsSyncMark}
 use Rattle.round_marks.specs.Runs.{AreAllMarked, IsMarked, IsMarkedOn, IsMarkedParcel, IsMarkedPe}
 use Rattle.rts_core.specs.Worlds.{placed_on}

@@ -1,9 +1,9 @@
 -- What chares leave that were placed on told PEs, by a run that was stopped before its first event, is an outcome.
-use Rattle.std.proofs.Common.{◌≡◌, ◌∙◌, ℕ, suc, ◌+◌, ◌<◌, ◌≤◌, List, [], ◌∷◌, length, map, replicate, Option, Some, None, arith, refl, sym, ap, subst}
-use Rattle.std.specs.Prelude.{All, IfSome, slice_get}
+use Rattle.std.proofs.Common.{◌≡◌, ◌∙◌, ℕ, suc, ◌+◌, ◌<◌, ◌≤◌, List, [], ◌∷◌, length, map, replicate, Some, arith, refl, ap, subst}
+use Rattle.std.specs.Prelude.{All, slice_get}
 use Rattle.std.specs.List.{range_with_len}
 use Rattle.std.proofs.lemmas.List.{length-replicate}
-use Rattle.at_sync.specs.Boards.{BoardState, IsBoard, new_board}
+use Rattle.at_sync.specs.Boards.{IsBoard, new_board}
 use Rattle.at_sync.specs.declared.strategy.Strategy.{Strategy}
 use Rattle.at_sync.proofs.Rounds.{board_new}
 use Rattle.chare_index.specs.declared.limits.TheConstants.Limits.{PES}
@@ -12,10 +12,7 @@ use Rattle.chares.specs.Steps.{Step}
 use Rattle.lb_database.specs.Measuring.{elements}
 use Rattle.pe_state.specs.Histories.{HasHistories}
 use Rattle.pe_state.specs.Pes.{PeView, Parcel}
-use Rattle.pe_worker.specs.Causes.{HasCause}
-use Rattle.pe_worker.specs.declared.fault.Fault.{Fault}
 use Rattle.pe_worker.specs.declared.fault.Fault.TheVariants.{Stopped}
-use Rattle.round_marks.specs.Runs.{AreAllMarked}
 use Rattle.rts_core.specs.Accounts.{IsCounted}
 use Rattle.rts_core.specs.Histories.{AreHistories}
 use Rattle.rts_core.proofs.Openings.{opening_run}
@@ -24,7 +21,7 @@ use Rattle.run_account.specs.RunAccounts.{IsRunAccount, left_world}
 use Rattle.rts_run.specs.Outcomes.{IsOutcome, OutcomeView}
 use Rattle.rts_run.proofs.Rounds.{decided_on}
 use Rattle.placed_runs.specs.Placed.{placed_pes}
-use Rattle.placed_runs.proofs.Account.{counted_none, placed_account}
+use Rattle.placed_runs.proofs.Account.{placed_account}
 use Rattle.placed_runs.proofs.Fresh.{placed_marked}
 use Rattle.placed_runs.proofs.Placing.{placed_counted, states_open, states_weigh}
 

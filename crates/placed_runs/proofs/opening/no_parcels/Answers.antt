@@ -1,6 +1,6 @@
 use Rattle.std.proofs.Common.{◌≡◌, ◌∙◌, ap, arith, map}
 use Rattle.std.proofs.lemmas.List.{map-append}
-use Rattle.rts_core.proofs.Openings.{none_made, replicate_more}
+use Rattle.rts_core.proofs.Openings.{replicate_more}
 use Rattle.placed_runs.proofs.opening.no_parcels.Goals as goal
 
 pub loop-q-preserved : goal.loop-q-preserved
