@@ -2,7 +2,7 @@
 use Rattle.std.proofs.Common.{◌≡◌, inl, ℕ, List, Option, None, Some, Result, Ok, Err, refl}
 use Rattle.std.specs.Prelude.{⊤}
 use Rattle.checkpointed_runs.specs.Keeping.{Asked, Keeps}
-use Rattle.checkpointed_runs.specs.Pausing.{KeepsAt}
+use Rattle.checkpointed_runs.specs.Pausing.{KeepsAt, KeepsNoted, first_failure}
 use Rattle.run_checkpoint.specs.declared.checkpoint.DecidedRound.{DecidedRound}
 use Rattle.workload.specs.Text.{WorkloadView}
 
@@ -27,3 +27,11 @@ module _ {E : Type 0} (name : Option (List ℕ)) (workload : Option WorkloadView
   pub kept_named : (n : List ℕ) (w : WorkloadView) (old now : Option (List Asked)) (kept : Result ⊤ E) → name ≡ Some n → workload ≡ Some w
       → Keeps n (record { decided = decided; places = places; workload = w }) old now kept → KeepsAt name workload decided places old now kept
   kept_named n w old now kept named begun keeps = rw (named, begun) keeps
+
+  -- no reason is noted where no checkpoint is kept
+  pub noted_unnamed : (asked : Option (List Asked)) (failed : Option E) → name ≡ None → KeepsNoted name workload decided places asked asked failed failed
+  noted_unnamed asked failed none = (Ok tt, kept_unnamed asked (Ok tt) none, unfailed failed)
+    where
+      unfailed : (f : Option E) → f ≡ first_failure {E = E} f (Ok tt)
+      unfailed None = refl
+      unfailed (Some e) = refl

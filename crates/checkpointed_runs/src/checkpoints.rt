@@ -80,7 +80,7 @@ impl<'a, F: CheckpointFiles + Drop, A: Allocator + Copy> Checkpoints<'a, F, A> {
         self.name.is_some()
     }
 
-    /// Why the first checkpoint was not kept that was not, if there is one. Those after it are written all the same.
+    /// The first reason why a checkpoint was not kept, if there is one. Those after it are written all the same.
     pub fn failed(&self) -> Option<io::Error>
         ensures value { result ≡ self.now.failed }
     {
@@ -108,6 +108,7 @@ impl<'a, F: CheckpointFiles + Drop, A: Allocator + Copy> Checkpoints<'a, F, A> {
     /// The run has paused, and has left this so far. Writes the checkpoint after its last round, where enough rounds have come by since the
     /// one before.
     pub fn follow<C: Chare<A>>(&mut self, outcome: &Outcome<C, A>)
+        ensures off { self.old.name ≡ None → self.new ≡ self.old }
         ensures early { ¬ (IsDue self.old.written self.old.every (length outcome.now.board.rounds)) → self.new ≡ self.old }
         ensures asked { IsDue self.old.written self.old.every (length outcome.now.board.rounds) →
             KeepsNoted (option_map (λ name. name.now) self.old.name) self.old.workload (all_decided self.old.before.items outcome.now.board.rounds)
@@ -117,8 +118,9 @@ impl<'a, F: CheckpointFiles + Drop, A: Allocator + Copy> Checkpoints<'a, F, A> {
         self.keep_due(outcome, self.every);
     }
 
-    /// The run has ended with this. Where it ended early, the checkpoint after its last round is written, if that is not yet there.
+    /// The run has ended with this. Where it ended early, the checkpoint after its last round is written, if it was not tried before.
     pub fn end<C: Chare<A>>(&mut self, outcome: &Outcome<C, A>)
+        ensures off { self.old.name ≡ None → self.new ≡ self.old }
         ensures well { outcome.now.fault ≡ None → self.new ≡ self.old }
         ensures early { ¬ (IsDue self.old.written 1 (length outcome.now.board.rounds)) → self.new ≡ self.old }
         ensures asked { IsSome outcome.now.fault → IsDue self.old.written 1 (length outcome.now.board.rounds) →
@@ -133,13 +135,14 @@ impl<'a, F: CheckpointFiles + Drop, A: Allocator + Copy> Checkpoints<'a, F, A> {
 
     // Writes a checkpoint where this many rounds have come by since the last one, and notes why it was not kept where it was not.
     fn keep_due<C: Chare<A>>(&mut self, outcome: &Outcome<C, A>, least: usize)
+        ensures off { self.old.name ≡ None → self.new ≡ self.old }
         ensures early { ¬ (IsDue self.old.written least (length outcome.now.board.rounds)) → self.new ≡ self.old }
         ensures asked { IsDue self.old.written least (length outcome.now.board.rounds) →
             KeepsNoted (option_map (λ name. name.now) self.old.name) self.old.workload (all_decided self.old.before.items outcome.now.board.rounds)
             (last_places outcome.now.board) (F.asked self.old.files) (F.asked self.new.files) self.old.failed self.new.failed }
         ensures same { self.new ≡ record self.old { files = self.new.files; written = self.new.written; failed = self.new.failed } }
     {
-        if is_due(self.written, least, outcome.rounds().len()) {
+        if self.is_on() && is_due(self.written, least, outcome.rounds().len()) {
             let kept = self.keep_after(outcome);
             self.note(kept);
         }
@@ -186,6 +189,7 @@ impl<F: CheckpointFiles + Drop, C: Chare<A>, A: Allocator + Copy> Pauses<C, A>
     }
 
     fn paused(&mut self, outcome: &Outcome<C, A>)
+        ensures off { self.old.name ≡ None → self.new ≡ self.old }
         ensures early { ¬ (IsDue self.old.written self.old.every (length outcome.now.board.rounds)) → self.new ≡ self.old }
         ensures asked { IsDue self.old.written self.old.every (length outcome.now.board.rounds) →
             KeepsNoted (option_map (λ name. name.now) self.old.name) self.old.workload (all_decided self.old.before.items outcome.now.board.rounds)
