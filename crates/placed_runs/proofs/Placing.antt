@@ -1,4 +1,4 @@
--- The PEs on which chares were placed, each on the PE that is told for it: each element once, and no letter.
+-- The PEs on which chares were placed, each on the PE that is given for it: each element once, and no letter.
 use Rattle.std.proofs.Common.{◌≡◌, ◌∙◌, ℕ, ◌+◌, ◌<◌, List, [], ◌∷◌, ◌++◌, length, map, sum_by, arith, refl, sym, ap, subst, zero-add}
 use Rattle.std.specs.Prelude.{All, slice_get}
 use Rattle.std.specs.List.{range_with_len}

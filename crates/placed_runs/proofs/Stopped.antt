@@ -1,4 +1,4 @@
--- What chares leave that were placed on told PEs, by a run that was stopped before its first event, is an outcome.
+-- What chares leave that were placed on given PEs, by a run that was stopped before its first event, is an outcome.
 use Rattle.std.proofs.Common.{◌≡◌, ◌∙◌, ℕ, suc, ◌+◌, ◌<◌, ◌≤◌, List, [], ◌∷◌, length, map, replicate, Some, arith, refl, ap, subst}
 use Rattle.std.specs.Prelude.{All, slice_get}
 use Rattle.std.specs.List.{range_with_len}

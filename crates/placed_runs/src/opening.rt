@@ -1,8 +1,9 @@
-//! A run that was stopped before its first event, with each element on its told PE.
+//! A run that was stopped before its first event, with each element on its given PE.
 
 ghost use Rattle.std.specs.Prelude.{◌≡◌, ◌+◌, ◌<◌, ◌≤◌, All, IfOk, OnOk, Some, [], length, map, replicate, slice_get};
 ghost use Rattle.std.specs.List.{range_with_len};
 ghost use Rattle.std.specs.Map.{keys_of};
+ghost use Rattle.at_sync.specs.Boards.{new_board};
 ghost use Rattle.pe_state.specs.Histories.{HasHistories};
 ghost use Rattle.pe_state.specs.Pes.{new_pe};
 ghost use Rattle.pe_worker.specs.declared.fault.Fault.TheVariants.{Stopped};
@@ -42,6 +43,7 @@ pub fn placed_outcome<C: Chare<A>, A: Allocator + Copy>(
     ensures fault { IfOk result (λ o. o.fault ≡ Some Stopped) }
     ensures placed { IfOk result (λ o. o.ends ≡ placed_pes pes places.items chares.items) }
     ensures left { IfOk result (λ o. o.left ≡ replicate pes []) }
+    ensures board { IfOk result (λ o. o.board ≡ new_board (length chares.items) pes strategy) }
     ensures homes { IfOk result (λ o. o.homes ≡ places.items) }
 {
     outcome_as::<C, Brand, A>(alloc, pes, strategy, chares, places)
@@ -64,6 +66,7 @@ fn outcome_as<C: Chare<A>, H: Openings<C>, A: Allocator + Copy>(
     ensures fault { IfOk result (λ o. o.fault ≡ Some Stopped) }
     ensures placed { IfOk result (λ o. o.ends ≡ placed_pes pes places.items chares.items) }
     ensures left { IfOk result (λ o. o.left ≡ replicate pes []) }
+    ensures board { IfOk result (λ o. o.board ≡ new_board (length chares.items) pes strategy) }
     ensures homes { IfOk result (λ o. o.homes ≡ places.items) }
 {
     let n = chares.len() as u32;
@@ -73,7 +76,7 @@ fn outcome_as<C: Chare<A>, H: Openings<C>, A: Allocator + Copy>(
     Ok(Outcome::new(places, ends, left, board, Some(Fault::Stopped)))
 }
 
-// What each PE holds, with each element on its told PE.
+// What each PE holds, with each element on its given PE.
 fn placed_ends<C: Chare<A>, H: Openings<C>, A: Allocator + Copy>(
     alloc: A,
     pes: Pes,
@@ -123,7 +126,7 @@ fn pe_at(q: u32) -> Pe
     Pe::new(q).unwrap()
 }
 
-// Places each chare on its told PE.
+// Places each chare on its given PE.
 fn place_all<C: Chare<A>, H: Openings<C>, A: Allocator + Copy>(
     pes: &mut Vec<PeState<C, H, A>, A>,
     chares: Vec<C, A>,

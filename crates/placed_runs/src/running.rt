@@ -1,4 +1,4 @@
-//! A run whose elements open on told PEs.
+//! A run whose elements open on given PEs.
 
 ghost use Rattle.std.specs.Prelude.{◌≡◌, ◌<◌, All, IfOk, MatchResult, length};
 ghost use Rattle.rts_run.specs.Configs.{MayBegin, RefusesRun};

@@ -40,3 +40,9 @@ returns-clause-left g c = c.new-2.ensures.left ∙ c.in_ok-left.ensures.value
 
 pub returns-clause-homes : goal.returns-clause-homes
 returns-clause-homes g c = c.new-2.ensures.homes
+
+pub returns-clause-board : goal.returns-clause-board
+returns-clause-board g c =
+    let same : length c.args.chares.items ≡ c.len-n.result = omega arith in
+    let board : c.in_ok-board.board ≡ new_board (length c.args.chares.items) c.args.pes c.args.strategy = c.in_ok-board.ensures.made ∙ rw (same, c.get.ensures.value) refl in
+    c.new-2.ensures.board ∙ board
