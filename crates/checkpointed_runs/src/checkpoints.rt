@@ -44,7 +44,7 @@ pub struct Checkpoints<'a, F, A: Allocator = Global> {
     every: usize,
     // What was decided for each round before the run.
     before: Vec<DecidedRound, A>,
-    // How many rounds of the run had come by when the last checkpoint was written.
+    // How many rounds of the run were decided when the last checkpoint was tried.
     written: usize,
     // The workload, while it runs.
     workload: Option<Workload<A>>,
@@ -105,7 +105,7 @@ impl<'a, F: CheckpointFiles + Drop, A: Allocator + Copy> Checkpoints<'a, F, A> {
         self.note(kept);
     }
 
-    /// The run has paused, and has left this so far. Writes the checkpoint after its last round, where enough rounds have come by since the
+    /// The run has paused, and has left this so far. Writes the checkpoint after its last round, where enough rounds were decided since the
     /// one before.
     pub fn follow<C: Chare<A>>(&mut self, outcome: &Outcome<C, A>)
         ensures off { self.old.name ≡ None → self.new ≡ self.old }
@@ -133,7 +133,7 @@ impl<'a, F: CheckpointFiles + Drop, A: Allocator + Copy> Checkpoints<'a, F, A> {
         }
     }
 
-    // Writes a checkpoint where this many rounds have come by since the last one, and notes why it was not kept where it was not.
+    // Writes a checkpoint where this many rounds were decided since the last one, and notes why where it was not kept.
     fn keep_due<C: Chare<A>>(&mut self, outcome: &Outcome<C, A>, least: usize)
         ensures off { self.old.name ≡ None → self.new ≡ self.old }
         ensures early { ¬ (IsDue self.old.written least (length outcome.now.board.rounds)) → self.new ≡ self.old }
