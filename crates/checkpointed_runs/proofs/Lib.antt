@@ -1,3 +1,4 @@
+pub mod Deciding
 pub mod Kept
 pub mod Lefts
 pub mod Places
