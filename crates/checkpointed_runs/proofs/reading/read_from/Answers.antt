@@ -9,4 +9,4 @@ returns-in-Ok g c = record {
 }
 
 pub returns-in-Err-clause-read : goal.returns-in-Err-clause-read
-returns-in-Err-clause-read g c = (c.in-Err.fault, (known_fault _ c.in-Err.fault c.in-Err.ensures.known, c.report.ensures.reported))
+returns-in-Err-clause-read g c = (c.in-Err.fault, known_fault _ c.in-Err.fault c.in-Err.ensures.known, c.report.ensures.reported)
