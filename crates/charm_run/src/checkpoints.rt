@@ -5,6 +5,7 @@ ghost use Rattle.run_checkpoint.specs.Text.{IsWithin};
 
 use crate::{ADVICE, TURNS, history_of};
 use at_sync::Strategy;
+use chare_index::Pes;
 use checkpointed_runs::{
     CheckpointFiles, Checkpoints, drive_from, finish_kept, on_pes, opening_of, read_checkpoint,
 };
@@ -140,10 +141,7 @@ fn open_checkpoint<R: Files + AllocGlobal, E: Write, W: Write>(
 ) -> Result<Result<Checkpoint<Global>, AllocError>, u8> {
     let (checkpoint, reason) = read_checkpoint(rt.alloc(), File::open(rt, asked.file), writer);
     match checkpoint {
-        Ok(checkpoint) => match asked.procs {
-            Some(pes) => Ok(on_pes(rt.alloc(), checkpoint, pes)),
-            None => Ok(Ok(checkpoint)),
-        },
+        Ok(checkpoint) => Ok(on_asked_pes(rt.alloc(), checkpoint, asked.procs)),
         Err(unread) => {
             let status = unread.status();
             let advice = &RESTART_ADVICE;
@@ -151,4 +149,22 @@ fn open_checkpoint<R: Files + AllocGlobal, E: Write, W: Write>(
             Err(status)
         }
     }
+}
+
+// The same run on the number of PEs that is asked for, if one is. A command line has no other than a run may have.
+fn on_asked_pes(
+    alloc: Global,
+    checkpoint: Checkpoint<Global>,
+    procs: Option<u32>,
+) -> Result<Checkpoint<Global>, AllocError>
+    requires within { IsWithin checkpoint }
+    ensures within { IfOk result IsWithin }
+{
+    let Some(count) = procs else {
+        return Ok(checkpoint);
+    };
+    let Some(pes) = Pes::new(count) else {
+        return Ok(checkpoint);
+    };
+    on_pes(alloc, checkpoint, pes.get())
 }
