@@ -120,7 +120,9 @@ fn open_workload<R: Files + AllocGlobal, E: Write, W: Write>(
     asked: &CharmRunOptions<'_>,
     errors: &mut E,
     writer: &mut W,
-) -> Result<Result<Checkpoint<Global>, AllocError>, u8> {
+) -> Result<Result<Checkpoint<Global>, AllocError>, u8>
+    ensures within { IfOk result (λ start. IfOk start IsWithin) }
+{
     let (workload, reason) = read_workload(rt.alloc(), File::open(rt, asked.file), writer);
     match workload {
         Ok(workload) => Ok(opening_of(rt.alloc(), workload)),
@@ -138,7 +140,9 @@ fn open_checkpoint<R: Files + AllocGlobal, E: Write, W: Write>(
     asked: &CharmRunOptions<'_>,
     errors: &mut E,
     writer: &mut W,
-) -> Result<Result<Checkpoint<Global>, AllocError>, u8> {
+) -> Result<Result<Checkpoint<Global>, AllocError>, u8>
+    ensures within { IfOk result (λ start. IfOk start IsWithin) }
+{
     let (checkpoint, reason) = read_checkpoint(rt.alloc(), File::open(rt, asked.file), writer);
     match checkpoint {
         Ok(checkpoint) => Ok(on_asked_pes(rt.alloc(), checkpoint, asked.procs)),
