@@ -1,6 +1,8 @@
 //! `charm_run [--dump PREFIX] [--lbd1] [--progress] [--tolerance T] [--no-journal] FILE` runs the chares of a workload over threads: it
 //! prints what each round decided, what each chare added up, and where every letter is. With `--seed S`, `--seeds N` or `--replay LIST` it runs them on
 //! one thread, in an order of events that can be repeated; `--events LIST` writes that order. `--trace FILE` writes what happened.
+//! `charm_run --checkpoint CHECKPOINT [--every K] FILE` keeps checkpoints meanwhile, and `charm_run --restart [--procs P] CHECKPOINT` goes on
+//! from one.
 //!
 //! - `program_words::on_words`: the arguments of the command line, and the status. `run_command_line::asked`: what the arguments
 //!   ask for; `CharmRunOptions::task`: how the chares are run, if the options go together; `program_words::refused`: the status where the
@@ -8,15 +10,17 @@
 //! - `workload_run::drive_file`: the run of a workload, from a file to its text; `write_asked`: the dumps of its rounds, and
 //!   the status; `write_beside`: the list of events, where it is asked for and there was a run.
 //! - `one_thread`: the runs on one thread, by the crate `schedule_run`. `traces`: the trace of a run, by `run_trace::keep_trace`.
-//!   `files`: the files of the system.
+//!   `files`: the files of the system. `checkpoints`: the runs that keep checkpoints or go on from one, by the crate `checkpointed_runs`.
 //! - `progress_line::ShownProgress`: what is written to the standard error meanwhile; `streams::Advice`: what is printed about a
 //!   file with a fault.
 #![tactic(auto)]
 
+mod checkpoints;
 mod files;
 mod one_thread;
 mod traces;
 
+use crate::checkpoints::{has_checkpoints, run_kept};
 use crate::files::{early_dumps, finish_dumps, write_dumps};
 use crate::one_thread::{run_by_list, run_by_seed, run_by_seeds};
 use crate::traces::{Onlookers, keep_recorded, lose_trace};
@@ -36,7 +40,7 @@ use streams::Advice;
 use workload_run::{drive_file, status_beside};
 
 /// The number of idle turns in a row after which a worker gives up.
-const TURNS: u64 = 1_000_000_000;
+pub(crate) const TURNS: u64 = 1_000_000_000;
 
 /// What to do about a file with a fault.
 pub(crate) const ADVICE: Advice<'static> = Advice {
@@ -71,12 +75,15 @@ fn run_asked<R: Threads + Wait + Sync + Files + Clock + Print + Eprint + AllocGl
     }
 }
 
-// Runs the workload over threads, with its progress line and its recorder, and returns the status.
+// Runs the workload, or what is left after a checkpoint, over threads, with its progress line and its recorder, and returns the status.
 fn run_on_threads<
     R: Threads + Wait + Sync + Files + Clock + Print + Eprint + AllocGlobal,
     E: Write,
 >(rt: &R, asked: &CharmRunOptions<'_>, progress: bool, errors: &mut E) -> u8 {
     let progress = ShownProgress::new(rt, progress).unwrap_or(ShownProgress::Off);
+    if has_checkpoints(asked) {
+        return run_kept(rt, asked, progress, errors);
+    }
     match Tracing::new(rt, rt.alloc(), asked.trace.is_some()) {
         Ok(tracing) => run_watched(rt, asked, Onlookers { progress, tracing }, errors),
         Err(error) => lose_trace(rt, asked, error, &mut io::writer(rt)),
@@ -119,8 +126,8 @@ fn run_watched<R: Threads + Wait + Sync + Files + Clock + Print + Eprint + Alloc
     status_beside(status, is_lost)
 }
 
-// Whether elements keep what they have handled.
-fn history_of(asked: &CharmRunOptions<'_>) -> History {
+/// Whether elements keep what they have handled.
+pub(crate) fn history_of(asked: &CharmRunOptions<'_>) -> History {
     if asked.no_journal {
         return History::Dropped;
     }

@@ -5,6 +5,8 @@ use Rattle.std.specs.Option.{option_or}
 use Rattle.run_command_line.specs.declared.request.CharmRunOptions.{CharmRunOptions}
 use Rattle.run_command_line.specs.declared.request.Clash.{Clash}
 use Rattle.run_command_line.specs.declared.request.Clash.TheVariants.{SeedAndSeeds, SeedAndReplay, SeedsAndReplay, EventsWithoutSeed, SeedsAndDump, SeedsAndTrace, NoJournalOnOneThread}
+use Rattle.run_command_line.specs.declared.request.Clash.TheVariants.{CheckpointOnOneThread, RestartOnOneThread, CheckpointAndDump, CheckpointAndLbd1, CheckpointAndTrace}
+use Rattle.run_command_line.specs.declared.request.Clash.TheVariants.{RestartAndDump, RestartAndLbd1, RestartAndTrace, EveryWithoutCheckpoint, ProcsWithoutRestart}
 use Rattle.run_command_line.specs.declared.request.Task.{Task}
 use Rattle.run_command_line.specs.declared.request.Task.TheVariants.{Threads, Seed, Seeds, Replay}
 
@@ -39,12 +41,55 @@ abbrev pub clash_of_journal : Bool → Option Clash
 clash_of_journal true = Some NoJournalOnOneThread
 clash_of_journal false = None
 
+-- a run on one thread writes no checkpoints, and goes on from none
+abbrev pub clash_of_kept : Named → Bool → Option Clash
+clash_of_kept (Some checkpoint) restart = Some CheckpointOnOneThread
+clash_of_kept None true = Some RestartOnOneThread
+clash_of_kept None false = None
+
+-- of a run that writes checkpoints no dumps and no trace are written
+abbrev pub clash_of_checkpoint : Named → Named → Bool → Named → Option Clash
+clash_of_checkpoint None dump lbd1 trace = None
+clash_of_checkpoint (Some checkpoint) (Some dump) lbd1 trace = Some CheckpointAndDump
+clash_of_checkpoint (Some checkpoint) None true trace = Some CheckpointAndLbd1
+clash_of_checkpoint (Some checkpoint) None false (Some trace) = Some CheckpointAndTrace
+clash_of_checkpoint (Some checkpoint) None false None = None
+
+-- nor of one that goes on from a checkpoint
+abbrev pub clash_of_restart : Bool → Named → Bool → Named → Option Clash
+clash_of_restart false dump lbd1 trace = None
+clash_of_restart true (Some dump) lbd1 trace = Some RestartAndDump
+clash_of_restart true None true trace = Some RestartAndLbd1
+clash_of_restart true None false (Some trace) = Some RestartAndTrace
+clash_of_restart true None false None = None
+
+-- after how many rounds a checkpoint is written says nothing where none is
+abbrev pub clash_of_every : Named → Option ℕ → Option Clash
+clash_of_every None (Some every) = Some EveryWithoutCheckpoint
+clash_of_every checkpoint every = None
+
+-- nor how many PEs there are to be where the file is a workload, which has their number
+abbrev pub clash_of_procs : Bool → Option ℕ → Option Clash
+clash_of_procs false (Some procs) = Some ProcsWithoutRestart
+clash_of_procs restart procs = None
+
+-- the first clash of the options for checkpoints with others
+abbrev pub clash_of_checkpoints : CharmRunOptions → Option Clash
+clash_of_checkpoints asked =
+    option_or (option_or (option_or (clash_of_checkpoint asked.checkpoint asked.dump asked.lbd1 asked.trace)
+    (clash_of_restart asked.restart asked.dump asked.lbd1 asked.trace)) (clash_of_every asked.checkpoint asked.every)) (clash_of_procs asked.restart asked.procs)
+
+-- the first option that does not go with a run on one thread
+abbrev pub clash_on_one_thread : CharmRunOptions → Option Clash
+clash_on_one_thread asked =
+    option_or (option_or (clash_of_journal asked.no_journal) (clash_of_kept asked.checkpoint asked.restart)) (clash_of_checkpoints asked)
+
 -- the first option that does not go with a task
 abbrev pub clash_with : CharmRunOptions → Task → Option Clash
-clash_with asked Threads = clash_without_seed asked.events
-clash_with asked (Seed seed) = clash_of_journal asked.no_journal
-clash_with asked (Seeds seeds) = option_or (clash_with_seeds asked.events asked.dump asked.trace) (clash_of_journal asked.no_journal)
-clash_with asked (Replay replay) = option_or (clash_without_seed asked.events) (clash_of_journal asked.no_journal)
+clash_with asked Threads = option_or (clash_without_seed asked.events) (clash_of_checkpoints asked)
+clash_with asked (Seed seed) = clash_on_one_thread asked
+clash_with asked (Seeds seeds) = option_or (clash_with_seeds asked.events asked.dump asked.trace) (clash_on_one_thread asked)
+clash_with asked (Replay replay) = option_or (clash_without_seed asked.events) (clash_on_one_thread asked)
 
 -- a task, where nothing that is asked for clashes with it
 abbrev pub unless_clash : Task → Option Clash → Result Task Clash

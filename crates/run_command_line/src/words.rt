@@ -9,6 +9,8 @@ ghost use Rattle.streams.specs.Writing.{WritesPrefix};
 ghost use Rattle.run_command_line.specs.CommandLine.{AsksLbd1, DropsJournal, SpellsSeed, SpellsSeeds, TellsProgress, clash_line, dump_in, events_in, file_in, lbd1_rule};
 ghost use Rattle.run_command_line.specs.CommandLine.{dump_rule, events_rule, no_journal_rule, program, progress_rule, replay_in, replay_rule, seed_in, seed_rule, seeds_in, seeds_rule};
 ghost use Rattle.run_command_line.specs.CommandLine.{tolerance_in, trace_in, trace_rule, with_schedules};
+ghost use Rattle.run_command_line.specs.CommandLine.{AsksRestart, SpellsEvery, SpellsProcs, checkpoint_in, checkpoint_rule, every_in, every_rule, procs_in, procs_rule};
+ghost use Rattle.run_command_line.specs.CommandLine.{restart_rule, with_checkpoints};
 
 use crate::help::{ABOUT, HOW_TO};
 use crate::request::{CharmRunOptions, Clash};
@@ -40,6 +42,17 @@ fn line_of(clash: Clash) -> &'static str
         Clash::SeedsAndDump => "charm_run: --seeds and --dump\n",
         Clash::SeedsAndTrace => "charm_run: --seeds and --trace\n",
         Clash::NoJournalOnOneThread => "charm_run: --no-journal with --seed, --seeds or --replay\n",
+        Clash::CheckpointOnOneThread =>
+            "charm_run: --checkpoint with --seed, --seeds or --replay\n",
+        Clash::RestartOnOneThread => "charm_run: --restart with --seed, --seeds or --replay\n",
+        Clash::CheckpointAndDump => "charm_run: --checkpoint and --dump\n",
+        Clash::CheckpointAndLbd1 => "charm_run: --checkpoint and --lbd1\n",
+        Clash::CheckpointAndTrace => "charm_run: --checkpoint and --trace\n",
+        Clash::RestartAndDump => "charm_run: --restart and --dump\n",
+        Clash::RestartAndLbd1 => "charm_run: --restart and --lbd1\n",
+        Clash::RestartAndTrace => "charm_run: --restart and --trace\n",
+        Clash::EveryWithoutCheckpoint => "charm_run: --every without --checkpoint\n",
+        Clash::ProcsWithoutRestart => "charm_run: --procs without --restart\n",
     }
 }
 
@@ -48,8 +61,9 @@ fn line_of(clash: Clash) -> &'static str
 /// # Errors
 ///
 /// The arguments are not `[--dump PREFIX] [--lbd1] [--progress] [--tolerance T] [--seed S] [--seeds N] [--events FILE]
-/// [--replay FILE] [--trace FILE] [--no-journal] FILE` with a T of 0 to 1,000, an S below 2^64 and an N of 1 to 1,000,000; or help
-/// or the version is asked for; or memory ran out. The error has the text to print; [`words_status`] is the status for it. Options that
+/// [--replay FILE] [--trace FILE] [--no-journal] [--checkpoint CHECKPOINT] [--every K] [--restart] [--procs P] FILE` with a T of 0 to
+/// 1,000, an S below 2^64, an N of 1 to 1,000,000, a K of 1 to 1,000 and a P of 1 to 256; or help or the version is asked for; or
+/// memory ran out. The error has the text to print; [`words_status`] is the status for it. Options that
 /// do not go together are no error here: [`CharmRunOptions::task`] returns the [`Clash`].
 pub fn asked<'a>(alloc: Global, words: &'a [&'a str]) -> Result<CharmRunOptions<'a>, Error>
     ensures faults { FailsBy (fault_of program (texts words.now)) result }
@@ -66,6 +80,14 @@ pub fn asked<'a>(alloc: Global, words: &'a [&'a str]) -> Result<CharmRunOptions<
     ensures replay { IfOk result (λ asked. replay_in (texts words.now) ≡ option_map (λ name. name.now) asked.replay) }
     ensures trace { IfOk result (λ asked. trace_in (texts words.now) ≡ option_map (λ name. name.now) asked.trace) }
     ensures no_journal { IfOk result (λ asked. IsTrue asked.no_journal ↔ DropsJournal (texts words.now)) }
+    ensures checkpoint { IfOk result (λ asked. checkpoint_in (texts words.now) ≡ option_map (λ name. name.now) asked.checkpoint) }
+    ensures every { IfOk result (λ asked. (n : ℕ) → (asked.every ≡ Some n) ↔ SpellsEvery (every_in (texts words.now)) n) }
+    ensures some_round { IfOk result (λ asked. ForSome asked.every (λ n. 1 ≤ n)) }
+    ensures few_rounds { IfOk result (λ asked. ForSome asked.every (λ n. n ≤ 1000)) }
+    ensures restart { IfOk result (λ asked. IsTrue asked.restart ↔ AsksRestart (texts words.now)) }
+    ensures procs { IfOk result (λ asked. (n : ℕ) → (asked.procs ≡ Some n) ↔ SpellsProcs (procs_in (texts words.now)) n) }
+    ensures some_pe { IfOk result (λ asked. ForSome asked.procs (λ n. 1 ≤ n)) }
+    ensures few_pes { IfOk result (λ asked. ForSome asked.procs (λ n. n ≤ 256)) }
 {
     match command(alloc)?.try_get_matches_from(words) {
         Ok(matches) => Ok(found(&matches)),
@@ -74,7 +96,7 @@ pub fn asked<'a>(alloc: Global, words: &'a [&'a str]) -> Result<CharmRunOptions<
 }
 
 // The arguments that are understood: `charm_run [--dump PREFIX] [--lbd1] [--progress] [--tolerance T] [--no-journal] FILE`, those for
-// runs on one thread, and those for help and for the version, which clap adds.
+// runs on one thread and for checkpoints, and those for help and for the version, which clap adds.
 fn command<'a>(alloc: Global) -> Result<Command<'a>, AllocError>
     ensures program { IfOk result (λ command. app_of command ≡ program) }
     ensures named { IfOk result NamesFile }
@@ -90,7 +112,11 @@ fn command<'a>(alloc: Global) -> Result<Command<'a>, AllocError>
     let command = command.arg(events(alloc))?;
     let command = command.arg(replay(alloc))?;
     let command = command.arg(trace(alloc))?;
-    command.arg(no_journal(alloc))
+    let command = command.arg(no_journal(alloc))?;
+    let command = command.arg(checkpoint(alloc))?;
+    let command = command.arg(every(alloc))?;
+    let command = command.arg(restart(alloc))?;
+    command.arg(procs(alloc))
 }
 
 fn file<'a>(alloc: Global) -> Arg<'a>
@@ -220,6 +246,48 @@ fn no_journal<'a>(alloc: Global) -> Arg<'a>
     )
 }
 
+fn checkpoint<'a>(alloc: Global) -> Arg<'a>
+    ensures rule { rule_of result ≡ checkpoint_rule }
+    ensures fits { FitsChain result }
+{
+    word(
+        alloc,
+        "checkpoint",
+        "CHECKPOINT",
+        "Keeps in the file CHECKPOINT what a run needs to go on{n}\
+         after it was killed: of before the run, and after each{n}\
+         K-th round. A new one is written to CHECKPOINT.new first",
+    )
+}
+
+fn every<'a>(alloc: Global) -> Arg<'a>
+    ensures rule { rule_of result ≡ every_rule }
+    ensures fits { FitsChain result }
+{
+    let help =
+        "With --checkpoint, the number of rounds between two; K is{n}1 to 1000, and 1 if left out";
+    word(alloc, "every", "K", help).value_parser(number_of_rounds())
+}
+
+fn restart<'a>(alloc: Global) -> Arg<'a>
+    ensures rule { rule_of result ≡ restart_rule }
+    ensures fits { FitsChain result }
+{
+    flag(
+        alloc,
+        "restart",
+        "FILE is a checkpoint: runs what is left, and prints the{n}text of the whole run",
+    )
+}
+
+fn procs<'a>(alloc: Global) -> Arg<'a>
+    ensures rule { rule_of result ≡ procs_rule }
+    ensures fits { FitsChain result }
+{
+    let help = "With --restart, the number of PEs, 1 to 256, in place of{n}that of the checkpoint";
+    word(alloc, "procs", "P", help).value_parser(number_of_pes())
+}
+
 // Any number of 64 bits.
 fn any_number<'a>() -> ValueParser<'a>
     ensures { result ≡ Unsigned 0 18446744073709551615 }
@@ -232,6 +300,20 @@ fn number_of_seeds<'a>() -> ValueParser<'a>
     ensures { result ≡ Signed (pos 1) (pos 1000000) }
 {
     value_parser!(u32).range(1..=1_000_000)
+}
+
+// A number of rounds between two checkpoints.
+fn number_of_rounds<'a>() -> ValueParser<'a>
+    ensures { result ≡ Signed (pos 1) (pos 1000) }
+{
+    value_parser!(u32).range(1..=1_000)
+}
+
+// A number of PEs.
+fn number_of_pes<'a>() -> ValueParser<'a>
+    ensures { result ≡ Signed (pos 1) (pos 256) }
+{
+    value_parser!(u32).range(1..=256)
 }
 
 // What the arguments ask for.
@@ -250,6 +332,14 @@ fn found<'a>(matches: &ArgMatches<'a>) -> CharmRunOptions<'a>
     ensures replay { first_value (found_of matches.now) (codes "replay") ≡ option_map (λ name. name.now) result.replay }
     ensures trace { first_value (found_of matches.now) (codes "trace") ≡ option_map (λ name. name.now) result.trace }
     ensures no_journal { IsTrue result.no_journal ↔ (one_text (found_of matches.now) (codes "no-journal") ≡ Some (codes "true")) }
+    ensures checkpoint { first_value (found_of matches.now) (codes "checkpoint") ≡ option_map (λ name. name.now) result.checkpoint }
+    ensures every { (n : ℕ) → (result.every ≡ Some n) ↔ SpellsEvery (one_text (found_of matches.now) (codes "every")) n }
+    ensures some_round { ForSome result.every (λ n. 1 ≤ n) }
+    ensures few_rounds { ForSome result.every (λ n. n ≤ 1000) }
+    ensures restart { IsTrue result.restart ↔ (one_text (found_of matches.now) (codes "restart") ≡ Some (codes "true")) }
+    ensures procs { (n : ℕ) → (result.procs ≡ Some n) ↔ SpellsProcs (one_text (found_of matches.now) (codes "procs")) n }
+    ensures some_pe { ForSome result.procs (λ n. 1 ≤ n) }
+    ensures few_pes { ForSome result.procs (λ n. n ≤ 256) }
 {
     CharmRunOptions {
         file: matches.get_str("file").unwrap(),
@@ -263,6 +353,10 @@ fn found<'a>(matches: &ArgMatches<'a>) -> CharmRunOptions<'a>
         replay: matches.get_str("replay"),
         trace: matches.get_str("trace"),
         no_journal: matches.get_one("no-journal") == Some(true),
+        checkpoint: matches.get_str("checkpoint"),
+        every: every_in(matches),
+        restart: matches.get_one("restart") == Some(true),
+        procs: procs_in(matches),
     }
 }
 
@@ -281,4 +375,24 @@ fn seeds_in<'a>(matches: &ArgMatches<'a>) -> Option<u32>
 {
     let number = matches.get_one::<u32>("seeds");
     number.filter(|&n| 1 <= n && n <= 1_000_000)
+}
+
+// How many rounds are asked for between two checkpoints. clap refuses a number out of range; here such a number would count as none.
+fn every_in<'a>(matches: &ArgMatches<'a>) -> Option<u32>
+    ensures every { (n : ℕ) → (result ≡ Some n) ↔ SpellsEvery (one_text (found_of matches.now) (codes "every")) n }
+    ensures some_round { ForSome result (λ n. 1 ≤ n) }
+    ensures few_rounds { ForSome result (λ n. n ≤ 1000) }
+{
+    let number = matches.get_one::<u32>("every");
+    number.filter(|&n| 1 <= n && n <= 1_000)
+}
+
+// How many PEs are asked for. clap refuses a number out of range; here such a number would count as none.
+fn procs_in<'a>(matches: &ArgMatches<'a>) -> Option<u32>
+    ensures procs { (n : ℕ) → (result ≡ Some n) ↔ SpellsProcs (one_text (found_of matches.now) (codes "procs")) n }
+    ensures some_pe { ForSome result (λ n. 1 ≤ n) }
+    ensures few_pes { ForSome result (λ n. n ≤ 256) }
+{
+    let number = matches.get_one::<u32>("procs");
+    number.filter(|&n| 1 <= n && n <= 256)
 }

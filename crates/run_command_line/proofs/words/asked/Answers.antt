@@ -5,7 +5,7 @@ use Rattle.clap.specs.declared.parser.matches.ArgMatches.{ArgMatches}
 use Rattle.clap.proofs.OnLiterals.{clap_on_literals}
 use Rattle.program_words.proofs.Chains.{by_word, first_word, found_by, one_word, refused_by}
 use Rattle.program_words.specs.Arguments.{SpellsTolerance}
-use Rattle.run_command_line.specs.CommandLine.{SpellsSeed, SpellsSeeds, program}
+use Rattle.run_command_line.specs.CommandLine.{SpellsEvery, SpellsProcs, SpellsSeed, SpellsSeeds, program}
 use Rattle.run_command_line.proofs.words.asked.Goals as goal
 
 simple : is_simple program ≡ true
@@ -70,6 +70,26 @@ pub returns-in-Ok-clause-seeds : goal.returns-in-Ok-clause-seeds
 returns-in-Ok-clause-seeds c n =
     let rows = found_by program _ (texts c.args.words.now) c.in-Ok.matches simple c.in_ok-command.ensures.program c.in-Ok.ensures.matches in
     by_word _ (λ word. SpellsSeeds word n) _ _ (one_word program (texts c.args.words.now) c.in-Ok.matches (codes "seeds") rows) (c.found.ensures.seeds n)
+
+pub returns-in-Ok-clause-checkpoint : goal.returns-in-Ok-clause-checkpoint
+returns-in-Ok-clause-checkpoint c =
+    let rows = found_by program _ (texts c.args.words.now) c.in-Ok.matches simple c.in_ok-command.ensures.program c.in-Ok.ensures.matches in
+    sym (first_word program (texts c.args.words.now) c.in-Ok.matches (codes "checkpoint") rows) ∙ c.found.ensures.checkpoint
+
+pub returns-in-Ok-clause-every : goal.returns-in-Ok-clause-every
+returns-in-Ok-clause-every c n =
+    let rows = found_by program _ (texts c.args.words.now) c.in-Ok.matches simple c.in_ok-command.ensures.program c.in-Ok.ensures.matches in
+    by_word _ (λ word. SpellsEvery word n) _ _ (one_word program (texts c.args.words.now) c.in-Ok.matches (codes "every") rows) (c.found.ensures.every n)
+
+pub returns-in-Ok-clause-restart : goal.returns-in-Ok-clause-restart
+returns-in-Ok-clause-restart c =
+    let rows = found_by program _ (texts c.args.words.now) c.in-Ok.matches simple c.in_ok-command.ensures.program c.in-Ok.ensures.matches in
+    by_word _ (λ word. word ≡ Some (codes "true")) _ _ (one_word program (texts c.args.words.now) c.in-Ok.matches (codes "restart") rows) c.found.ensures.restart
+
+pub returns-in-Ok-clause-procs : goal.returns-in-Ok-clause-procs
+returns-in-Ok-clause-procs c n =
+    let rows = found_by program _ (texts c.args.words.now) c.in-Ok.matches simple c.in_ok-command.ensures.program c.in-Ok.ensures.matches in
+    by_word _ (λ word. SpellsProcs word n) _ _ (one_word program (texts c.args.words.now) c.in-Ok.matches (codes "procs") rows) (c.found.ensures.procs n)
 
 pub returns-in-Ok-clause-faults : goal.returns-in-Ok-clause-faults
 returns-in-Ok-clause-faults c =

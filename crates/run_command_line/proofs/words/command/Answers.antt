@@ -6,11 +6,12 @@ use Rattle.clap.specs.Words.{first_value, found_of}
 use Rattle.clap.proofs.CallerLemmas.{required_in_chain}
 use Rattle.program_words.proofs.Chains.{are_distinct, distinct_ids, ids_of, with_argument}
 use Rattle.program_words.specs.Arguments.{file_rule, tolerance_rule, versioned}
-use Rattle.run_command_line.specs.CommandLine.{dump_rule, events_rule, lbd1_rule, no_journal_rule, progress_rule, replay_rule, seed_rule, seeds_rule, trace_rule}
+use Rattle.run_command_line.specs.CommandLine.{checkpoint_rule, dump_rule, events_rule, every_rule, lbd1_rule, no_journal_rule, procs_rule, progress_rule, replay_rule, restart_rule, seed_rule, seeds_rule, trace_rule}
 use Rattle.run_command_line.proofs.words.command.Goals as goal
 
 distinct : are_distinct (codes "file" ∷ codes "dump" ∷ codes "lbd1" ∷ codes "progress" ∷ codes "tolerance" ∷ codes "seed" ∷ codes
-    "seeds" ∷ codes "events" ∷ codes "replay" ∷ codes "trace" ∷ codes "no-journal" ∷ []) ≡ true
+    "seeds" ∷ codes "events" ∷ codes "replay" ∷ codes "trace" ∷ codes "no-journal" ∷ codes "checkpoint"
+    ∷ codes "every" ∷ codes "restart" ∷ codes "procs" ∷ []) ≡ true
 distinct = refl
 
 pub returns-clause-program : goal.returns-clause-program
@@ -26,13 +27,18 @@ returns-clause-program c =
     let eight = with_argument _ c.in_ok-command-8.command c.events.result _ events_rule seven c.in_ok-command-8.ensures c.events.ensures.fits c.events.ensures.rule in
     let nine = with_argument _ c.in_ok-command-9.command c.replay.result _ replay_rule eight c.in_ok-command-9.ensures c.replay.ensures.fits c.replay.ensures.rule in
     let ten = with_argument _ c.in_ok-command-10.command c.trace.result _ trace_rule nine c.in_ok-command-10.ensures c.trace.ensures.fits c.trace.ensures.rule in
-    IfOk-weaker c.arg-11.result _ _ (λ command added.
-    with_argument _ command c.no_journal.result _ no_journal_rule ten added c.no_journal.ensures.fits c.no_journal.ensures.rule) c.arg-11.ensures
+    let eleven = with_argument _ c.in_ok-command-11.command c.no_journal.result _ no_journal_rule ten c.in_ok-command-11.ensures c.no_journal.ensures.fits c.no_journal.ensures.rule in
+    let twelve = with_argument _ c.in_ok-command-12.command c.checkpoint.result _ checkpoint_rule eleven c.in_ok-command-12.ensures c.checkpoint.ensures.fits c.checkpoint.ensures.rule in
+    let thirteen = with_argument _ c.in_ok-command-13.command c.every.result _ every_rule twelve c.in_ok-command-13.ensures c.every.ensures.fits c.every.ensures.rule in
+    let fourteen = with_argument _ c.in_ok-command-14.command c.restart.result _ restart_rule thirteen c.in_ok-command-14.ensures c.restart.ensures.fits c.restart.ensures.rule in
+    IfOk-weaker c.arg-15.result _ _ (λ command added.
+    with_argument _ command c.procs.result _ procs_rule fourteen added c.procs.ensures.fits c.procs.ensures.rule) c.arg-15.ensures
 
 pub returns-clause-named : goal.returns-clause-named
 returns-clause-named c =
     let chain = c.file.result ∷ c.dump.result ∷ c.lbd1.result ∷ c.progress.result ∷ c.tolerance.result
-    ∷ c.seed.result ∷ c.seeds.result ∷ c.events.result ∷ c.replay.result ∷ c.trace.result ∷ c.no_journal.result ∷ [] in
+    ∷ c.seed.result ∷ c.seeds.result ∷ c.events.result ∷ c.replay.result ∷ c.trace.result ∷ c.no_journal.result
+    ∷ c.checkpoint.result ∷ c.every.result ∷ c.restart.result ∷ c.procs.result ∷ [] in
     let named : are_distinct (ids_of chain) ≡ true = rw (
       ap (λ r. r.id) c.file.ensures.rule,
       ap (λ r. r.id) c.dump.ensures.rule,
@@ -45,6 +51,10 @@ returns-clause-named c =
       ap (λ r. r.id) c.replay.ensures.rule,
       ap (λ r. r.id) c.trace.ensures.rule,
       ap (λ r. r.id) c.no_journal.ensures.rule,
+      ap (λ r. r.id) c.checkpoint.ensures.rule,
+      ap (λ r. r.id) c.every.ensures.rule,
+      ap (λ r. r.id) c.restart.ensures.rule,
+      ap (λ r. r.id) c.procs.ensures.rule,
     ) distinct in
     let all = All-from_recursion FitsChain chain (
       c.file.ensures.fits,
@@ -60,7 +70,7 @@ returns-clause-named c =
                 c.seed.ensures.fits,
                 (
                   c.seeds.ensures.fits,
-                  (c.events.ensures.fits, (c.replay.ensures.fits, (c.trace.ensures.fits, (c.no_journal.ensures.fits, tt)))),
+                  (c.events.ensures.fits, (c.replay.ensures.fits, (c.trace.ensures.fits, (c.no_journal.ensures.fits, (c.checkpoint.ensures.fits, (c.every.ensures.fits, (c.restart.ensures.fits, (c.procs.ensures.fits, tt)))))))),
                 ),
               ),
             ),
@@ -69,7 +79,7 @@ returns-clause-named c =
       ),
     ) in
     let bare = c.new_program-command.ensures.bare in
-    IfOk-weaker c.arg-11.result _ _ (λ command added m parsed.
+    IfOk-weaker c.arg-15.result _ _ (λ command added m parsed.
     subst (λ id. is_some (first_value (found_of m) id) ≡ true) (ap (λ r. r.id) c.file.ensures.rule)
     (required_in_chain c.new_program-command.result command chain 0 c.file.result m (
       c.in_ok-command.command,
@@ -95,7 +105,7 @@ returns-clause-named c =
                   (
                     c.in_ok-command-8.command,
                     c.in_ok-command-8.ensures,
-                    (c.in_ok-command-9.command, c.in_ok-command-9.ensures, (c.in_ok-command-10.command, c.in_ok-command-10.ensures, (command, added, refl))),
+                    (c.in_ok-command-9.command, c.in_ok-command-9.ensures, (c.in_ok-command-10.command, c.in_ok-command-10.ensures, (c.in_ok-command-11.command, c.in_ok-command-11.ensures, (c.in_ok-command-12.command, c.in_ok-command-12.ensures, (c.in_ok-command-13.command, c.in_ok-command-13.ensures, (c.in_ok-command-14.command, c.in_ok-command-14.ensures, (command, added, refl))))))),
                   ),
                 ),
               ),
@@ -104,4 +114,4 @@ returns-clause-named c =
         ),
       ),
     )
-    bare.args bare.groups bare.globals bare.negates all (distinct_ids chain named) (omega arith) c.file.ensures.takes parsed)) c.arg-11.ensures
+    bare.args bare.groups bare.globals bare.negates all (distinct_ids chain named) (omega arith) c.file.ensures.takes parsed)) c.arg-15.ensures

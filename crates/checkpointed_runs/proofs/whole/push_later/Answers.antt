@@ -1,0 +1,19 @@
+use Rattle.std.proofs.Common.{◌≡◌, ◌+◌, ◌++◌, length, rules, arith, subst}
+use Rattle.std.specs.List.{flat_map, range_with_len}
+use Rattle.std.specs.String.{string_bytes}
+use Rattle.checkpointed_runs.specs.Whole.{later_line}
+use Rattle.checkpointed_runs.proofs.RoundLines.{later_written}
+use Rattle.checkpointed_runs.proofs.whole.push_later.Goals as goal
+
+pub loop-i-preserved : goal.loop-i-preserved
+loop-i-preserved g c =
+    let at = c.loop-i in
+    let read = c.index-rounds-i in
+    let number : c.in-Some.number ≡ at.i + 1 + c.args.before = search rules in
+    later_written c.args.before c.args.rounds.now at.i read.result (string_bytes c.args.text.now) (string_bytes at.text) _ c.loop-i-test.true read.is
+    at.invariant (rw (← c.bottleneck.ensures.value, ← c.moved.ensures.value, ← number) c.in_ok-push_round.ensures.line)
+
+pub returns : goal.returns
+returns g c =
+    let last : c.loop-i.i ≡ length c.args.rounds.now = omega (arith, c.loop-i-test.false, c.loop-i.auto.i-end) in
+    subst (λ n. string_bytes c.loop-i.text ≡ string_bytes c.args.text.now ++ flat_map (later_line c.args.before c.args.rounds.now) (range_with_len 1 n)) last c.loop-i.invariant

@@ -1,0 +1,70 @@
+//! The two files of a checkpoint: a new one, and the one whose place it takes.
+
+ghost use Rattle.std.specs.Prelude.{◌≡◌, ◌∷◌, [], ℕ, List, Option, Some, IfOk, IfSome, OnOk};
+ghost use Rattle.std.specs.Io.KnownBytes.{Appends};
+ghost use Rattle.checkpointed_runs.specs.Keeping.{Asked, AsksFor, Made, Placed, Replaces};
+ghost use Rattle.run_checkpoint.specs.Text.{checkpoint_text};
+
+use chare_index::Pe;
+use run_checkpoint::{DecidedRound, write_checkpoint};
+use std::alloc::Allocator;
+use std::io::{self, Write};
+use workload::Workload;
+
+/// Where checkpoints go.
+pub trait CheckpointFiles {
+    /// A file that was made.
+    type File: Write + Drop;
+
+    // what was asked for, in order, where that is known
+    ghost asked: { Self → Option (List Asked) };
+
+    /// Makes the file with this name, empty. Where it is known what is asked for, it is known what a file holds, too.
+    fn create(&mut self, name: &str) -> io::Result<Self::File>
+        ensures asked { AsksFor (asked self.old) (asked self.new) (Made name.now ∷ []) }
+        ensures empty { IfSome (asked self.new) (λ _. IfOk result (λ file. Self.File.contents file ≡ Some [])) };
+
+    /// Waits until what is in this file, which has the name `from`, outlasts the system. Then it gives the file the name `to`; another
+    /// file that had this name is no more. At no time is there no file of this name, if there was one.
+    fn put_in_place(&mut self, file: Self::File, from: &str, to: &str) -> io::Result<()>
+        ensures asked { AsksFor (asked self.old) (asked self.new) (Placed from.now to.now (Self.File.contents file) ∷ []) };
+}
+
+/// Writes a checkpoint to a new file with the name `new`, which then takes the name `name`. So a file of that name is whole at any time: it
+/// is the one before, or the new one.
+///
+/// # Errors
+///
+/// Memory was refused, or the system's reason, where the new file was not made, written or put in its place. What was written of it
+/// stays.
+pub fn replace<F: CheckpointFiles, A: Allocator + Copy>(
+    alloc: A,
+    files: &mut F,
+    new: &str,
+    name: &str,
+    decided: &[DecidedRound],
+    places: &[Pe],
+    workload: &Workload<A>,
+) -> io::Result<()>
+    ensures asked { Replaces new.now name.now (checkpoint_text (record { decided = decided.now; places = places.now; workload = workload.now }))
+        (F.asked files.old) (F.asked files.new) result }
+{
+    let mut file = files.create(new)?;
+    fill(alloc, &mut file, decided, places, workload)?;
+    files.put_in_place(file, new, name)
+}
+
+// Writes the text of a checkpoint, and flushes the writer.
+fn fill<W: Write, A: Allocator + Copy>(
+    alloc: A,
+    writer: &mut W,
+    decided: &[DecidedRound],
+    places: &[Pe],
+    workload: &Workload<A>,
+) -> io::Result<()>
+    ensures written { OnOk result (Appends (W.contents writer.old) (W.contents writer.new)
+        (checkpoint_text (record { decided = decided.now; places = places.now; workload = workload.now }))) }
+{
+    write_checkpoint(alloc, decided, places, workload, writer)?;
+    writer.flush()
+}
