@@ -2,10 +2,10 @@
 use Rattle.std.proofs.Common.{◌≡◌, ◌∙◌, ap, inl, inr, ℕ, List, [], ◌∷◌, ◌++◌, append_assoc, Option, None, Some, Result, Ok, Err}
 use Rattle.std.specs.Prelude.{IfSome, ⊤}
 use Rattle.std.specs.Io.KnownBytes.{Appends}
-use Rattle.checkpointed_runs.specs.Keeping.{Asked, AsksFor, Made, Placed, Replaces}
+use Rattle.checkpointed_runs.specs.Keeping.{FileRequest, AsksFor, Made, Placed, Replaces}
 
 -- one thing was asked for after another
-asked_both : (old mid now : Option (List Asked)) (one two : List Asked) → AsksFor old mid one → AsksFor mid now two → AsksFor old now (one ++ two)
+asked_both : (old mid now : Option (List FileRequest)) (one two : List FileRequest) → AsksFor old mid one → AsksFor mid now two → AsksFor old now (one ++ two)
 asked_both None mid now one two first then_ = tt
 asked_both (Some before) None now one two first then_ = absurd first
 asked_both (Some before) (Some between) None one two first then_ = absurd then_
@@ -21,7 +21,7 @@ filled (Some found) (Some whole) bytes is more =
     ap Some (more ∙ ap (λ l. l ++ bytes) empty)
 
 -- the file took the name, or the system refused that
-pub replaces : {E : Type 0} (result : Result ⊤ E) (old mid now : Option (List Asked)) (empty held : Option (List ℕ)) (new name bytes : List ℕ)
+pub replaces : {E : Type 0} (result : Result ⊤ E) (old mid now : Option (List FileRequest)) (empty held : Option (List ℕ)) (new name bytes : List ℕ)
     → AsksFor old mid (Made new ∷ []) → IfSome mid (λ _. empty ≡ Some []) → Appends empty held bytes
     → AsksFor mid now (Placed new name held ∷ []) → Replaces new name bytes old now result
 replaces (Ok _) None mid now empty held new name bytes made is written placed = tt

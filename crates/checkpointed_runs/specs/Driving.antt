@@ -23,6 +23,7 @@ text_from from o = whole_text from.decided from.workload.chares o
 
 -- How a run from a checkpoint ends. What it left is told: its whole text was written, or the line for refused memory, or a prefix of
 -- one. Without a run it is the line for refused memory, or a prefix of it.
-abbrev pub EndsFrom : {A : Type 0} → (TallyView → Type 0) → Strategy → CheckpointView → Option (List ℕ) → Option (List ℕ) → Option (OutcomeView TallyView A) → RunEnd → Type 0
+abbrev pub EndsFrom : {A : Type 0} → (TallyView → Type 0) → Strategy → CheckpointView → Option (List ℕ) → Option (List ℕ)
+    → Option (OutcomeView TallyView A) → RunEnd → Type 0
 EndsFrom fits strategy from old new (Some o) ended = IsLeftFrom fits from strategy o × TellsOutcome (text_from from o) old new o.fault ended
 EndsFrom fits strategy from old new None ended = WritesText memory_line OutOfMemory old new ended

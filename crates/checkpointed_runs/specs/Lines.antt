@@ -1,5 +1,5 @@
 -- The one line that is written where no checkpoint was read, or one was not kept.
-use Rattle.std.specs.Prelude.{◌≡◌, ◌≢◌, ◌⊎◌, ℕ, List, [], ◌∷◌, ◌++◌, codes, Option, Result, Ok, Err, IfSome}
+use Rattle.std.specs.Prelude.{◌≡◌, ◌≢◌, ◌⊎◌, ℕ, List, ◌++◌, codes, Option, Result, Ok, Err, IfSome}
 use Rattle.std.specs.Fmt.{decimal}
 use Rattle.std.specs.Io.KnownBytes.{Appends}
 use Rattle.streams.specs.Writing.{WritesPrefix}
@@ -20,8 +20,8 @@ checkpoint_line Why.Read = codes "checkpoint: read failed" ++ newline
 checkpoint_line Why.OutOfMemory = memory_line
 
 -- the line where a checkpoint was not kept
-abbrev pub kept_line : List ℕ
-kept_line = codes "checkpoint: write failed" ++ newline
+abbrev pub not_kept_line : List ℕ
+not_kept_line = codes "checkpoint: write failed" ++ newline
 
 -- 3 for a fault of the checkpoint, 5 where memory or the output failed
 abbrev pub status_of : NoCheckpoint → ℕ
@@ -41,7 +41,7 @@ ReportsUnread fault old new result =
 
 -- Where the bytes of the reader are known, the checkpoint is the one that they are the text of, and nothing was written. Otherwise the
 -- fault is that of these bytes, or that the reader failed, or that memory was refused.
-abbrev pub ReadsCheckpoint : Option (List ℕ) → Option (List ℕ) → Option (List ℕ) → Option (List ℕ) → Result CheckpointView NoCheckpoint → Type 0
-ReadsCheckpoint bytes rest old new (Ok c) = IfSome bytes (IsCheckpointText c) × (new ≡ old)
-ReadsCheckpoint bytes rest old new (Err unread) =
+abbrev pub ReadsCheckpoint : Option (List ℕ) → Option (List ℕ) → Option (List ℕ) → Result CheckpointView NoCheckpoint → Type 0
+ReadsCheckpoint bytes old new (Ok c) = IfSome bytes (IsCheckpointText c) × (new ≡ old)
+ReadsCheckpoint bytes old new (Err unread) =
     (e : CheckpointError) × IfSome bytes (λ all. (e ≡ Why.Read) ⊎ ((e ≡ Why.OutOfMemory) ⊎ IsFault all e)) × ReportsUnread e old new unread

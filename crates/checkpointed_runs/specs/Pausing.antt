@@ -3,7 +3,7 @@ use Rattle.std.specs.Prelude.{◌≡◌, ℕ, ◌+◌, ◌<◌, ◌≤◌, List,
 use Rattle.std.specs.List.{range_with_len}
 use Rattle.std.specs.Option.{option_map_or}
 use Rattle.at_sync.specs.Boards.{BoardState, Kept, decision_of}
-use Rattle.checkpointed_runs.specs.Keeping.{Asked, Keeps}
+use Rattle.checkpointed_runs.specs.Keeping.{FileRequest, Keeps}
 use Rattle.lb_database.specs.Measuring.{elements}
 use Rattle.lb_refinement.specs.Refined.{refined_bottleneck, refined_cuts, refined_moved, refined_names}
 use Rattle.lb_refinement.specs.declared.refined.Refined.{Refined}
@@ -33,7 +33,8 @@ pub record IsDue (written least n : ℕ) : Type 0 where
   pub enough : written + least ≤ n
 
 -- a checkpoint was kept of a run that has a file for it; of another nothing was
-abbrev pub KeepsAt : {E : Type 0} → Option (List ℕ) → Option WorkloadView → List DecidedRound → List ℕ → Option (List Asked) → Option (List Asked) → Result ⊤ E → Type 0
+abbrev pub KeepsAt : {E : Type 0} → Option (List ℕ) → Option WorkloadView → List DecidedRound → List ℕ → Option (List FileRequest)
+    → Option (List FileRequest) → Result ⊤ E → Type 0
 KeepsAt None workload decided places old now kept = now ≡ old
 KeepsAt (Some name) None decided places old now kept = now ≡ old
 KeepsAt (Some name) (Some w) decided places old now kept = Keeps name (record { decided = decided; places = places; workload = w }) old now kept
@@ -45,7 +46,7 @@ first_failure None (Ok _) = None
 first_failure None (Err e) = Some e
 
 -- a checkpoint was kept, or it was not, and then the reason is noted, if it is the first
-abbrev pub KeepsNoted : {E : Type 0} → Option (List ℕ) → Option WorkloadView → List DecidedRound → List ℕ → Option (List Asked) → Option (List Asked)
+abbrev pub KeepsNoted : {E : Type 0} → Option (List ℕ) → Option WorkloadView → List DecidedRound → List ℕ → Option (List FileRequest) → Option (List FileRequest)
     → Option E → Option E → Type 0
 KeepsNoted {E} name workload decided places old now failed failed' =
     (kept : Result ⊤ E) × KeepsAt name workload decided places old now kept × (failed' ≡ first_failure failed kept)

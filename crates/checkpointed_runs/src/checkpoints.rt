@@ -5,7 +5,7 @@ ghost use Rattle.std.specs.Option.{option_copied, option_map};
 ghost use Rattle.std.specs.String.{string_bytes};
 ghost use Rattle.at_sync.specs.Boards.{decision_of};
 ghost use Rattle.checkpointed_runs.specs.Keeping.{Keeps, new_name};
-ghost use Rattle.checkpointed_runs.specs.Lines.{kept_line};
+ghost use Rattle.checkpointed_runs.specs.Lines.{not_kept_line};
 ghost use Rattle.checkpointed_runs.specs.Pausing.{IsDue, KeepsAt, KeepsNoted, all_decided, first_failure, last_places, places_by};
 ghost use Rattle.lb_database.specs.Measuring.{elements};
 ghost use Rattle.lb_refinement.specs.Refined.{refined_bottleneck, refined_cuts, refined_moved, refined_names};
@@ -93,7 +93,8 @@ impl<'a, F: CheckpointFiles + Drop, A: Allocator + Copy> Checkpoints<'a, F, A> {
         ensures off { self.old.name ≡ None → self.new ≡ self.old }
         ensures asked { KeepsNoted (option_map (λ name. name.now) self.old.name) (Some workload) before.items places.now
             (F.asked self.old.files) (F.asked self.new.files) self.old.failed self.new.failed }
-        ensures begun { IsSome self.old.name → self.new ≡ record self.old { files = self.new.files; before = before; written = 0; workload = Some workload; failed = self.new.failed } }
+        ensures begun { IsSome self.old.name → self.new
+            ≡ record self.old { files = self.new.files; before = before; written = 0; workload = Some workload; failed = self.new.failed } }
     {
         if !self.is_on() {
             return;
@@ -113,7 +114,8 @@ impl<'a, F: CheckpointFiles + Drop, A: Allocator + Copy> Checkpoints<'a, F, A> {
         ensures asked { IsDue self.old.written self.old.every (length outcome.now.board.rounds) →
             KeepsNoted (option_map (λ name. name.now) self.old.name) self.old.workload (all_decided self.old.before.items outcome.now.board.rounds)
             (last_places outcome.now.board) (F.asked self.old.files) (F.asked self.new.files) self.old.failed self.new.failed }
-        ensures same { self.new ≡ record self.old { files = self.new.files; written = self.new.written; failed = self.new.failed } }
+        ensures counted { IsSome self.old.name → IsDue self.old.written self.old.every (length outcome.now.board.rounds) →
+            self.new ≡ record self.old { files = self.new.files; written = length outcome.now.board.rounds; failed = self.new.failed } }
     {
         self.keep_due(outcome, self.every);
     }
@@ -126,7 +128,8 @@ impl<'a, F: CheckpointFiles + Drop, A: Allocator + Copy> Checkpoints<'a, F, A> {
         ensures asked { IsSome outcome.now.fault → IsDue self.old.written 1 (length outcome.now.board.rounds) →
             KeepsNoted (option_map (λ name. name.now) self.old.name) self.old.workload (all_decided self.old.before.items outcome.now.board.rounds)
             (last_places outcome.now.board) (F.asked self.old.files) (F.asked self.new.files) self.old.failed self.new.failed }
-        ensures same { self.new ≡ record self.old { files = self.new.files; written = self.new.written; failed = self.new.failed } }
+        ensures counted { IsSome outcome.now.fault → IsSome self.old.name → IsDue self.old.written 1 (length outcome.now.board.rounds) →
+            self.new ≡ record self.old { files = self.new.files; written = length outcome.now.board.rounds; failed = self.new.failed } }
     {
         if outcome.fault().is_some() {
             self.keep_due(outcome, 1);
@@ -140,9 +143,12 @@ impl<'a, F: CheckpointFiles + Drop, A: Allocator + Copy> Checkpoints<'a, F, A> {
         ensures asked { IsDue self.old.written least (length outcome.now.board.rounds) →
             KeepsNoted (option_map (λ name. name.now) self.old.name) self.old.workload (all_decided self.old.before.items outcome.now.board.rounds)
             (last_places outcome.now.board) (F.asked self.old.files) (F.asked self.new.files) self.old.failed self.new.failed }
-        ensures same { self.new ≡ record self.old { files = self.new.files; written = self.new.written; failed = self.new.failed } }
+        ensures counted { IsSome self.old.name → IsDue self.old.written least (length outcome.now.board.rounds) →
+            self.new ≡ record self.old { files = self.new.files; written = length outcome.now.board.rounds; failed = self.new.failed } }
     {
-        if self.is_on() && is_due(self.written, least, outcome.rounds().len()) {
+        let rounds = outcome.rounds().len();
+        if self.is_on() && is_due(self.written, least, rounds) {
+            self.written = rounds;
             let kept = self.keep_after(outcome);
             self.note(kept);
         }
@@ -152,11 +158,10 @@ impl<'a, F: CheckpointFiles + Drop, A: Allocator + Copy> Checkpoints<'a, F, A> {
     fn keep_after<C: Chare<A>>(&mut self, outcome: &Outcome<C, A>) -> io::Result<()>
         ensures asked { KeepsAt (option_map (λ name. name.now) self.old.name) self.old.workload (all_decided self.old.before.items outcome.now.board.rounds)
             (last_places outcome.now.board) (F.asked self.old.files) (F.asked self.new.files) result }
-        ensures same { self.new ≡ record self.old { files = self.new.files; written = self.new.written } }
+        ensures same { self.new ≡ record self.old { files = self.new.files } }
     {
         let decided = all_decided(self.alloc, &self.before, outcome.rounds())?;
         let places = last_places(self.alloc, outcome.board())?;
-        self.written = outcome.rounds().len();
         self.keep(&decided, &places)
     }
 
@@ -184,7 +189,9 @@ impl<'a, F: CheckpointFiles + Drop, A: Allocator + Copy> Checkpoints<'a, F, A> {
 
 impl<F: CheckpointFiles + Drop, C: Chare<A>, A: Allocator + Copy> Pauses<C, A>
     for Checkpoints<'_, F, A> {
-    fn are_wanted(&self) -> bool {
+    fn are_wanted(&self) -> bool
+        ensures value { IsTrue result ↔ IsSome self.now.name }
+    {
         self.is_on()
     }
 
@@ -194,7 +201,8 @@ impl<F: CheckpointFiles + Drop, C: Chare<A>, A: Allocator + Copy> Pauses<C, A>
         ensures asked { IsDue self.old.written self.old.every (length outcome.now.board.rounds) →
             KeepsNoted (option_map (λ name. name.now) self.old.name) self.old.workload (all_decided self.old.before.items outcome.now.board.rounds)
             (last_places outcome.now.board) (F.asked self.old.files) (F.asked self.new.files) self.old.failed self.new.failed }
-        ensures same { self.new ≡ record self.old { files = self.new.files; written = self.new.written; failed = self.new.failed } }
+        ensures counted { IsSome self.old.name → IsDue self.old.written self.old.every (length outcome.now.board.rounds) →
+            self.new ≡ record self.old { files = self.new.files; written = length outcome.now.board.rounds; failed = self.new.failed } }
     {
         self.follow(outcome);
     }
@@ -301,7 +309,7 @@ fn places_by<A: Allocator>(
 /// that case the writer gets the line `checkpoint: write failed`, or a prefix of it where it fails.
 pub fn finish_kept<W: Write>(status: u8, has_failed: bool, writer: &mut W) -> u8
     ensures kept { IsFalse has_failed → (result ≡ status) × (W.contents writer.new ≡ W.contents writer.old) }
-    ensures failed { IsTrue has_failed → (result ≡ 5) × WritesPrefix (W.contents writer.old) (W.contents writer.new) kept_line }
+    ensures failed { IsTrue has_failed → (result ≡ 5) × WritesPrefix (W.contents writer.old) (W.contents writer.new) not_kept_line }
 {
     if !has_failed {
         return status;

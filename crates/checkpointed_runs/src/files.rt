@@ -2,7 +2,7 @@
 
 ghost use Rattle.std.specs.Prelude.{◌≡◌, ◌∷◌, [], ℕ, List, Option, Some, IfOk, IfSome, OnOk};
 ghost use Rattle.std.specs.Io.KnownBytes.{Appends};
-ghost use Rattle.checkpointed_runs.specs.Keeping.{Asked, AsksFor, Made, Placed, Replaces};
+ghost use Rattle.checkpointed_runs.specs.Keeping.{FileRequest, AsksFor, Made, Placed, Replaces};
 ghost use Rattle.run_checkpoint.specs.Text.{checkpoint_text};
 
 use chare_index::Pe;
@@ -17,7 +17,7 @@ pub trait CheckpointFiles {
     type File: Write + Drop;
 
     // what was asked for, in order, where that is known
-    ghost asked: { Self → Option (List Asked) };
+    ghost asked: { Self → Option (List FileRequest) };
 
     /// Makes the file with this name, empty. Where it is known what is asked for, it is known what a file holds, too.
     fn create(&mut self, name: &str) -> io::Result<Self::File>

@@ -1,6 +1,6 @@
 //! Checkpoints that are read, and what is written of a fault.
 
-ghost use Rattle.std.specs.Prelude.{◌≡◌, ◌≢◌, ◌⊎◌, ℕ, List, Option, Some, IfErr, IfOk, IsErr};
+ghost use Rattle.std.specs.Prelude.{◌≡◌, ◌≢◌, ◌⊎◌, Some, IfErr, IfOk, IsErr};
 ghost use Rattle.std.specs.String.{string_bytes};
 ghost use Rattle.checkpointed_runs.specs.Lines.{ReadsCheckpoint, ReportsUnread, WritesLine, checkpoint_line, status_of};
 ghost use Rattle.checkpointed_runs.specs.declared.reading.NoCheckpoint.TheVariants.{OutOfMemory};
@@ -51,7 +51,7 @@ pub fn read_checkpoint<R: Read + Drop, W: Write, A: Allocator + Copy>(
     writer: &mut W,
 ) -> (Result<Checkpoint<A>, NoCheckpoint>, Option<io::Error>)
     ensures within { IfOk result.0 IsWithin }
-    ensures opened { IfOk file (λ file. (rest : Option (List ℕ)) × ReadsCheckpoint (R.remaining file) rest (W.contents writer.old) (W.contents writer.new) result.0) }
+    ensures opened { IfOk file (λ file. ReadsCheckpoint (R.remaining file) (W.contents writer.old) (W.contents writer.new) result.0) }
     ensures unopened { IfErr file (λ _. IfErr result.0 (ReportsUnread Why.Read (W.contents writer.old) (W.contents writer.new))) }
     ensures unread { IfErr file (λ _. IsErr result.0) }
     ensures reason { IfErr file (λ reason. result.1 ≡ Some reason) }
@@ -76,7 +76,7 @@ fn read_from<R: Read, W: Write, A: Allocator + Copy>(
     writer: &mut W,
 ) -> Result<Checkpoint<A>, NoCheckpoint>
     ensures within { IfOk result IsWithin }
-    ensures read { ReadsCheckpoint (R.remaining reader.old) (R.remaining reader.new) (W.contents writer.old) (W.contents writer.new) result }
+    ensures read { ReadsCheckpoint (R.remaining reader.old) (W.contents writer.old) (W.contents writer.new) result }
 {
     match Checkpoint::read_from(alloc, reader) {
         Ok(checkpoint) => Ok(checkpoint),

@@ -50,7 +50,8 @@ fn push_rest<A: Allocator + Copy>(
     outcome: &Outcome<Tally<A>, A>,
 ) -> Result<(), AllocError>
     requires tallies { AreTallies n outcome.now }
-    ensures { OnOk result (string_bytes text.new ≡ string_bytes text.old ++ later_lines before outcome.now.board.rounds ++ ending_line outcome.now.fault (element_sums outcome.now n)) }
+    ensures { OnOk result (string_bytes text.new
+        ≡ string_bytes text.old ++ later_lines before outcome.now.board.rounds ++ ending_line outcome.now.fault (element_sums outcome.now n)) }
 {
     push_later(text, before, outcome.rounds())?;
     push_ending(alloc, text, n, outcome)

@@ -6,7 +6,7 @@ use Rattle.run_checkpoint.specs.declared.error.CheckpointError.TheVariants.{Long
 use Rattle.run_checkpoint.specs.declared.form.TheConstants.{TEXT_BYTES}
 use Rattle.run_checkpoint.specs.Text.{CheckpointView, IsCheckpointText, body_text, head_line}
 use Rattle.run_checkpoint.specs.Bodies.{IsBody}
-use Rattle.run_checkpoint.specs.Faults.{IsBadHead, IsBodyFault, IsFault, IsHead}
+use Rattle.run_checkpoint.specs.Faults.{IsBadHead, IsFault, IsHead}
 use Rattle.run_checkpoint.specs.Reading.{IsAnswer}
 use Rattle.run_checkpoint.specs.Scanning.{IsFront}
 use Rattle.run_checkpoint.proofs.BodyParts.{IsNoBody}

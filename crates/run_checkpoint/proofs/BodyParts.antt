@@ -1,10 +1,10 @@
 -- A checkpoint behind its first line, part by part.
-use Rattle.std.proofs.Common.{◌≡◌, ℕ, ◌+◌, ◌⊎◌, inl, inr, List, ◌++◌, length, sym, ap, subst, ◌∙◌, refl, arith}
+use Rattle.std.proofs.Common.{◌≡◌, ℕ, ◌+◌, ◌⊎◌, inl, inr, List, ◌++◌, sym, ap, subst, ◌∙◌}
 use Rattle.workload.specs.Text.{IsText, WorkloadView}
 use Rattle.run_checkpoint.specs.declared.checkpoint.DecidedRound.{DecidedRound}
 use Rattle.run_checkpoint.specs.declared.error.CheckpointError.{CheckpointError}
 use Rattle.run_checkpoint.specs.declared.error.CheckpointError.TheVariants.{OutOfMemory}
-use Rattle.run_checkpoint.specs.Text.{CheckpointView, places_line, round_lines}
+use Rattle.run_checkpoint.specs.Text.{places_line, round_lines}
 use Rattle.run_checkpoint.specs.Faults.{AreBadPlaces, AreBadRounds, AreItsPlaces, AreItsRounds, ArePlaces, AreRounds, IsApart, IsBadWorkload, IsBodyFault}
 use Rattle.run_checkpoint.specs.Bodies.{IsBody}
 use Rattle.run_checkpoint.specs.Scanning.{IsFront}

@@ -1,9 +1,8 @@
 -- The first line of a checkpoint and the lines of its rounds: what is read of them.
-use Rattle.std.proofs.Common.{◌≡◌, ℕ, ◌+◌, ◌^◌, ◌<◌, ◌≤◌, List, [], ◌∷◌, ◌++◌, Option, Some, None, sym, ap, subst, ◌∙◌, inl, inr, refl, arith, append_assoc}
+use Rattle.std.proofs.Common.{◌≡◌, ℕ, ◌+◌, ◌^◌, ◌<◌, ◌≤◌, List, [], ◌∷◌, ◌++◌, Option, Some, None, sym, ap, ◌∙◌, refl, arith, append_assoc}
 use Rattle.std.specs.Prelude.{codes}
 use Rattle.std.specs.Option.{option_and_then}
 use Rattle.std.specs.Fmt.{decimal}
-use Rattle.std.specs.List.{flat_map}
 use Rattle.std.proofs.lemmas.List.{append-nil}
 use Rattle.tally.specs.declared.tally_limits.TheConstants.TallyLimits.{AMOUNTS}
 use Rattle.workload.specs.Text.{line}
@@ -11,7 +10,7 @@ use Rattle.run_checkpoint.specs.declared.checkpoint.DecidedRound.{DecidedRound}
 use Rattle.run_checkpoint.specs.declared.error.CheckpointError.TheVariants.{Form, Limit}
 use Rattle.run_checkpoint.specs.declared.form.TheConstants.{DIGITS}
 use Rattle.run_checkpoint.specs.Text.{IsDecided, decided_line, head_line}
-use Rattle.run_checkpoint.specs.Faults.{IsBadHead, IsBadRound, IsHead, IsMalformed, IsRoundForm, IsShort}
+use Rattle.run_checkpoint.specs.Faults.{IsBadHead, IsBadRound, IsHead, IsRoundForm, IsShort}
 use Rattle.run_checkpoint.specs.Scanning.{behind, number_at, behind_number, head_at, round_at, RoundLine, behind_moved, behind_bottleneck, behind_round, IsFront}
 use Rattle.run_checkpoint.proofs.Digits.{same_parts}
 use Rattle.run_checkpoint.proofs.Words.{is_behind, is_number, IsNumberAt, number_reads}

@@ -1,5 +1,5 @@
 -- Bytes have one fault at most, and the text of a checkpoint has none.
-use Rattle.std.proofs.Common.{◌≡◌, ℕ, ◌+◌, ◌^◌, ◌<◌, ◌≤◌, ◌⊎◌, inl, inr, List, [], ◌∷◌, ◌++◌, length, sym, ap, subst, ◌∙◌, refl, arith, append_assoc, length-append}
+use Rattle.std.proofs.Common.{◌≡◌, ℕ, ◌+◌, ◌^◌, ◌<◌, ◌⊎◌, inl, inr, List, [], ◌∷◌, ◌++◌, length, sym, ap, subst, ◌∙◌, refl, arith, append_assoc}
 use Rattle.std.specs.Prelude.{All}
 use Rattle.std.proofs.lemmas.Bool.{cases_lt}
 use Rattle.std.proofs.lemmas.List.Elements.{All-head, All-tail, All-weaker}
@@ -12,7 +12,7 @@ use Rattle.run_checkpoint.specs.declared.checkpoint.DecidedRound.{DecidedRound}
 use Rattle.run_checkpoint.specs.declared.error.CheckpointError.{CheckpointError}
 use Rattle.run_checkpoint.specs.declared.error.CheckpointError.TheVariants.{Form, Limit, Long, Read, OutOfMemory}
 use Rattle.run_checkpoint.specs.declared.form.TheConstants.{DIGITS}
-use Rattle.run_checkpoint.specs.Faults.{AreBadPlaces, AreBadRounds, AreFewRounds, AreItsPlaces, AreItsRounds, ArePlaces, AreRounds, IsApart, IsBadHead, IsBadLine, IsBadRound, IsBadWorkload, IsBehind, IsBodyFault, IsFault, IsHead, IsLineFault, IsOtherWorkload, IsPlacesFault, IsRoundForm, IsShort, IsWorkFault, shifted}
+use Rattle.run_checkpoint.specs.Faults.{AreBadPlaces, AreBadRounds, AreFewRounds, AreItsPlaces, AreItsRounds, ArePlaces, AreRounds, IsApart, IsBadHead, IsBadLine, IsBadRound, IsBehind, IsBodyFault, IsFault, IsHead, IsLineFault, IsPlacesFault, IsRoundForm, IsShort, IsWorkFault, shifted}
 use Rattle.run_checkpoint.specs.Text.{CheckpointView, IsCheckpointText, IsDecided, IsWithin, body_text, decided_line, head_line, places_line, round_lines}
 use Rattle.run_checkpoint.proofs.Fronts.{one_head, one_round, round_form}
 use Rattle.run_checkpoint.proofs.Lengths.{text_is_short}

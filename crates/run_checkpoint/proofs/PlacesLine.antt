@@ -1,5 +1,5 @@
 -- The line of the places, number by number.
-use Rattle.std.proofs.Common.{◌≡◌, ℕ, ◌+◌, ◌^◌, ◌<◌, ◌≤◌, ◌⊎◌, Bool, true, false, List, [], ◌∷◌, ◌++◌, length, Option, Some, None, sym, ap, subst, ◌∙◌, inl, inr, refl, arith, append_assoc, length-append}
+use Rattle.std.proofs.Common.{◌≡◌, ℕ, ◌+◌, ◌<◌, Bool, true, false, List, [], ◌∷◌, ◌++◌, length, Option, Some, None, sym, ap, subst, ◌∙◌, refl, arith, append_assoc, length-append}
 use Rattle.std.specs.Prelude.{All, MatchBool, codes, not, ◌||◌}
 use Rattle.std.specs.Fmt.{decimal}
 use Rattle.std.specs.List.{flat_map}
@@ -9,7 +9,6 @@ use Rattle.std.proofs.lemmas.List.Elements.{All-nil, All-cons, All-head, All-tai
 use Rattle.chare_index.specs.declared.limits.TheConstants.Limits.{ELEMENTS, PES}
 use Rattle.workload.specs.Text.{blank_number}
 use Rattle.run_checkpoint.specs.declared.error.CheckpointError.TheVariants.{Form, Limit}
-use Rattle.run_checkpoint.specs.declared.form.TheConstants.{DIGITS}
 use Rattle.run_checkpoint.specs.Faults.{AreBadPlaces, ArePlaces, IsShort}
 use Rattle.run_checkpoint.specs.Fields.{AreKept, AreFields}
 use Rattle.run_checkpoint.specs.Scanning.{IsFront, behind, number_at}

@@ -1,5 +1,5 @@
 -- Bytes are the text of one checkpoint at most.
-use Rattle.std.proofs.Common.{◌≡◌, ◌⊎◌, inl, inr, ℕ, ◌+◌, ◌≤◌, List, [], ◌++◌, length, replicate, Result, Ok, Err, sym, ap, subst, ◌∙◌, refl, arith}
+use Rattle.std.proofs.Common.{◌≡◌, ◌⊎◌, inl, inr, ℕ, ◌+◌, List, ◌++◌, length, replicate, Result, Ok, Err, sym, subst, ◌∙◌, refl, arith}
 use Rattle.std.specs.Prelude.{MatchResult}
 use Rattle.tally.specs.Tallies.{TallyView}
 use Rattle.workload.specs.Text.{IsText, WorkloadView, workload_text}

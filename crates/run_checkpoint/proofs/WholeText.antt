@@ -1,6 +1,6 @@
 -- The bytes of a reader, piece by piece.
 use Rattle.std.proofs.Common.{◌≡◌, ℕ, ◌+◌, ◌<◌, ◌≤◌, List, [], ◌++◌, length, take, Option, Some, None, Result, Ok, Err, sym, ap, subst, ◌∙◌, refl, arith, length-append, inl, inr, ◌⊎◌}
-use Rattle.std.specs.Prelude.{IfErr, IfSome, ⊤}
+use Rattle.std.specs.Prelude.{IfErr, IfSome}
 use Rattle.std.specs.Result.{IsErrAnd}
 use Rattle.std.specs.Io.KnownBytes.{Consumes, IsAtEnd, Keeps}
 use Rattle.std.proofs.lemmas.List.{append-nil}

@@ -1,5 +1,5 @@
 -- Numbers, each after a blank, that a reader of places has met. No public clause uses these definitions.
-use Rattle.std.specs.Prelude.{◌≡◌, ℕ, Bool, true, false, List, [], ◌∷◌, ◌++◌, All}
+use Rattle.std.specs.Prelude.{◌≡◌, ℕ, Bool, true, false, List, ◌∷◌, ◌++◌, All}
 use Rattle.std.specs.List.{flat_map}
 use Rattle.workload.specs.Text.{blank_number}
 use Rattle.run_checkpoint.specs.Faults.{ArePlaces, IsShort}

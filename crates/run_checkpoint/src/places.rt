@@ -61,7 +61,8 @@ fn take_places<'b, A: Allocator>(
 
 // Appends a place to the list, unless it is past the last PE or the list has as many as there may be chares. Returns whether it did.
 fn keep<A: Allocator>(places: &mut Vec<Pe, A>, place: u128) -> Result<bool, AllocError>
-    ensures { IfOk result (λ kept. MatchBool kept ((places.new.items ≡ places.old.items ++ (place ∷ [])) × (length places.old.items < Limits.ELEMENTS) × (place < Limits.PES))
+    ensures { IfOk result (λ kept. MatchBool kept
+        ((places.new.items ≡ places.old.items ++ (place ∷ [])) × (length places.old.items < Limits.ELEMENTS) × (place < Limits.PES))
         ((length places.old.items < Limits.ELEMENTS) × (place < Limits.PES) → ⊥)) }
 {
     if places.len() >= Limits::ELEMENTS as usize || place >= Limits::PES as u128 {

@@ -26,8 +26,10 @@ pub(crate) fn read_whole<R: Read, A: Allocator + Copy>(
     alloc: A,
     reader: &mut R,
 ) -> Result<Vec<u8, A>, CheckpointError>
-    ensures ended { IfOk result (λ bytes. Consumes (R.remaining reader.old) (R.remaining reader.new) bytes.items × IsAtEnd (R.remaining reader.new) × (length bytes.items ≤ TEXT_BYTES)) }
-    ensures stopped { IfErr result (λ e. (text : List ℕ) × Consumes (R.remaining reader.old) (R.remaining reader.new) text × (length text ≤ TEXT_BYTES + 1) × IsStop text e) }
+    ensures ended { IfOk result (λ bytes. Consumes (R.remaining reader.old) (R.remaining reader.new) bytes.items
+        × IsAtEnd (R.remaining reader.new) × (length bytes.items ≤ TEXT_BYTES)) }
+    ensures stopped { IfErr result (λ e. (text : List ℕ) × Consumes (R.remaining reader.old) (R.remaining reader.new) text
+        × (length text ≤ TEXT_BYTES + 1) × IsStop text e) }
 {
     let mut piece = Vec::new(alloc);
     piece.resize(PIECE_LEN, 0)?;
@@ -45,8 +47,10 @@ fn read_onto<R: Read, A: Allocator>(
 ) -> Result<(), CheckpointError>
     requires empty { bytes.old.items ≡ [] }
     requires room { length piece.old ≡ PIECE_LEN }
-    ensures ended { OnOk result (Consumes (R.remaining reader.old) (R.remaining reader.new) bytes.new.items × IsAtEnd (R.remaining reader.new) × (length bytes.new.items ≤ TEXT_BYTES)) }
-    ensures stopped { IfErr result (λ e. (text : List ℕ) × Consumes (R.remaining reader.old) (R.remaining reader.new) text × (length text ≤ TEXT_BYTES + 1) × IsStop text e) }
+    ensures ended { OnOk result (Consumes (R.remaining reader.old) (R.remaining reader.new) bytes.new.items
+        × IsAtEnd (R.remaining reader.new) × (length bytes.new.items ≤ TEXT_BYTES)) }
+    ensures stopped { IfErr result (λ e. (text : List ℕ) × Consumes (R.remaining reader.old) (R.remaining reader.new) text
+        × (length text ≤ TEXT_BYTES + 1) × IsStop text e) }
 {
     for _ in 0..CALLS {
         let room = &mut piece[..PIECE_LEN.min(TEXT_BYTES + 1 - bytes.len())];

@@ -2,4 +2,4 @@ use Rattle.checkpointed_runs.proofs.reading.read_checkpoint.Goals as goal
 
 pub returns-in-Ok-clause-opened : goal.returns-in-Ok-clause-opened
 returns-in-Ok-clause-opened g c =
-    rw c.in-Ok.is (g.R.Read.remaining c.read_from-checkpoint.new.reader.inner, rw c.new-noted.ensures.inner at c.read_from-checkpoint.ensures.read)
+    rw c.in-Ok.is (rw c.new-noted.ensures.inner at c.read_from-checkpoint.ensures.read)

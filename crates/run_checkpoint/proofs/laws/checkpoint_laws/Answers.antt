@@ -1,5 +1,6 @@
 use Rattle.run_checkpoint.proofs.Lengths.{text_is_short}
 use Rattle.run_checkpoint.proofs.Lone.{no_fault, one_fault}
+use Rattle.run_checkpoint.proofs.NextRounds.{takes_round}
 use Rattle.run_checkpoint.proofs.TextLaws.{one_checkpoint, one_text, opening, written}
 use Rattle.run_checkpoint.proofs.laws.checkpoint_laws.Goals as goal
 
@@ -23,3 +24,6 @@ returns-clause-short c = text_is_short
 
 pub returns-clause-opening : goal.returns-clause-opening
 returns-clause-opening c = opening
+
+pub returns-clause-next : goal.returns-clause-next
+returns-clause-next c = takes_round

@@ -1,5 +1,5 @@
-use Rattle.std.proofs.Common.{◌≡◌, ◌<◌, List, ℕ, map, replicate, slice_index, take, ap, refl, ◌∙◌, arith, length}
-use Rattle.std.specs.Prelude.{All, Vec, sum}
+use Rattle.std.proofs.Common.{◌≡◌, ◌<◌, List, ℕ, map, replicate, slice_index, take, ap, ◌∙◌, arith, length}
+use Rattle.std.specs.Prelude.{Vec, sum}
 use Rattle.run_checkpoint.specs.Tallies.{amounts_of, sender}
 use Rattle.std.proofs.lemmas.List.Elements.{All-take}
 use Rattle.run_checkpoint.proofs.Collecting.{collected_rows, row_inside, same_tally, summed, tally_within}

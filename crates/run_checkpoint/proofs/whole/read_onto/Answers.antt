@@ -1,6 +1,6 @@
-use Rattle.std.proofs.Common.{◌≡◌, ◌+◌, ◌-◌, ◌<◌, ◌≤◌, ℕ, length, take, ap, sym, subst, arith, rules, length-append}
+use Rattle.std.proofs.Common.{◌≡◌, ◌-◌, ℕ, length, take, ap, sym, subst, arith, rules, length-append}
 use Rattle.std.specs.Io.KnownBytes.{Consumes}
-use Rattle.std.proofs.KnownBytes.{Consumes-nil, Consumes-trans}
+use Rattle.std.proofs.KnownBytes.{Consumes-trans}
 use Rattle.std.proofs.lemmas.List.{length-take, length-take-le}
 use Rattle.run_checkpoint.specs.declared.error.CheckpointError.TheVariants.{OutOfMemory}
 use Rattle.run_checkpoint.proofs.WholeText.{Shows, failed, no_memory, shown, too_long}

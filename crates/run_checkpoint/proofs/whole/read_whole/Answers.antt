@@ -1,5 +1,3 @@
-use Rattle.std.proofs.Common.{[], arith}
-use Rattle.std.proofs.KnownBytes.{Consumes-nil}
 use Rattle.run_checkpoint.specs.declared.error.CheckpointError.TheVariants.{OutOfMemory}
 use Rattle.run_checkpoint.proofs.WholeText.{nothing_read, shown}
 use Rattle.run_checkpoint.proofs.whole.read_whole.Goals as goal

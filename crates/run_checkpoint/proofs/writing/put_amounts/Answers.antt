@@ -1,4 +1,4 @@
-use Rattle.std.proofs.Common.{ℕ, subst, take, arith, length}
+use Rattle.std.proofs.Common.{ℕ, subst}
 use Rattle.std.specs.Prelude.{Vec}
 use Rattle.std.specs.List.{flat_map}
 use Rattle.std.specs.Io.KnownBytes.{Appends}

@@ -1,7 +1,7 @@
 use Rattle.std.proofs.Common.{◌≡◌, ◌++◌, List, [], ◌∷◌, ℕ, ap, map, sym, ◌∙◌}
 use Rattle.std.specs.Prelude.{codes, Vec}
 use Rattle.std.specs.List.{flat_map}
-use Rattle.workload.specs.Text.{amounts_text, line, workload_text, WorkloadView}
+use Rattle.workload.specs.Text.{amounts_text, line, WorkloadView}
 use Rattle.run_checkpoint.proofs.WrittenParts.{after, fails, spelled, pieces_of}
 use Rattle.run_checkpoint.proofs.writing.put_workload.Goals as goal
 

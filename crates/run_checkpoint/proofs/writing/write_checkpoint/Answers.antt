@@ -1,6 +1,5 @@
-use Rattle.std.proofs.Common.{◌≡◌, ◌++◌, List, [], ◌∷◌, ℕ, length}
-use Rattle.std.specs.Prelude.{codes}
-use Rattle.workload.specs.Text.{line, workload_text, WorkloadView}
+use Rattle.std.proofs.Common.{◌++◌, List, ℕ, length}
+use Rattle.workload.specs.Text.{workload_text, WorkloadView}
 use Rattle.run_checkpoint.specs.Text.{head_line, places_line, round_lines}
 use Rattle.run_checkpoint.specs.declared.checkpoint.DecidedRound.{DecidedRound}
 use Rattle.run_checkpoint.proofs.WrittenParts.{after, fails}

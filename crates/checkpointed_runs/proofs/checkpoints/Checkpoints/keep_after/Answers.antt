@@ -1,4 +1,4 @@
-use Rattle.std.proofs.Common.{◌≡◌, ◌∙◌, ℕ, List, Bor}
+use Rattle.std.proofs.Common.{◌≡◌, ℕ, List, Bor}
 use Rattle.std.specs.Option.{option_map}
 use Rattle.checkpointed_runs.specs.Pausing.{all_decided, last_places}
 use Rattle.checkpointed_runs.proofs.Kept.{kept_as}
