@@ -1,11 +1,10 @@
 -- The machine values of a lodge and of a handle, and what they own, taken apart and put together. Assumes `Logic`.
 use Rattle.std.proofs.Common.{◌≡◌, List, [], ◌∷◌, ◌++◌, refl, subst}
-use mathlib.Core.Bool.{Bool, true, false}
+use mathlib.Core.Bool.{Bool}
 use seplogic.Ra.Ura.{Ura}
-use mir.Val.{Val, vbool, vstruct, vcons, vnil, of_list}
-use base.Fml.{ftrue}
+use mir.Val.{Val, vbool, vstruct, of_list}
 use types.Logic.{Logic}
-use types.Kit.{Item, Goal, Seq, Step, step, ‵, ◌$◌, move, drop, fsplit, fjoin, fpick, fpack, feq_i, feq_l}
+use types.Kit.{Item, Goal, Seq, Step, step, ‵, ◌$◌, drop, fsplit, fjoin, fpick, fpack, feq_i, feq_l}
 use denote.RattleType.{RattleType, Valss}
 use denote.Builtin.{RawPtr, bool}
 use denote.RawPtr.{Ptr, ptr_val}

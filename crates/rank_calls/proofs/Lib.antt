@@ -2,3 +2,4 @@ pub mod Openings
 pub mod Fields
 pub mod Values
 pub mod Spent
+pub mod Reasons

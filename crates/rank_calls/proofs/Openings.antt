@@ -1,6 +1,6 @@
 -- The chares as an array opens.
-use Rattle.std.proofs.Common.{◌≡◌, ℕ, ◌+◌, ◌<◌, zero, suc, List, length, Some, slice_get, refl, sym, ap, ◌∙◌, arith}
-use Rattle.foreign_chare.specs.Scripts.{Stamp, new_stamp}
+use Rattle.std.proofs.Common.{◌≡◌, ℕ, ◌+◌, ◌<◌, zero, suc, length, Some, slice_get, refl, ap, ◌∙◌, arith}
+use Rattle.foreign_chare.specs.Scripts.{new_stamp}
 use Rattle.rank_calls.specs.Runs.{Run, opening, stamps_from}
 
 -- there are as many as elements

@@ -1,15 +1,16 @@
 -- What a PE is asked, what the program promises of the run, and what the PE is then.
-use Rattle.std.specs.Prelude.{◌≡◌, ℕ, ◌<◌, ◌≤◌, List, length, Bool, true, false, Option, Some, None, IfSome, IsSomeAnd, MatchOption, slice_get, if◌then◌else◌}
-use Rattle.std.specs.Option.{option_and_then}
-use Rattle.chares.specs.declared.carried.Carried.TheVariants as Carried
+use Rattle.std.specs.Prelude.{◌≡◌, ℕ, ◌<◌, ◌≤◌, List, length, Bool, true, false, Option, Some, None, IfSome, IsSome, IsSomeAnd, slice_get}
+use Rattle.std.specs.Option.{option_map}
+use Rattle.chares.specs.declared.note.Note.{Note}
 use Rattle.foreign_chare.specs.Scripts.{Answered, Stamp}
 use Rattle.pe_state.specs.declared.error.StepError.{StepError}
 use Rattle.pe_state.specs.declared.error.StepError.TheVariants as Step
-use Rattle.pe_state.specs.Pes.{PeView, Parcel, acting, departed, front_address, front_parcel, gave_up, has_started, looked, noted, pe_after, received, resumed, wanted}
+use Rattle.pe_state.specs.Pes.{PeView, acting, departed, front_address, front_parcel, gave_up, looked, noted, pe_after, received, resumed, wanted}
 use Rattle.pe_state.specs.Rooms.{found}
 use Rattle.pup_pack.specs.declared.error.PupError.{PupError}
 use Rattle.pup_pack.specs.declared.error.PupError.TheVariants as Pup
 use Rattle.rank_calls.specs.Messages.{message_of}
+use Rattle.rank_calls.specs.Refusals.{due, refusal, IsRefused}
 use Rattle.rank_calls.specs.Runs.{Run, IsOfRun, answers_in, opened, stamp_pack, stamp_unpack, step_in}
 use Rattle.rank_calls.specs.declared.request.CallError.{CallError}
 use Rattle.rank_calls.specs.declared.request.CallError.TheVariants.{OutOfMemory, Stranger, TooLong, Worn, BadPack}
@@ -31,14 +32,6 @@ wire_error_of Pup.OutOfMemory = OutOfMemory
 wire_error_of Pup.TooLong = TooLong
 wire_error_of Pup.Short = BadPack
 wire_error_of Pup.Bad = BadPack
-
--- the letter in the hand, where its element stands here and has started: that element, and the body
-abbrev pub due_letter : PeView Stamp → Parcel → Option (ℕ × List ℕ)
-due_letter pe (Carried.Letter l) = if has_started pe l.to then Some (l.to, l.body) else None
-due_letter pe (Carried.Element p) = None
-
-abbrev pub due : PeView Stamp → Option (ℕ × List ℕ)
-due pe = option_and_then (λ x. due_letter pe x.parcel) pe.hand
 
 -- the answer is the one of the run to the next entry of an element, if that stands here
 abbrev pub IsRight : Run → PeView Stamp → Answered → ℕ → Type 0
@@ -78,6 +71,15 @@ after_call run pe Wanted = pe
 after_call run pe Front = pe
 after_call run pe NextNote = pe
 
+-- the calls that do a step and show nothing
+abbrev pub IsStep : Request → Type 0
+IsStep (Send room) = ⊥
+IsStep (Due room) = ⊥
+IsStep Wanted = ⊥
+IsStep Front = ⊥
+IsStep NextNote = ⊥
+IsStep request = Unit {0}
+
 -- it opens, or closes, or has done what it was asked, as an open one
 abbrev pub IsDone : Run → Bool → PeView Stamp → Request → Bool → PeView Stamp → Type 0
 IsDone run was before (Open me pes n) is after = (was ≡ false) × (is ≡ true) × (after ≡ opened pes n me)
@@ -91,35 +93,44 @@ IsSame was before is after = (is ≡ was) × (was ≡ true → after ≡ before)
 abbrev pub IsShown : Bool → PeView Stamp → Bool → PeView Stamp → Type 0
 IsShown was before is after = (was ≡ true) × (is ≡ true) × (after ≡ before)
 
--- the front of the outbox is given up: where it goes, and its message
-abbrev pub IsSent : Bool → PeView Stamp → ℕ → List ℕ → Bool → PeView Stamp → Type 0
-IsSent was before to bytes is after =
-    (was ≡ true) × (is ≡ true) × (front_address before.outbox ≡ Some to) × IfSome (front_parcel before.outbox) (λ p. bytes ≡ message_of p) × (after ≡ gave_up before)
+-- the front of the outbox is given up: where it goes, and its message, which is no longer than what was asked for
+abbrev pub IsSent : Bool → PeView Stamp → Request → ℕ → List ℕ → Bool → PeView Stamp → Type 0
+IsSent was before (Send room) to bytes is after =
+    (was ≡ true) × (is ≡ true) × (front_address before.outbox ≡ Some to) × IsSomeAnd (front_parcel before.outbox) (λ p. bytes ≡ message_of p)
+    × (length bytes ≤ room) × (after ≡ gave_up before)
+IsSent was before request to bytes is after = ⊥
 
--- the message is what was asked for, and no longer than that
-abbrev pub IsRoomy : Request → ℕ → Type 0
-IsRoomy (Send room) n = n ≤ room
-IsRoomy request n = ⊥
+-- whether a handler is due, with a body that is no longer than what was asked for
+abbrev pub IsDueNow : PeView Stamp → Request → Option (ℕ × List ℕ) → Type 0
+IsDueNow pe (Due room) letter = (due pe ≡ letter) × IfSome letter (λ d. length d.1 ≤ room)
+IsDueNow pe request letter = ⊥
 
-abbrev pub IsRoomyFor : Request → ℕ → Type 0
-IsRoomyFor (Due room) n = n ≤ room
-IsRoomyFor request n = ⊥
+-- what else it shows
+abbrev pub IsWantedNow : PeView Stamp → Request → Option ℕ → Type 0
+IsWantedNow pe Wanted index = index ≡ wanted pe
+IsWantedNow pe request index = ⊥
+
+abbrev pub IsFrontNow : PeView Stamp → Request → Option ℕ → Type 0
+IsFrontNow pe Front to = to ≡ front_address pe.outbox
+IsFrontNow pe request to = ⊥
+
+abbrev pub IsOwedNow : PeView Stamp → Request → Option Note → Type 0
+IsOwedNow pe NextNote owed = owed ≡ slice_get pe.notes 0
+IsOwedNow pe request owed = ⊥
 
 -- the body, or the message, is so long, and longer than what was asked for
 abbrev pub IsLong : PeView Stamp → Request → ℕ → Type 0
 IsLong pe (Due room) len = (room < len) × IsSomeAnd (due pe) (λ d. len ≡ length d.1)
-IsLong pe (Send room) len = (room < len) × IsSomeAnd (front_parcel pe.outbox) (λ p. len ≡ length (message_of p))
+IsLong pe (Send room) len = (room < len) × IsSome (front_address pe.outbox) × IsSomeAnd (front_parcel pe.outbox) (λ p. len ≡ length (message_of p))
 IsLong pe request len = ⊥
 
--- What is answered is so, and the PE is as its definitions say, or as it was. An error changes nothing.
+-- What is answered is so, and the PE is as its definitions say, or as it was. What is done was not refused, and a refusal changes nothing.
 abbrev pub IsServed : Run → Bool → PeView Stamp → Request → Reply → Bool → PeView Stamp → Type 0
-IsServed run was before request Done is after = IsDone run was before request is after
-IsServed run was before request (Refused error) is after = IsSame was before is after
-IsServed run was before request (Long len) is after = IsSame was before is after × IsLong before request len
-IsServed run was before request (Sent to bytes) is after = IsSent was before to bytes.items is after × IsRoomy request (length bytes.items)
-IsServed run was before request (IsDue letter) is after =
-    IsShown was before is after
-    × MatchOption letter (due before ≡ None) (λ d. (due before ≡ Some (d.0, d.1.items)) × IsRoomyFor request (length d.1.items))
-IsServed run was before request (IsWanted index) is after = IsShown was before is after × (index ≡ wanted before)
-IsServed run was before request (IsFront to) is after = IsShown was before is after × (to ≡ front_address before.outbox)
-IsServed run was before request (IsOwed note) is after = IsShown was before is after × (note ≡ slice_get before.notes 0)
+IsServed run was before request Done is after = IsStep request × (refusal run was before request ≡ None) × IsDone run was before request is after
+IsServed run was before request (Refused error) is after = IsSame was before is after × IsRefused run was before request error
+IsServed run was before request (Long len) is after = IsShown was before is after × IsLong before request len
+IsServed run was before request (Sent to bytes) is after = IsSent was before request to bytes.items is after
+IsServed run was before request (IsDue letter) is after = IsShown was before is after × IsDueNow before request (option_map (λ d. (d.0, d.1.items)) letter)
+IsServed run was before request (IsWanted index) is after = IsShown was before is after × IsWantedNow before request index
+IsServed run was before request (IsFront to) is after = IsShown was before is after × IsFrontNow before request to
+IsServed run was before request (IsOwed note) is after = IsShown was before is after × IsOwedNow before request note

@@ -1,4 +1,5 @@
 pub mod Calls
 pub mod Messages
 pub mod Owning
+pub mod Refusals
 pub mod Runs

@@ -9,7 +9,6 @@ use denote.RattleType.{RattleType}
 use denote.RawPtr.{Ptr}
 use Rattle.core.specs.contracts.marker.Brand as brand
 use Rattle.std.specs.Box.Ownership.{box_owns}
-use Rattle.std_heap.specs.declared.Global.{Global}
 use Rattle.std_heap.specs.contracts.GlobalAllocator.TheImpl.{ghosts}
 use Rattle.foreign_chare.specs.Scripts.{Stamp}
 use Rattle.pe_state.specs.Pes.{PeView, new_pe}

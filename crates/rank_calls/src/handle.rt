@@ -73,7 +73,8 @@ impl Handle {
     }
 
     /// Does what is asked, and answers. What is answered is so, and the PE is as the definitions of its steps say, or as it was
-    /// (`IsServed`), where the program keeps its promise of the run (`IsAsked`). The run stays.
+    /// (`IsServed`), where the program keeps its promise of the run (`IsAsked`). It is refused where the tests say so (`refusal`), and
+    /// what is not may only have failed (`MayFail`). The run stays.
     pub fn call(&mut self, alloc: Global, request: Request) -> Reply
         requires asked { IsAsked self.old.run self.old.pe request }
         ensures run { self.new.run ≡ self.old.run }

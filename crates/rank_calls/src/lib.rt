@@ -18,7 +18,7 @@
 //! - A parcel that is received was given up by a PE of the same run, as the same bytes, and is received once. An element has the history
 //!   that its ghost entries say.
 //!
-//! All else that a call needs is tested, and is a [`CallError`] where it is not so.
+//! All else that a call needs is tested, and is a [`CallError`] where it is not so: `refusal` (specs/Refusals.antt) says which.
 #![tactic(auto)]
 
 mod handle;

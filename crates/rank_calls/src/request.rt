@@ -63,7 +63,8 @@ pub enum Reply {
     IsOwed(Option<Note>),
 }
 
-/// Why a PE has done nothing.
+/// Why a PE has done nothing. What is tested comes first, in the order of `refusal` (specs/Refusals.antt): whether the handle is open, the
+/// numbers, whether the step is enabled. Then it may fail as `MayFail` says, for memory and for what is sent.
 #[derive(Clone, Copy, Debug, PartialEq, Eq)]
 pub enum CallError {
     /// The handle is closed.

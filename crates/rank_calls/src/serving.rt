@@ -1,7 +1,9 @@
 //! What a PE does of what is asked, proved for every run.
 
-ghost use Rattle.std.specs.Prelude.{◌≡◌, IfOk, true, false};
+ghost use Rattle.std.specs.Prelude.{◌≡◌, IfErr, IfOk, MatchOption, MatchResult, None, OnOk, true, false};
 ghost use Rattle.rank_calls.specs.Calls.{IsAsked, IsServed};
+ghost use Rattle.rank_calls.specs.Owning.{no_pe};
+ghost use Rattle.rank_calls.specs.Refusals.{refusal, IsRefused};
 ghost use Rattle.rank_calls.specs.Runs.{opened};
 
 use crate::lodge::Lodge;
@@ -31,11 +33,10 @@ pub(crate) fn serve<R: RunName>(
         };
     };
     let mut rank = loose.into_box();
-    if let Request::Close = &request {
-        return (Lodge::closed(), Reply::Done);
+    match rank.serve(alloc, request) {
+        Some(reply) => (Lodge::of(Loose::of(rank)), reply),
+        None => (Lodge::closed(), Reply::Done),
     }
-    let reply = rank.serve(alloc, request);
-    (Lodge::of(Loose::of(rank)), reply)
 }
 
 // A PE as it opens.
@@ -43,6 +44,8 @@ fn open_lodge<R: RunName>(alloc: Global, me: Pe, pes: u32, n: u32) -> Result<Lod
     requires run { pes ≡ R.run.pes }
     requires array { n ≡ R.run.n }
     ensures opened { IfOk result (λ lodge. (lodge.is_open ≡ true) × (lodge.pe ≡ opened pes n me)) }
+    ensures ready { OnOk result (refusal R.run false no_pe (Request.Open me pes n) ≡ None) }
+    ensures reason { IfErr result (IsRefused R.run false no_pe (Request.Open me pes n)) }
 {
     if pes > Limits::PES || me.get() >= pes || n > Limits::ELEMENTS {
         return Err(CallError::BadInput);
@@ -56,48 +59,39 @@ fn open_lodge<R: RunName>(alloc: Global, me: Pe, pes: u32, n: u32) -> Result<Lod
     }
 }
 
+// What is answered where a step was done, or refused.
+fn reply_of(done: Result<(), CallError>) -> Reply
+    ensures value { MatchResult done (λ _. result ≡ Reply.Done) (λ error. result ≡ Reply.Refused error) }
+{
+    match done {
+        Ok(()) => Reply::Done,
+        Err(error) => Reply::Refused(error),
+    }
+}
+
 impl<R: RunName> Rank<R> {
-    // Does what is asked of a PE that is open and stays so.
-    fn serve(&mut self, alloc: Global, request: Request) -> Reply
+    // Does what is asked of a PE that is open, or returns `None` where it is to close.
+    fn serve(&mut self, alloc: Global, request: Request) -> Option<Reply>
         requires asked { IsAsked R.run self.old request }
-        ensures served { IsServed R.run true self.old request result true self.new }
+        ensures served { MatchOption result (request ≡ Request.Close) (λ reply. IsServed R.run true self.old request reply true self.new) }
     {
         match request {
-            Request::Open(_, _, _) => Reply::Refused(CallError::IsOpen),
-            Request::Close => Reply::Refused(CallError::NotEnabled),
-            Request::Receive(parcel) => match self.receive(parcel) {
-                Ok(()) => Reply::Done,
-                Err(error) => Reply::Refused(error),
-            },
-            Request::Look(address) => match self.look(address) {
-                Ok(()) => Reply::Done,
-                Err(error) => Reply::Refused(error),
-            },
-            Request::Act => match self.act() {
-                Ok(()) => Reply::Done,
-                Err(error) => Reply::Refused(error),
-            },
-            Request::Execute(answer) => match self.execute(answer) {
-                Ok(()) => Reply::Done,
-                Err(error) => Reply::Refused(error),
-            },
-            Request::Resume(index, round, answer) => match self.resume(index, round, answer) {
-                Ok(()) => Reply::Done,
-                Err(error) => Reply::Refused(error),
-            },
-            Request::Depart(index, to) => match self.depart(index, to) {
-                Ok(()) => Reply::Done,
-                Err(error) => Reply::Refused(error),
-            },
-            Request::NoteDone => match self.note_done() {
-                Ok(()) => Reply::Done,
-                Err(error) => Reply::Refused(error),
-            },
-            Request::Send(room) => self.send(alloc, room),
-            Request::Due(room) => self.show_due(alloc, room),
-            Request::Wanted => Reply::IsWanted(self.pe.wants()),
-            Request::Front => Reply::IsFront(self.pe.front_out()),
-            Request::NextNote => Reply::IsOwed(self.pe.next_note()),
+            Request::Open(_, _, _) => Some(Reply::Refused(CallError::IsOpen)),
+            Request::Close => None,
+            Request::Receive(parcel) => Some(reply_of(self.receive(parcel))),
+            Request::Look(address) => Some(reply_of(self.look(address))),
+            Request::Act => Some(reply_of(self.act())),
+            Request::Execute(answer) => Some(reply_of(self.execute(answer))),
+            Request::Resume(index, round, answer) => {
+                Some(reply_of(self.resume(index, round, answer)))
+            }
+            Request::Depart(index, to) => Some(reply_of(self.depart(index, to))),
+            Request::NoteDone => Some(reply_of(self.note_done())),
+            Request::Send(room) => Some(self.send(alloc, room)),
+            Request::Due(room) => Some(self.show_due(alloc, room)),
+            Request::Wanted => Some(Reply::IsWanted(self.pe.wants())),
+            Request::Front => Some(Reply::IsFront(self.pe.front_out())),
+            Request::NextNote => Some(Reply::IsOwed(self.pe.next_note())),
         }
     }
 
@@ -105,9 +99,9 @@ impl<R: RunName> Rank<R> {
     fn send(&mut self, alloc: Global, room: usize) -> Reply
         ensures served { IsServed R.run true self.old (Request.Send room) result true self.new }
     {
-        if self.pe.front_out().is_none() {
+        let Some(to) = self.pe.front_out() else {
             return Reply::Refused(CallError::NotEnabled);
-        }
+        };
         let bytes = match self.front_message(alloc) {
             Ok(bytes) => bytes,
             Err(error) => return Reply::Refused(error),
@@ -115,10 +109,8 @@ impl<R: RunName> Rank<R> {
         if bytes.len() > room {
             return Reply::Long(bytes.len());
         }
-        match self.give_up() {
-            Ok(to) => Reply::Sent(to, bytes),
-            Err(error) => Reply::Refused(error),
-        }
+        self.give_up();
+        Reply::Sent(to, bytes)
     }
 
     // Shows which handler is due, and for what body, of at most so many bytes.

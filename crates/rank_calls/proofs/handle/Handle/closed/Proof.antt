@@ -1,19 +1,16 @@
 -- `closed` makes a handle that owns nothing.
 use Rattle.std.proofs.Common.{[], ◌∷◌, refl, lit<}
-use mir.Val.{Val, vptr, vbool}
-use base.Logic.{SProp}
-use types.Kit.{‵, raw, ◌⊛◌, ◌$◌, ◌∵◌, !, qed, by, move, keep, drop, split, fjoin, suffices, use0}
+use mir.Val.{Val, vbool}
+use types.Kit.{‵, raw, ◌⊛◌, ◌$◌, ◌∵◌, !, qed, by, keep, drop, use0}
 use types.Run.{lit, false_lit, no_more, and_then, returns, enter}
 use types.ByLocal.{alloc_all, pass_all, free_all, look_at, sets}
 use types.Part.{agg}
 use base.Fml.{ftrue}
-use prog.Wp.{WpFn}
 use contract.Monad.{fact, fact_i}
 use contract.Running.{tables}
 use base.Logic.{emp}
 use denote.RawPtr.{null_ptr, ptr_val}
 use denote.Steps.{nothing}
-use denote.Triple.Entry.{on_entry}
 use denote.Triple.Walked.{Stays, walk_of}
 use Rattle.std.proofs.raw_atomic.Walks.{proved, leaves}
 use Rattle.std.specs.Prelude.{false, ◌≡◌}

@@ -1,6 +1,5 @@
 -- `turn` calls `serve` at the run that the handle's ghost field names.
 use Rattle.std.proofs.Common.{◌≡◌, List, [], ◌∷◌, ◌++◌, refl, sym, ap, ◌∙◌, subst}
-use mathlib.Core.Bool.{Bool, true, false}
 use mir.Syntax.{Dict, impl, tnil, dnil, ty_struct}
 use mir.Val.{Val, vbool, vstruct, of_list, has_ty}
 use base.Fraction.{full_share}
@@ -19,7 +18,7 @@ use denote.RattleType.{RattleType, owns}
 use denote.Signature.{types_at, plain}
 use denote.Param.{param, layout}
 use denote.Param.Laws.{Laws, arg_laws}
-use denote.RawPtr.{Ptr, ptr_val}
+use denote.RawPtr.{ptr_val}
 use denote.Steps.{nothing, only, heard}
 use denote.Struct.Tuple.{Tuple}
 use denote.Triple.Clauses.{Lasts, lasts}

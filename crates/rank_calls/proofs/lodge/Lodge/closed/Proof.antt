@@ -1,6 +1,6 @@
 -- `closed` makes a lodge that owns nothing.
-use Rattle.std.proofs.Common.{◌≡◌, List, [], ◌∷◌, refl, lit<}
-use mathlib.Core.Bool.{Bool, true, false}
+use Rattle.std.proofs.Common.{◌≡◌, [], ◌∷◌, refl, lit<}
+use mathlib.Core.Bool.{false}
 use mir.Syntax.{a_type, dcons, dnil}
 use mir.Val.{Val, vbool}
 use mir.MapTy.{inst_fn}

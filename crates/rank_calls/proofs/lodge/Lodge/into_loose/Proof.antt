@@ -9,7 +9,7 @@ use base.Logic.{SProp, ent, emp, id⊢, never, fst∗}
 use base.Fml.{ftrue, flft}
 use prog.Wp.{WpFn}
 use types.Logic.{sem}
-use types.Kit.{‵, raw, ◌⊛◌, at_ret, ◌$◌, ◌∵◌, !, qed, by, move, keep, drop, split, join, fsplit, fjoin, suffices, rewrite, use0, use1}
+use types.Kit.{‵, raw, ◌⊛◌, at_ret, ◌$◌, ◌∵◌, !, qed, by, move, keep, split, fsplit, fjoin, suffices, rewrite, use0, use1}
 use types.Run.{stop, fld, lit, un, of_opd, no_more, and_then, first, branches, skips, exec, returns, returns_within, enter}
 use types.ByLocal.{alloc_all, pass_all, free_all, look_at, get, get_in, sets, is as is_val, env}
 use types.Part.{agg, sub, whole}

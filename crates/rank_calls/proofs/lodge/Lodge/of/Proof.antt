@@ -1,6 +1,6 @@
 -- `of` puts a box's pointer into a lodge.
 use Rattle.std.proofs.Common.{◌≡◌, List, [], ◌∷◌, ◌++◌, refl, sym, subst}
-use mathlib.Core.Bool.{Bool, true, false}
+use mathlib.Core.Bool.{true}
 use mir.Syntax.{a_type, dcons, dnil}
 use mir.Val.{Val, vptr, vbool}
 use mir.MapTy.{inst_fn}

@@ -1,0 +1,5 @@
+pub mod Dumped
+pub mod Fields
+pub mod Refused
+pub mod Rounds
+pub mod Values

@@ -1,0 +1,4 @@
+pub mod Calls
+pub mod Dumps
+pub mod Owning
+pub mod Reading

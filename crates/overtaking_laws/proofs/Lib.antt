@@ -1,0 +1,11 @@
+pub mod AnyDelivery
+pub mod ByCopies
+pub mod Carrying
+pub mod FreeChase
+pub mod FreePlaces
+pub mod Overtaken
+pub mod StaleAccounts
+pub mod StaleAgreement
+pub mod StaleBarrier
+pub mod StaleJournals
+pub mod StalePlaces

@@ -1,0 +1,22 @@
+use Rattle.overtaking_laws.proofs.StaleAccounts.{stale_accounted, stale_counted, stale_traced, relearned_histories, relearned_sent}
+use Rattle.overtaking_laws.proofs.account.stale_account_laws.Goals as goal
+
+pub returns-clause-account : goal.returns-clause-account
+returns-clause-account g c = λ pes chares strategy steps last some run.
+    stale_accounted g.C.Chare.step g.C.Pup.pack g.C.Pup.unpack pes chares strategy some steps last run
+
+pub returns-clause-counted : goal.returns-clause-counted
+returns-clause-counted g c = λ pes chares strategy steps last some run.
+    stale_counted g.C.Chare.step g.C.Pup.pack g.C.Pup.unpack pes chares strategy some steps last run
+
+pub returns-clause-traced : goal.returns-clause-traced
+returns-clause-traced g c = λ pes chares strategy steps last some run.
+    stale_traced g.C.Chare.step g.C.Pup.pack g.C.Pup.unpack pes chares strategy some steps last run
+
+pub returns-clause-still_histories : goal.returns-clause-still_histories
+returns-clause-still_histories g c = λ opened w next relearns are.
+    relearned_histories g.C.Chare.step opened w next relearns g.C.Pup.fits g.C.Pup.pack are
+
+pub returns-clause-still_sent : goal.returns-clause-still_sent
+returns-clause-still_sent g c = λ opened w next relearns sent.
+    relearned_sent g.C.Chare.step opened w next relearns sent

@@ -1,0 +1,3 @@
+pub mod FreeRuns
+pub mod Overtaking
+pub mod StaleRuns

@@ -1,0 +1,4 @@
+use Rattle.rank_capi.proofs.parcels.tezgumi_pe_receive.Given as goal
+
+abbrev pub ghost-told_past : goal.ghost-told_past
+ghost-told_past g a = g.entries
