@@ -30,14 +30,14 @@ def lines_of(path):
         return {it.split(":")[0].split()[0]: it.strip() for it in file if it.strip() and not it.startswith("#")}
 
 
-def below(names, lines):
-    """The crates of the tree that these stand on."""
+def with_below(names, lines):
+    """These crates, and all that they stand on in the tree."""
     found, left = set(), list(names)
     while left:
-        for name in lines[left.pop()].split(":")[1].split():
-            if name in lines and name not in found:
-                found.add(name)
-                left.append(name)
+        name = left.pop()
+        if name in lines and name not in found:
+            found.add(name)
+            left += lines[name].split(":")[1].split()
     return found
 
 
@@ -67,19 +67,19 @@ def copy(source, crate, is_proved):
 
 
 def made(folder, sources, is_proved=False):
-    """Makes FOLDER/tree with the crates of these folders and what they stand on, which is copied with its proofs or without."""
+    """Makes FOLDER/tree with the crates of these folders and what they stand on: crates here, and copies, with their proofs or without."""
     tree = os.path.join(os.path.abspath(folder), "tree")
     lines = lines_of(os.path.join(TOP, "crates.txt"))
-    kept = {name: line for it in sources for name, line in lines_of(os.path.join(it, "crate")).items()}
-    wanted = below(kept, lines | kept)
-    for name in wanted:
+    known = {name: os.path.join(HERE, name) for name in names_in()} | {os.path.basename(it): it for it in sources}
+    kept = {name: lines_of(os.path.join(it, "crate"))[name] for name, it in known.items()}
+    wanted = with_below(map(os.path.basename, sources), lines | kept)
+    for name in wanted & set(lines):
         copy(os.path.join(TOP, "crates", name), os.path.join(tree, "crates", name), is_proved)
-    for source in sources:
-        put(source, os.path.join(tree, "crates", os.path.basename(source)))
+    for name in wanted & set(kept):
+        put(known[name], os.path.join(tree, "crates", name))
     shutil.copy2(os.path.join(TOP, "HANDLES"), tree)
     with open(os.path.join(tree, "crates.txt"), "w", encoding="utf-8") as file:
-        file.writelines(f"{lines[it]}\n" for it in lines if it in wanted)
-        file.writelines(f"{it}\n" for it in kept.values())
+        file.writelines(f"{line}\n" for name, line in (lines | kept).items() if name in wanted)
     return tree
 
 

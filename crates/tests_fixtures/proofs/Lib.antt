@@ -1,3 +1,0 @@
-mod Counting
-pub mod Refusals
-pub mod SamePairs

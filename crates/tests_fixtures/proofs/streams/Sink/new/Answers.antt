@@ -1,5 +1,0 @@
-use Rattle.std.proofs.Common.{refl}
-use Rattle.tests_fixtures.proofs.streams.Sink.new.Goals as goal
-
-pub returns-clause-fails_at : goal.returns-clause-fails_at
-returns-clause-fails_at g c = refl
