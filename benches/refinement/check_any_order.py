@@ -1,6 +1,6 @@
 #!/usr/bin/env python3
-"""Prints the rows of crates/tests_refinements/src/reordered/rows.rt: bounds of two chains, made place by place by their
-definition, and for each number of a claim what the check has to say where it is one less or one more. It tries every block,
+"""Prints the rows of runs/tests_decisions/src/refinements/reordered/rows.rt.txt: bounds of two chains, made place by place by
+their definition, and for each number of a claim what the check has to say where it is one less or one more. It tries every block,
 and follows the definitions of crates/any_order/specs alone.
 
     check_any_order.py

@@ -1,6 +1,6 @@
 #!/usr/bin/env python3
-"""Prints what crates/tests_refinements/src/decisions.rt compares with: for chains made by a generator that both programs
-have, the decision within a tolerance, found by trying all cuts and all namings. It shares no code with the project, and
+"""Prints what runs/tests_decisions/src/refinements/decisions.rt.txt compares with: for chains made by a generator that both
+programs have, the decision within a tolerance, found by trying all cuts and all namings. It shares no code with the project, and
 follows the definitions alone.
 
     search_all.py            a sum for each batch of 1,000 chains, 20 batches

@@ -1,6 +1,6 @@
 #!/usr/bin/env python3
-"""Prints what crates/tests_refinements/src/reordered compares with: for the chains of search_all.py, the fewest bytes that any
-cuts within the tolerance move under any naming, found by trying all of both. Where the elements of some PE do not stand
+"""Prints what runs/tests_decisions/src/refinements/reordered compares with: for the chains of search_all.py, the fewest bytes that
+any cuts within the tolerance move under any naming, found by trying all of both. Where the elements of some PE do not stand
 together, it is what the decision of search_all.py moves.
 
     search_any_order.py            a sum for each batch of 1,000 chains, 8 batches

@@ -1,6 +1,6 @@
 #!/usr/bin/env python3
-"""Prints what crates/tests_replays/src/tolerances.rt and crates/tests_reports/src/tolerances.rt compare with: what lb_sim and
-lb_report say of decisions within a tolerance, for small dumps. The decisions are those that search_all.py finds by trying all
+"""Prints what tolerances.rt.txt of runs/tests_dumps/src/replays and of reports beside it compare with: what lb_sim and lb_report
+say of decisions within a tolerance, for small dumps. The decisions are those that search_all.py finds by trying all
 cuts and all namings; the texts follow docs/FORMATS.md. It shares no code with the project."""
 from decimal import ROUND_HALF_UP, Decimal
 from math import isqrt

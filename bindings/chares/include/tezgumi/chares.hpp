@@ -1,0 +1,158 @@
+// Chare arrays in C++17: objects with handlers that send each other messages, on PEs that are threads of one process; or on the ranks of
+// MPI, by tezgumi/chares_mpi.hpp. It is a header alone, over the libraries of tezgumi_chares.h and tezgumi_board.h, which pkg-config
+// knows as tezgumi-chares.
+//
+//     #include <tezgumi/chares.hpp>
+//     namespace pup = tezgumi::pup;
+//
+//     struct hello : tezgumi::chare {
+//         using messages = tezgumi::messages<int>;
+//         int heard = 0;
+//         void pup(pup::er &p) { p(heard); }
+//         void resume(tezgumi::round, tezgumi::array<hello> &all)
+//         {
+//             if (all.me() == 0) all[all.size() - 1].send(7);
+//             if (all.me() != all.size() - 1) finish();
+//         }
+//         void receive(int number)
+//         {
+//             heard = number;
+//             finish();
+//         }
+//     };
+//
+//     tezgumi::settings how;
+//     how.pes = 4;
+//     auto end = tezgumi::run<hello>(how, 100, [](std::uint32_t) { return hello(); });
+//
+// docs/CHARES_CPP.md tells what a program has to know, and what is proved and what is not.
+#ifndef TEZGUMI_CHARES_HPP
+#define TEZGUMI_CHARES_HPP
+
+#include "chares/threads.hpp"
+
+namespace tezgumi {
+
+// What a run left.
+template <class C> class outcome {
+public:
+    fault met; // none, where all elements have finished
+    account letters; // of all PEs
+    std::vector<round_report> rounds; // under MPI, on rank 0 alone
+    std::map<std::uint32_t, std::unique_ptr<C>> elements; // under MPI, those of this rank
+
+    bool is_good() const { return met.kind == fault_kind::none; }
+    // 0, or what a program of this project exits with after such a fault.
+    int status() const
+    {
+        if (is_good()) return 0;
+        return met.kind == fault_kind::dump ? 5 : 4;
+    }
+
+    // What a function makes of each element, in the order of the indices.
+    template <class F> auto collect(F &&of) const -> std::vector<typename std::decay<decltype(of(std::declval<const C &>()))>::type>
+    {
+        std::vector<typename std::decay<decltype(of(std::declval<const C &>()))>::type> all;
+        for (const auto &one : elements) all.push_back(of(*one.second));
+        return all;
+    }
+};
+
+namespace detail {
+
+// What the settings may not be. The same on all PEs.
+inline void must_fit(const settings &how, std::uint32_t pes, std::uint32_t n)
+{
+    if (pes < 1 || pes > TEZGUMI_PE_PES) throw std::invalid_argument("there are 1 to " + std::to_string(TEZGUMI_PE_PES) + " PEs");
+    if (n > TEZGUMI_PE_ELEMENTS) throw std::invalid_argument("there are at most " + std::to_string(TEZGUMI_PE_ELEMENTS) + " elements");
+    if (how.within && how.tolerance > TEZGUMI_BOARD_TOLERANCE) throw std::invalid_argument("a tolerance is at most 1000 thousandths");
+}
+
+// Where the letters are not all there, that is a fault of its own.
+template <class C> void must_balance(outcome<C> &end)
+{
+    if (end.letters.posted == end.letters.executed + end.letters.held) return;
+    if (end.met.kind != fault_kind::none && end.met.kind != fault_kind::quiet) return;
+    end.met.kind = fault_kind::mismatch;
+    end.met.what = "letters are lost, or are there twice";
+}
+
+// Runs PEs as threads; PE 0 is the thread that calls.
+template <class C, class Make> class threads_run {
+public:
+    threads_run(const settings &how, std::uint32_t n, Make &make) : how_(how), make_(make), field_(how, how.pes, n)
+    {
+        for (std::uint32_t pe = 0; pe < how.pes; pe++) {
+            links_.push_back(std::make_unique<thread_link>(field_, how, pe));
+            objects_.push_back(std::make_unique<elements_of<C>>(pe, how.pes, n));
+            workers_.push_back(std::make_unique<worker>(*links_[pe], how, *objects_[pe]));
+        }
+    }
+    outcome<C> run()
+    {
+        std::vector<std::thread> threads;
+        threads.reserve(how_.pes);
+        try {
+            for (std::uint32_t pe = 1; pe < how_.pes; pe++) {
+                threads.emplace_back([this, pe] { run(pe); });
+            }
+        } catch (const std::exception &refused) {
+            fault met;
+            met.kind = fault_kind::memory;
+            met.pe = static_cast<std::uint32_t>(threads.size()) + 1;
+            met.what = refused.what();
+            field_.fail(met);
+        }
+        run(0);
+        for (std::thread &one : threads) one.join();
+        return leave();
+    }
+
+private:
+    void run(std::uint32_t pe) { workers_[pe]->run(objects_[pe]->beginning(make_)); }
+    template <class F> void guarded(std::uint32_t pe, F &&run)
+    {
+        try {
+            run();
+        } catch (...) {
+            field_.fail(fault_under_way(pe));
+        }
+    }
+    outcome<C> leave()
+    {
+        outcome<C> end;
+        for (std::uint32_t pe = 0; pe < how_.pes; pe++) {
+            guarded(pe, [&] { workers_[pe]->leave(end.letters); });
+            guarded(pe, [&] { objects_[pe]->leave(end.elements); });
+        }
+        end.met = field_.met();
+        end.rounds = std::move(field_.rounds());
+        must_balance(end);
+        return end;
+    }
+
+    const settings &how_;
+    Make &make_;
+    field field_;
+    std::vector<std::unique_ptr<thread_link>> links_;
+    std::vector<std::unique_ptr<elements_of<C>>> objects_;
+    std::vector<std::unique_ptr<worker>> workers_;
+};
+
+} // namespace detail
+
+// Runs an array of n elements of type C on how.pes PEs, each a thread of this process, until all elements have finished, or to a fault.
+// Element i is make(i), which is called by the thread of the PE where it begins: so by several threads at once.
+//
+// It throws std::invalid_argument where a number is past its limit, and std::bad_alloc where memory is refused before the run. Where it is
+// refused as the run ends that is a fault, and some elements are missing in what it left.
+template <class C, class Make> outcome<C> run(const settings &how, std::uint32_t n, Make make)
+{
+    detail::must_fit(how, how.pes, n);
+    detail::threads_run<C, Make> of(how, n, make);
+    return of.run();
+}
+
+} // namespace tezgumi
+
+#endif

@@ -1,0 +1,250 @@
+// The board of a run: who has reported for a round, and the decision of a round. See tezgumi/chares.hpp.
+//
+// Who has reported for a round that is balanced, what is decided, and who has finished: that is the proved board of tezgumi_board.h. Here are
+// the contributions, and rounds that are not balanced, in which nothing is decided.
+#ifndef TEZGUMI_CHARES_BOARD_HPP
+#define TEZGUMI_CHARES_BOARD_HPP
+
+#include "words.hpp"
+
+#include <tezgumi_board.h>
+
+#include <algorithm>
+#include <cstdio>
+#include <new>
+
+namespace tezgumi {
+namespace detail {
+
+// An element keeps marks of its rounds, and takes them along. After so many rounds they would make its message too long, so
+// nothing moves any more.
+constexpr std::uint32_t last_balanced_round = 20000;
+
+// The handle of a board, which is not copied. It keeps all rounds that it has decided, so it is opened anew after some of them.
+class board_handle {
+public:
+    board_handle(const settings &how, std::uint32_t pes, std::uint32_t n) : how_(how), pes_(pes), n_(n) { open(); }
+    ~board_handle() { tezgumi_board_close(&board_); }
+    board_handle(const board_handle &) = delete;
+    board_handle &operator=(const board_handle &) = delete;
+
+    static void must(std::int32_t status, const char *call, std::uint32_t element = fault::no_element)
+    {
+        if (status == TEZGUMI_BOARD_OK) return;
+        if (status == TEZGUMI_BOARD_NO_MEMORY) throw std::bad_alloc();
+        const fault_kind kind = status == TEZGUMI_BOARD_WORN ? fault_kind::worn : fault_kind::mismatch;
+        throw run_fault(kind, std::string(call) + " answered " + std::to_string(status), element);
+    }
+
+    // An element waits for the end of the board's round. The board weighs no element by more than its limit.
+    void report(const note &of)
+    {
+        const std::uint64_t bytes = std::min<std::uint64_t>(of.bytes, TEZGUMI_BOARD_STATE_BYTES);
+        must(tezgumi_board_report(&board_, of.index, round_, of.load, static_cast<std::uint32_t>(bytes), of.pe), "tezgumi_board_report", of.index);
+    }
+    void finish(std::uint32_t index) { must(tezgumi_board_finish(&board_, index), "tezgumi_board_finish", index); }
+    bool is_complete() { return tezgumi_board_is_complete(&board_) == 1; }
+    bool all_finished() { return tezgumi_board_all_finished(&board_) == 1; }
+
+    // Decides the round for which all have reported.
+    void decide(decision &next, round_report &report)
+    {
+        must(tezgumi_board_decide(&board_, &round_), "tezgumi_board_decide");
+        must(tezgumi_board_decision(
+                 &board_, round_, next.cuts.data(), next.cuts.size(), next.names.data(), next.names.size(), &report.bottleneck, &report.moved),
+            "tezgumi_board_decision");
+    }
+    // The dump of the round that was decided last.
+    pup::bytes dump()
+    {
+        std::size_t len = 0;
+        std::int32_t status = tezgumi_board_dump(&board_, round_, &nothing_, 0, &len);
+        pup::bytes text(len);
+        if (status == TEZGUMI_BOARD_LONGER) status = tezgumi_board_dump(&board_, round_, text.data(), text.size(), &len);
+        must(status, "tezgumi_board_dump");
+        return text;
+    }
+    // Goes on to the next round. Whether the board was opened anew, and has to be told who has finished.
+    bool go_on()
+    {
+        if (round_++ < rounds_kept) return false;
+        must(tezgumi_board_close(&board_), "tezgumi_board_close");
+        open();
+        return true;
+    }
+
+private:
+    void open()
+    {
+        round_ = 1;
+        const std::int32_t status =
+            how_.within ? tezgumi_board_open_within(&board_, n_, pes_, how_.tolerance) : tezgumi_board_open(&board_, n_, pes_);
+        must(status, "tezgumi_board_open");
+    }
+    static constexpr std::uint32_t rounds_kept = 64;
+    const settings how_;
+    const std::uint32_t pes_, n_;
+    tezgumi_board board_ = {nullptr, false};
+    std::uint32_t round_ = 1;
+    std::uint8_t nothing_ = 0;
+};
+
+class board {
+public:
+    board(const settings &how, std::uint32_t pes, std::uint32_t n)
+        : how_(how), pes_(pes), n_(n), handle_(how, pes, n), loads_(n), places_(n), reported_(n), finished_(n), given_(n)
+    {
+        present_.cuts.resize(pes + 1);
+        present_.names.resize(pes);
+        for (std::uint32_t b = 0; b < pes; b++) present_.names[b] = b;
+        // Element i begins on PE i * pes / n, rounded down, so block b begins at b * n / pes, rounded up.
+        for (std::uint64_t b = 0; b <= pes; b++) present_.cuts[b] = static_cast<std::uint32_t>((b * n + pes - 1) / pes);
+    }
+
+    // Takes a note: the first of an element in the round that is under way, or that it has finished.
+    void take(const note &of)
+    {
+        if (of.index >= n_ || of.pe >= pes_) throw run_fault(fault_kind::mismatch, "a note of no element or no PE");
+        if (of.finished) {
+            handle_.finish(of.index);
+            finished_[of.index] = 1;
+            return;
+        }
+        if (of.round != present_.round + 1 || reported_[of.index]) {
+            throw run_fault(fault_kind::mismatch, "an element reported for a round that is not under way", of.index);
+        }
+        if (is_balanced()) handle_.report(of);
+        reported_[of.index] = 1;
+        reported_count_++;
+        loads_[of.index] = std::min(of.load, TEZGUMI_BOARD_LOAD);
+        places_[of.index] = of.pe;
+        given_[of.index] = of.given;
+    }
+
+    bool all_finished() { return handle_.all_finished(); }
+    // Whether every element has reported for the round that is under way.
+    bool is_complete() { return n_ != 0 && (is_balanced() ? handle_.is_complete() : reported_count_ == n_); }
+
+    // Decides the round, for which every element has reported.
+    const decision &decide()
+    {
+        decision next = present_;
+        next.round = present_.round + 1;
+        next.result = contribution();
+        join(next.result);
+        report_ = round_report();
+        report_.round = next.round;
+        report_.balanced = is_balanced();
+        weigh();
+        if (report_.balanced) balance(next);
+        present_ = next;
+        reported_count_ = 0;
+        std::fill(reported_.begin(), reported_.end(), std::uint8_t(0));
+        std::fill(given_.begin(), given_.end(), contribution());
+        return present_;
+    }
+    // What is known of the round that was decided last.
+    const round_report &report() const { return report_; }
+
+private:
+    // Whether the round that is under way is one in which elements may move.
+    bool is_balanced() const
+    {
+        const std::uint32_t round = present_.round + 1;
+        return how_.every != 0 && round % how_.every == 0 && round < last_balanced_round;
+    }
+    // Folds what the elements contributed, in the order of the indices.
+    void join(contribution &result) const
+    {
+        for (std::uint32_t i = 0; i < n_; i++) {
+            try {
+                result.join(given_[i]);
+            } catch (const std::invalid_argument &met) {
+                throw run_fault(fault_kind::input, met.what(), i);
+            }
+        }
+    }
+    void weigh()
+    {
+        std::vector<std::uint64_t> on(pes_, 0);
+        for (std::uint32_t i = 0; i < n_; i++) on[places_[i]] += loads_[i];
+        for (std::uint64_t load : on) {
+            report_.total += load;
+            report_.greatest = std::max(report_.greatest, load);
+        }
+        report_.bottleneck = report_.greatest;
+    }
+    void balance(decision &next)
+    {
+        handle_.decide(next, report_);
+        if (!how_.dumps.empty()) write(next.round);
+        if (!handle_.go_on()) return;
+        for (std::uint32_t i = 0; i < n_; i++) {
+            if (finished_[i]) handle_.finish(i);
+        }
+    }
+    // Writes the dump of the round, by its number in the run.
+    void write(std::uint32_t round)
+    {
+        constexpr std::size_t step_at = 4;
+        pup::bytes text = handle_.dump();
+        if (text.size() >= step_at + 4) pup::detail::write_word<std::uint32_t>(&text[step_at], round);
+        const std::string path = how_.dumps + "." + std::to_string(round);
+        std::FILE *file = std::fopen(path.c_str(), "wb");
+        bool good = file != nullptr;
+        if (file) good = std::fwrite(text.data(), 1, text.size(), file) == text.size();
+        if (file) good = std::fclose(file) == 0 && good;
+        if (!good) throw run_fault(fault_kind::dump, "the dump " + path + " was not written");
+    }
+
+    const settings how_;
+    const std::uint32_t pes_, n_;
+    board_handle handle_;
+    std::vector<std::uint64_t> loads_;
+    std::vector<std::uint32_t> places_;
+    std::vector<std::uint8_t> reported_, finished_;
+    std::vector<contribution> given_;
+    std::uint32_t reported_count_ = 0;
+    decision present_;
+    round_report report_;
+};
+
+// Whether all PEs have nothing to do: each is asked by a number, and answers once it has nothing to do, with how many messages it has
+// sent and received. Nothing is left where two questions in a row are answered by the same numbers, as many sent as received.
+class quiet_question {
+public:
+    explicit quiet_question(std::uint32_t pes) : pes_(pes) {}
+    std::uint32_t number() const { return number_; }
+    bool is_open() const { return number_ != 0 && answers_ != pes_; }
+    // Asks the next one.
+    std::uint32_t ask()
+    {
+        answers_ = 0;
+        sent_ = received_ = 0;
+        return ++number_;
+    }
+    // Takes an answer, and says whether nothing is left to do.
+    bool answer(std::uint32_t number, std::uint64_t sent, std::uint64_t received)
+    {
+        if (number != number_) return false;
+        answers_++;
+        sent_ += sent;
+        received_ += received;
+        if (answers_ != pes_) return false;
+        const bool same = sent_ == received_ && sent_ == sent_before_ && received_ == received_before_;
+        sent_before_ = sent_;
+        received_before_ = received_;
+        return same;
+    }
+
+private:
+    const std::uint32_t pes_;
+    std::uint32_t number_ = 0, answers_ = 0;
+    std::uint64_t sent_ = 0, received_ = 0;
+    std::uint64_t sent_before_ = UINT64_MAX, received_before_ = UINT64_MAX;
+};
+
+} // namespace detail
+} // namespace tezgumi
+
+#endif

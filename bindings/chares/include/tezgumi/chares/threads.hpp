@@ -1,0 +1,181 @@
+// PEs as threads of one process: queues of batches between them, and the board under a lock. See tezgumi/chares.hpp.
+#ifndef TEZGUMI_CHARES_THREADS_HPP
+#define TEZGUMI_CHARES_THREADS_HPP
+
+#include "board.hpp"
+#include "worker.hpp"
+
+#include <atomic>
+#include <mutex>
+
+namespace tezgumi {
+namespace detail {
+
+// What the threads of a run share.
+class field {
+public:
+    field(const settings &how, std::uint32_t pes, std::uint32_t n) : how_(how), board_(how, pes, n), boxes_(pes), question_(pes)
+    {
+        for (std::uint32_t pe = 0; pe < pes; pe++) boxes_[pe] = std::make_unique<box>(pes);
+        ended_ = board_.all_finished();
+    }
+
+    // ---- Queues ----
+
+    // A batch is outstanding from when it is sent until it is used up.
+    bool may_send(std::uint32_t from, std::uint32_t to) const { return boxes_[to]->outstanding[from].load() < std::max(how_.window, 1u); }
+    void send(std::uint32_t from, std::uint32_t to, pup::bytes &&bytes)
+    {
+        box &at = *boxes_[to];
+        const std::lock_guard<std::mutex> lock(at.mutex);
+        at.batches.emplace_back(from, std::move(bytes));
+        at.outstanding[from]++;
+        at.count++;
+    }
+    bool receive(std::uint32_t me, std::uint32_t &from, pup::bytes &bytes)
+    {
+        box &at = *boxes_[me];
+        if (at.count.load() == 0) return false;
+        const std::lock_guard<std::mutex> lock(at.mutex);
+        if (at.batches.empty()) return false;
+        from = at.batches.front().first;
+        bytes = std::move(at.batches.front().second);
+        at.batches.pop_front();
+        at.count--;
+        return true;
+    }
+    bool has_news(std::uint32_t me, std::uint32_t round) const { return boxes_[me]->count.load() != 0 || decided_.load() > round; }
+    void took(std::uint32_t me, std::uint32_t from) { boxes_[me]->outstanding[from]--; }
+
+    // ---- The board ----
+
+    void report(const std::vector<note> &notes)
+    {
+        const std::lock_guard<std::mutex> lock(mutex_);
+        for (const note &one : notes) board_.take(one);
+        if (board_.is_complete()) {
+            latest_ = std::make_shared<const decision>(board_.decide());
+            decided_ = latest_->round;
+            rounds_.push_back(board_.report());
+            tell(how_.on_round, rounds_.back());
+        }
+        if (board_.all_finished()) ended_ = true;
+    }
+    std::shared_ptr<const decision> decided(std::uint32_t after)
+    {
+        if (decided_.load() <= after) return nullptr;
+        const std::lock_guard<std::mutex> lock(mutex_);
+        return latest_;
+    }
+
+    // ---- The end ----
+
+    bool ended() const { return ended_.load(); }
+    void fail(const fault &met) noexcept
+    {
+        const std::lock_guard<std::mutex> lock(mutex_);
+        if (!fault_ || met.pe < fault_.pe) {
+            try {
+                fault_ = met;
+            } catch (...) {
+                fault_.kind = met.kind;
+                fault_.pe = met.pe;
+                fault_.element = met.element;
+                fault_.what.clear();
+            }
+        }
+        ended_ = true;
+    }
+
+    // PE me has nothing to do, as of this round, and has sent and received so many batches. PE 0 asks, once it has had nothing for a
+    // while.
+    void rest(std::uint32_t me, std::uint32_t round, std::uint64_t sent, std::uint64_t received, std::uint32_t &answered, bool asks)
+    {
+        if (asks && me == 0) {
+            const std::lock_guard<std::mutex> lock(mutex_);
+            if (!question_.is_open()) asked_ = question_.ask();
+        }
+        if (asked_.load() == answered) return;
+        const std::lock_guard<std::mutex> lock(mutex_);
+        if (decided_.load() != round || asked_.load() == answered) return;
+        answered = asked_.load();
+        if (!question_.answer(answered, sent, received) || ended_.load()) return;
+        fault_.kind = fault_kind::quiet;
+        ended_ = true;
+    }
+
+    // Once no thread uses it any more.
+    const fault &met() const { return fault_; }
+    std::vector<round_report> &rounds() { return rounds_; }
+
+private:
+    struct box {
+        explicit box(std::uint32_t pes) : outstanding(pes) {}
+        std::mutex mutex;
+        std::deque<std::pair<std::uint32_t, pup::bytes>> batches;
+        std::atomic<std::size_t> count{0};
+        std::vector<std::atomic<std::uint32_t>> outstanding; // of each PE that sends here
+    };
+
+    const settings &how_;
+    std::mutex mutex_; // of all that follows but the queues
+    board board_;
+    std::vector<std::unique_ptr<box>> boxes_;
+    std::shared_ptr<const decision> latest_;
+    std::atomic<std::uint32_t> decided_{0};
+    std::atomic<bool> ended_{false};
+    quiet_question question_;
+    std::atomic<std::uint32_t> asked_{0};
+    fault fault_;
+    std::vector<round_report> rounds_;
+};
+
+// The link of one thread.
+class thread_link final : public link {
+public:
+    thread_link(field &shared, const settings &how, std::uint32_t me) : field_(shared), how_(how), me_(me) {}
+
+    bool poll() override { return false; }
+    bool has_news(std::uint32_t round) override { return field_.has_news(me_, round); }
+    bool may_send(std::uint32_t to) override { return field_.may_send(me_, to); }
+    void send(std::uint32_t to, pup::bytes &&bytes) override
+    {
+        field_.send(me_, to, std::move(bytes));
+        sent_++;
+    }
+    bool receive(std::uint32_t &from, pup::bytes &bytes) override
+    {
+        if (!field_.receive(me_, from, bytes)) return false;
+        received_++;
+        return true;
+    }
+    void took(std::uint32_t from) override { field_.took(me_, from); }
+    void report(std::vector<note> &notes) override { field_.report(notes); }
+    std::shared_ptr<const decision> decided(std::uint32_t after) override { return field_.decided(after); }
+    bool ended() override { return field_.ended(); }
+    void fail(const fault &met) override { field_.fail(met); }
+    void rest(std::uint32_t round) override
+    {
+        const auto now = std::chrono::steady_clock::now();
+        if (!rests_) since_ = now;
+        rests_ = true;
+        const bool asks = me_ == 0 && now - since_ > std::chrono::milliseconds(how_.quiet);
+        if (asks) since_ = now;
+        field_.rest(me_, round, sent_, received_, answered_, asks);
+    }
+    void wake() override { rests_ = false; }
+
+private:
+    field &field_;
+    const settings &how_;
+    const std::uint32_t me_;
+    std::uint64_t sent_ = 0, received_ = 0;
+    std::uint32_t answered_ = 0;
+    bool rests_ = false;
+    std::chrono::steady_clock::time_point since_{};
+};
+
+} // namespace detail
+} // namespace tezgumi
+
+#endif

@@ -1,0 +1,271 @@
+// What a run of chares is asked and what it answers: settings, faults, rounds, contributions. See tezgumi/chares.hpp.
+#ifndef TEZGUMI_CHARES_WORDS_HPP
+#define TEZGUMI_CHARES_WORDS_HPP
+
+#include "../pup.hpp"
+
+#include <cmath>
+#include <cstdint>
+#include <functional>
+#include <stdexcept>
+#include <string>
+#include <utility>
+#include <vector>
+
+namespace tezgumi {
+
+// The number of a round: 0 as an element starts, and then that of the round that was decided.
+using round = std::uint32_t;
+
+// By what the load of a handler is measured that does not name its work.
+enum class clock_kind {
+    cpu, // nanoseconds of processor time of its thread
+    wall, // nanoseconds
+    none // nothing: a handler that names no work has none
+};
+
+// What is known of a round that was decided.
+struct round_report {
+    tezgumi::round round = 0;
+    bool balanced = true; // false: all stayed where they were
+    std::uint64_t greatest = 0; // the greatest load of a PE in the round
+    std::uint64_t total = 0; // the load of all
+    std::uint64_t bottleneck = 0; // the greatest load of a PE as it was decided, for the same loads
+    std::uint64_t moved = 0; // the bytes that move
+};
+
+// How a run goes. All PEs are given the same.
+struct settings {
+    std::uint32_t pes = 1; // on how many PEs, each with a thread; under MPI there is one on each rank
+    clock_kind clock = clock_kind::cpu;
+    std::uint32_t every = 1; // each so many rounds the elements are balanced, or never where it is 0
+    bool within = false; // true: the fewest bytes move within the tolerance; false: the least greatest load
+    std::uint32_t tolerance = 0; // in thousandths of the least greatest load
+    std::string dumps; // where it is not empty: each round that is balanced is dumped to this name, a dot and the round
+    std::size_t batch = 64 * 1024; // a message between PEs is sent once it has so many bytes, or nothing else is to do
+    std::uint32_t window = 4; // so many messages a PE sends to another before that one has used one up
+    std::size_t backlog = 16 * 1024 * 1024; // a PE that cannot get rid of so many bytes runs no handler until it can
+    std::uint32_t quiet = 20; // after so many milliseconds without anything to do it is asked whether all PEs have nothing
+    std::function<void(const round_report &)> on_round; // after each round, on the PE or the rank that decides
+    std::function<void(std::uint32_t pe)> on_turn; // before each turn of a PE, on its own thread; for tests
+};
+
+// Why a run ended early.
+enum class fault_kind : std::uint32_t {
+    none = 0,
+    memory = 1, // memory was refused, or a thread
+    stranger = 2, // an element sent to one that is not there
+    toolong = 3, // a message or an element is too long
+    worn = 4, // a PE has posted 2^32 letters, or the last round was decided
+    handler = 5, // a handler, or a pup, ended by an exception
+    quiet = 6, // nothing was left to do, and an element had not finished
+    mismatch = 7, // what was carried is not what was sent: an error in the driver or below
+    dump = 8, // a dump was not written
+    input = 9 // the settings, the planner or the PE refused something
+};
+
+inline const char *fault_word(fault_kind kind)
+{
+    static const char *const words[] = {"none", "memory", "stranger", "toolong", "worn", "handler", "quiet", "mismatch", "dump", "input"};
+    return words[static_cast<std::uint32_t>(kind) % 10];
+}
+
+// Why a run ended early, and where.
+struct fault {
+    static constexpr std::uint32_t no_element = 0xffffffffu;
+    fault_kind kind = fault_kind::none;
+    std::uint32_t pe = 0; // the PE, or the rank, that met it
+    std::uint32_t element = no_element; // the element whose handler met it
+    std::string what; // in words
+
+    explicit operator bool() const { return kind != fault_kind::none; }
+    const char *word() const { return fault_word(kind); }
+    std::string text() const
+    {
+        std::string line = word();
+        if (kind == fault_kind::none) return line;
+        line += " on PE " + std::to_string(pe);
+        if (element != no_element) line += ", element " + std::to_string(element);
+        if (!what.empty()) line += ": " + what;
+        return line;
+    }
+};
+
+// A letter to an element that is not there.
+class stranger : public std::out_of_range {
+public:
+    using std::out_of_range::out_of_range;
+};
+
+// The letters of all PEs: posted = executed + held.
+struct account {
+    std::uint64_t posted = 0, executed = 0, held = 0;
+    std::uint64_t failed = 0; // entries whose handler ended by an exception, and whose element was restored
+
+    void add(const account &other)
+    {
+        posted += other.posted;
+        executed += other.executed;
+        held += other.held;
+        failed += other.failed;
+    }
+};
+
+// A value that each element contributes at a sync, to be folded with those of the others, in the order of the indices.
+class contribution {
+public:
+    enum class fold : std::uint8_t { none, sum, least, greatest };
+    enum class kind : std::uint8_t { f64, i64, u64 };
+
+    contribution() = default;
+    template <class T> contribution(fold how, const T *values, std::size_t count) : how_(how), kind_(kind_of<T>()), bits_(count)
+    {
+        for (std::size_t i = 0; i < count; i++) bits_[i] = pup::detail::bits_of(wide(values[i]));
+    }
+
+    bool is_there() const { return how_ != fold::none; }
+    void pup(pup::er &p) { p(how_, kind_, bits_); }
+
+    // Folds another one into this, which may be empty.
+    void join(const contribution &other)
+    {
+        if (!other.is_there()) return;
+        if (!is_there()) {
+            *this = other;
+            return;
+        }
+        if (how_ != other.how_ || kind_ != other.kind_ || bits_.size() != other.bits_.size()) {
+            throw std::invalid_argument("contributions of one sync differ in kind or in length");
+        }
+        for (std::size_t i = 0; i < bits_.size(); i++) bits_[i] = joined(bits_[i], other.bits_[i]);
+    }
+
+    // The values, which are of this type. A sum of int or unsigned may be past that type: ask for 64 bits then.
+    template <class T> std::vector<T> values() const
+    {
+        using wide_type = decltype(wide(T()));
+        if (!is_there() || kind_ != kind_of<T>()) throw std::logic_error("no contribution of this type came");
+        std::vector<T> found(bits_.size());
+        for (std::size_t i = 0; i < bits_.size(); i++) {
+            wide_type number;
+            std::memcpy(&number, &bits_[i], sizeof number);
+            found[i] = static_cast<T>(number);
+            if constexpr (std::is_integral<T>::value) {
+                if (static_cast<wide_type>(found[i]) != number) throw std::range_error("a contribution is past the type that is asked for");
+            }
+        }
+        return found;
+    }
+
+private:
+    static double wide(double x) { return x; }
+    static std::int64_t wide(std::int64_t x) { return x; }
+    static std::uint64_t wide(std::uint64_t x) { return x; }
+    static std::int64_t wide(int x) { return x; }
+    static std::uint64_t wide(unsigned x) { return x; }
+    template <class T> static constexpr kind kind_of()
+    {
+        static_assert(std::is_same<T, double>::value || std::is_same<T, int>::value || std::is_same<T, unsigned>::value ||
+                          std::is_same<T, std::int64_t>::value || std::is_same<T, std::uint64_t>::value,
+            "contributions are of double, int, unsigned, std::int64_t or std::uint64_t");
+        if (std::is_floating_point<T>::value) return kind::f64;
+        return std::is_signed<T>::value ? kind::i64 : kind::u64;
+    }
+
+    template <class T> static T as(std::uint64_t bits)
+    {
+        T number;
+        std::memcpy(&number, &bits, sizeof number);
+        return number;
+    }
+    // Sums of whole numbers stop at the limits of their type.
+    static double plus(double a, double b) { return a + b; }
+    static std::int64_t plus(std::int64_t a, std::int64_t b)
+    {
+        if (b > 0 && a > INT64_MAX - b) return INT64_MAX;
+        if (b < 0 && a < INT64_MIN - b) return INT64_MIN;
+        return a + b;
+    }
+    static std::uint64_t plus(std::uint64_t a, std::uint64_t b) { return a > UINT64_MAX - b ? UINT64_MAX : a + b; }
+    // The least and the greatest of doubles are a NaN where one of them is.
+    static bool is_nan(double a) { return std::isnan(a); }
+    static bool is_nan(std::int64_t) { return false; }
+    static bool is_nan(std::uint64_t) { return false; }
+    template <class T> std::uint64_t joined_as(std::uint64_t left, std::uint64_t right) const
+    {
+        const T a = as<T>(left), b = as<T>(right);
+        if (how_ == fold::sum) return pup::detail::bits_of(plus(a, b));
+        if (is_nan(b)) return right;
+        if (how_ == fold::least) return b < a ? right : left;
+        return a < b ? right : left;
+    }
+    std::uint64_t joined(std::uint64_t left, std::uint64_t right) const
+    {
+        if (kind_ == kind::f64) return joined_as<double>(left, right);
+        return kind_ == kind::i64 ? joined_as<std::int64_t>(left, right) : joined_as<std::uint64_t>(left, right);
+    }
+
+    fold how_ = fold::none;
+    kind kind_ = kind::f64;
+    std::vector<std::uint64_t> bits_;
+};
+
+template <class T> contribution sum(T value) { return contribution(contribution::fold::sum, &value, 1); }
+template <class T> contribution least(T value) { return contribution(contribution::fold::least, &value, 1); }
+template <class T> contribution greatest(T value) { return contribution(contribution::fold::greatest, &value, 1); }
+template <class T> contribution sum(const std::vector<T> &values) { return contribution(contribution::fold::sum, values.data(), values.size()); }
+template <class T> contribution least(const std::vector<T> &values) { return contribution(contribution::fold::least, values.data(), values.size()); }
+template <class T> contribution greatest(const std::vector<T> &values)
+{
+    return contribution(contribution::fold::greatest, values.data(), values.size());
+}
+
+namespace detail {
+
+// A fault on its way to the end of a run.
+class run_fault : public std::runtime_error {
+public:
+    run_fault(fault_kind kind, const std::string &what, std::uint32_t element = fault::no_element)
+        : std::runtime_error(what), kind(kind), element(element)
+    {
+    }
+    fault_kind kind;
+    std::uint32_t element;
+};
+
+// Tells a function of the program. What that throws is a fault of the run.
+template <class T> void tell(const std::function<void(T)> &of, const typename std::decay<T>::type &what)
+{
+    if (!of) return;
+    try {
+        of(what);
+    } catch (const std::exception &met) {
+        throw run_fault(fault_kind::handler, met.what());
+    } catch (...) {
+        throw run_fault(fault_kind::handler, "an exception of a type that is not known");
+    }
+}
+
+// What a PE owes the board: that an element waits for the end of a round, or has finished.
+struct note {
+    bool finished = false;
+    std::uint32_t index = 0, round = 0, pe = 0;
+    std::uint64_t load = 0, bytes = 0;
+    contribution given;
+
+    void pup(pup::er &p) { p(finished, index, round, pe, load, bytes, given); }
+};
+
+// The decision of a round: block b is the elements cuts[b] .. cuts[b + 1] - 1, and goes to PE names[b].
+struct decision {
+    std::uint32_t round = 0;
+    std::vector<std::uint32_t> cuts, names;
+    contribution result;
+
+    void pup(pup::er &p) { p(round, cuts, names, result); }
+};
+
+} // namespace detail
+} // namespace tezgumi
+
+#endif

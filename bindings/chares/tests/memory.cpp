@@ -1,0 +1,214 @@
+// Memory: each of many requests refused in turn, on one rank or in the whole process; and how much a flood takes. The requests of
+// MPI are its own.
+#include "harness.hpp"
+
+#include <atomic>
+#include <malloc.h>
+
+extern "C" {
+void *__real_malloc(std::size_t size);
+void *__real_calloc(std::size_t count, std::size_t size);
+void *__real_realloc(void *at, std::size_t size);
+void __real_free(void *at);
+void *__wrap_malloc(std::size_t size);
+void *__wrap_calloc(std::size_t count, std::size_t size);
+void *__wrap_realloc(void *at, std::size_t size);
+void __wrap_free(void *at);
+}
+
+namespace {
+
+std::atomic<long> requests{0}, refused_at{0}; // the request with this number is refused, where it is not 0
+std::atomic<long> live{0}, most{0};
+
+bool refuses() { return ++requests == refused_at.load(); }
+void *counted(void *at)
+{
+    if (at) {
+        const long now = live += static_cast<long>(malloc_usable_size(at));
+        if (now > most.load()) most = now;
+    }
+    return at;
+}
+void gone(void *at)
+{
+    if (at) live -= static_cast<long>(malloc_usable_size(at));
+}
+
+} // namespace
+
+void *__wrap_malloc(std::size_t size) { return refuses() ? nullptr : counted(__real_malloc(size)); }
+void *__wrap_calloc(std::size_t count, std::size_t size) { return refuses() ? nullptr : counted(__real_calloc(count, size)); }
+void *__wrap_realloc(void *at, std::size_t size)
+{
+    if (refuses()) return nullptr;
+    gone(at);
+    return counted(__real_realloc(at, size));
+}
+void __wrap_free(void *at)
+{
+    gone(at);
+    __real_free(at);
+}
+void *operator new(std::size_t size)
+{
+    void *at = __wrap_malloc(size ? size : 1);
+    if (!at) throw std::bad_alloc();
+    return at;
+}
+void operator delete(void *at) noexcept { __wrap_free(at); }
+void operator delete(void *at, std::size_t) noexcept { __wrap_free(at); }
+
+namespace {
+
+// In each round an element sends to two others, with a short body and a long one, and some move.
+struct mover : tezgumi::chare {
+    using messages = tezgumi::messages<std::uint32_t, std::string>;
+    std::uint32_t sent = 0, got = 0;
+    std::vector<std::uint32_t> all_got;
+    void pup(pup::er &p) { p(sent, got, all_got); }
+    void resume(tezgumi::round r, tezgumi::array<mover> &all)
+    {
+        work(0);
+        if (r == 3) return finish();
+        all[(all.me() + 1) % all.size()].send(r);
+        all[(all.me() + 3) % all.size()].send(std::string(2000, 's'));
+        sent++;
+        ready();
+    }
+    void receive(std::uint32_t r, tezgumi::array<mover> &all)
+    {
+        all_got.push_back(r);
+        got++;
+        work((all.me() + 5 * r) % all.size() < 2 ? 50 : 1);
+        ready();
+    }
+    void receive(const std::string &)
+    {
+        got++;
+        work(1);
+        ready();
+    }
+    void ready()
+    {
+        if (got < 2 * sent) return;
+        contribute(tezgumi::sum(1));
+        at_sync();
+    }
+};
+
+tezgumi::settings usual(std::uint32_t pes)
+{
+    tezgumi::settings how;
+    how.pes = pes;
+    how.clock = tezgumi::clock_kind::none;
+    how.batch = 500;
+    return how;
+}
+
+// Whether a run ends well, or by the fault that is to be expected; and which of both.
+bool is_well(std::uint32_t pes, std::uint32_t victim, bool &ended_early)
+{
+    try {
+        const auto end = launch::run<mover>(usual(pes), 7, [](std::uint32_t) { return mover(); });
+        refused_at = 0;
+        ended_early = !end.is_good();
+        if (end.is_good()) return end.letters.posted == 42 && end.letters.executed == 42;
+        bool good = end.met.kind == tezgumi::fault_kind::memory && end.letters.posted == end.letters.executed + end.letters.held;
+        for (const auto &one : end.elements) good = good && one.second && one.second->got <= 6;
+#ifdef WITH_MPI
+        good = good && end.met.pe == victim;
+#endif
+        (void)victim;
+        return good;
+    } catch (const std::bad_alloc &) {
+        refused_at = 0;
+        ended_early = true;
+        return true;
+    }
+}
+
+void refusals(std::uint32_t pes, std::uint32_t me)
+{
+    for (std::uint32_t victim = 0; victim < (launch::are_ranks ? pes : 1u); victim++) {
+        bool ended_early = false;
+        requests = 0;
+        bool good = is_well(pes, victim, ended_early) && !ended_early;
+        // So many requests, or a little more or less, each run takes.
+        const long count = requests.load();
+        long early = 0, tried = 0;
+        for (long k = 1; k < count; k += 1 + k / 8) {
+            requests = 0;
+            refused_at = me == victim ? k : 0;
+            ended_early = false;
+            const bool well = is_well(pes, victim, ended_early);
+            if (!well) std::cerr << "request " << k << " of rank " << victim << std::endl;
+            good = tests::everywhere(well) && good;
+            early += ended_early;
+            tried++;
+            if (!tests::everywhere(k + 1 + k / 8 < count)) break;
+        }
+        tests::expect("requests refused on PE " + std::to_string(victim) + " of " + std::to_string(pes), good && early > tried / 2);
+    }
+}
+
+// All others send much to the first element, which is slow.
+struct flooder : tezgumi::chare {
+    using messages = tezgumi::messages<std::string, std::uint32_t>;
+    std::uint32_t got = 0;
+    static constexpr std::uint32_t turns = 800;
+    void pup(pup::er &p) { p(got); }
+    void resume(tezgumi::round, tezgumi::array<flooder> &all)
+    {
+        if (all.me() > 0) all.self().send(turns);
+        else if (all.size() == 1) finish();
+    }
+    void receive(std::uint32_t left, tezgumi::array<flooder> &all)
+    {
+        all[0].send(std::string(4000, 'f'));
+        if (left > 1) all.self().send(left - 1);
+        else finish();
+    }
+    void receive(const std::string &, tezgumi::array<flooder> &all)
+    {
+        if (++got % 16 == 0) std::this_thread::sleep_for(std::chrono::microseconds(100));
+        if (got == turns * (all.size() - 1)) finish();
+    }
+};
+
+void flood(std::uint32_t pes)
+{
+    tezgumi::settings how = usual(pes);
+    how.batch = 20000;
+    how.window = 2;
+    how.backlog = 100000;
+    const std::uint32_t n = pes;
+    most = live.load();
+    const long before = live.load();
+    const auto end = launch::run<flooder>(how, n, [](std::uint32_t) { return flooder(); });
+    const long taken = most - before, sent = 4000l * flooder::turns * (n - 1);
+    const bool good = end.is_good() && end.letters.executed == end.letters.posted && taken < 1000000;
+    std::cerr << "a flood of " << sent / 1000 << " kB took " << taken / 1000 << " kB" << std::endl;
+    tests::expect("the memory of a flood, " + std::to_string(pes) + " PEs", good);
+}
+
+} // namespace
+
+int main(int argc, char **argv)
+{
+    launch::program program(argc, argv);
+    std::uint32_t me = 0;
+#ifdef WITH_MPI
+    int rank = 0;
+    MPI_Comm_rank(MPI_COMM_WORLD, &rank);
+    me = static_cast<std::uint32_t>(rank);
+    if (argc == 1) refusals(program.pes(1), me);
+    if (program.pes(1) > 1) flood(program.pes(1));
+#else
+    for (std::uint32_t pes : {1u, 3u}) {
+        if (argc == 1) refusals(pes, me);
+    }
+    flood(4);
+#endif
+    return tests::failed != 0;
+}
