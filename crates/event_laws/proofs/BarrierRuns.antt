@@ -5,16 +5,17 @@ use Rattle.std.proofs.lemmas.List.{length-replicate, get_or-replicate, append_as
 use Rattle.chares.specs.declared.trace_entry.TraceEntry.{TraceEntry}
 use Rattle.chares.specs.declared.trace_entry.TraceEntry.TheVariants.{Resumed, Decided}
 use Rattle.chares.specs.Steps.{Step}
-use Rattle.at_sync.specs.Boards.{new_board}
+use Rattle.at_sync.specs.Boards.{BoardState, new_board}
 use Rattle.pup_pack.specs.declared.error.PupError.{PupError}
 use Rattle.pe_state.specs.Pes.{PeView}
 use Rattle.rts_core.specs.declared.event.Event.{Event}
+use Rattle.rts_core.specs.Accounts.{times}
 use Rattle.rts_core.specs.Events.{After, LocalView, Happens, local_view, with_local}
 use Rattle.rts_core.specs.Runs.{Reaches}
 use Rattle.rts_core.specs.Worlds.{WorldView, opening_world}
 use Rattle.event_laws.specs.Agreement.{Agrees}
 use Rattle.event_laws.proofs.AgreeingEvents.{Sound, event_sound, run_sound, opening_sound}
-use Rattle.event_laws.specs.Barrier.{IsBarrier, StandsInItsPlace}
+use Rattle.event_laws.specs.Barrier.{IsBarrier, StandsInItsPlace, is_resumed}
 use Rattle.rts_core.specs.Orders.{AreInOrder}
 use Rattle.event_laws.proofs.BoardTraces.{Tells, Keeps, tells_kept, tells_same, tells_taken, tells_decided, decided_at_most_once, unlike_decided, none_there}
 use Rattle.event_laws.proofs.ResumedOnce.{resumed_once}
@@ -24,6 +25,16 @@ use Rattle.event_laws.proofs.Stands.{Turned, Takes, each_turned, stands_at}
 use Rattle.event_laws.proofs.Tallies.{only_member, no_member}
 use Rattle.rts_core.proofs.Turns.{each_map, happens_so}
 use Rattle.at_sync.specs.declared.strategy.Strategy.{Strategy}
+
+-- a board of which the trace tells, and no element that was resumed twice
+pub told_barrier : {A : Type 0} (n : ℕ) (b : BoardState A) (trace : List TraceEntry) → Tells n b trace → ((e r : ℕ) → times (is_resumed e r) trace ≤ 1) → IsBarrier n trace
+told_barrier n b trace t once =
+    record {
+      all_synced = λ before after e r h first. (t.barred before after e r h first).synced;
+      decided_once = λ before after e r h first. (t.barred before after e r h first).decided;
+      once_decided = decided_at_most_once n b trace t;
+      resumed_once = once;
+    }
 
 module _ {C A : Type 0} (step : Step C) (pack : C → List ℕ) (unpack : List ℕ → Result (C × ℕ) PupError) where
   -- an event
@@ -85,12 +96,7 @@ module _ {C A : Type 0} (step : Step C) (pack : C → List ℕ) (unpack : List �
   barrier pes chares strategy events last some run =
       let t : Tells (length chares) last.0.board last.1 = run_tells (length chares) (opening_world pes chares strategy) [] events last
       (opening_tells (length chares) pes strategy) run in
-      record {
-        all_synced = λ before after e r h first. (t.barred before after e r h first).synced;
-        decided_once = λ before after e r h first. (t.barred before after e r h first).decided;
-        once_decided = decided_at_most_once (length chares) last.0.board last.1 t;
-        resumed_once = λ e r. resumed_once e r step pack unpack pes chares strategy some events last run;
-      }
+      told_barrier (length chares) last.0.board last.1 t (λ e r. resumed_once e r pes chares strategy some step pack unpack events last run)
 
   -- the rounds of all elements come in order
   pub in_order : (pes : ℕ) (chares : List C) (strategy : Strategy) (events : List Event) (last : After C A)
@@ -100,21 +106,24 @@ module _ {C A : Type 0} (step : Step C) (pack : C → List ℕ) (unpack : List �
       (opening_kept step pack FitsInOrder PackedInOrder (order_kept step pack) A pes chares strategy) run)
 
   -- and an element that an event resumes for a round is at its place
+  pub sound_stands : (n : ℕ) (w : WorldView C A) (event : Event) (next : After C A) (e r : ℕ) → Sound n w → Happens step pack unpack w event next
+      → Contains next.1 (Resumed e r) → 1 ≤ r → StandsInItsPlace w e r × StandsInItsPlace next.0 e r
+  sound_stands n w event next e r sound happens there first =
+      happens_so step pack unpack w (λ (v : After C A). Agrees n v.0 → Contains v.1 (Resumed e r) → StandsInItsPlace w e r × StandsInItsPlace v.0 e r)
+      (record {
+        same = λ agrees k. absurd (no_member (Resumed e r) k);
+        turn = λ p pe at. each_map step pack p (local_view w pe) (Turned p (local_view w pe))
+            (λ a. Agrees n (with_local w p a.0) → Contains a.1 (Resumed e r) → StandsInItsPlace w e r × StandsInItsPlace (with_local w p a.0) e r)
+            (λ a turned later k. stands_at n w p pe a.0 e r sound.agrees later at (turned.stands e r first k))
+            (each_turned step pack p (local_view w pe));
+        decides = λ board d agrees k. absurd (unlike_decided w.board.database.round e r (only_member (Decided w.board.database.round) (Resumed e r) k));
+      })
+      event next happens (event_sound step pack unpack n w event next sound happens).agrees there
+
   pub stands : (pes : ℕ) (chares : List C) (strategy : Strategy) (events : List Event) (w : WorldView C A) (trace : List TraceEntry) (event : Event) (next : After C A) (e r : ℕ)
       → 1 ≤ pes → Reaches step pack unpack (opening_world pes chares strategy) events (w, trace) → Happens step pack unpack w event next
       → Contains next.1 (Resumed e r) → 1 ≤ r → StandsInItsPlace w e r × StandsInItsPlace next.0 e r
   stands pes chares strategy events w trace event next e r some run happens there first =
-      happens_so step pack unpack w
-      (λ (v : After C A). Agrees (length chares) v.0 → Contains v.1 (Resumed e r) → StandsInItsPlace w e r × StandsInItsPlace v.0 e r)
-      (record {
-        same = λ agrees k. absurd (no_member (Resumed e r) k);
-        turn = λ p pe at. each_map step pack p (local_view w pe) (Turned p (local_view w pe))
-            (λ a. Agrees (length chares) (with_local w p a.0) → Contains a.1 (Resumed e r) → StandsInItsPlace w e r × StandsInItsPlace (with_local w p a.0) e r)
-            (λ a turned later k. stands_at (length chares) w p pe a.0 e r before.agrees later at (turned.stands e r first k))
-            (each_turned step pack p (local_view w pe));
-        decides = λ board d agrees k. absurd (unlike_decided w.board.database.round e r (only_member (Decided w.board.database.round) (Resumed e r) k));
-      })
-      event next happens (event_sound step pack unpack (length chares) w event next before happens).agrees there
-    where
-      before : Sound (length chares) w
-      before = run_sound step pack unpack (length chares) (opening_world pes chares strategy) events (w, trace) (opening_sound step pack unpack pes chares strategy some) run
+      sound_stands (length chares) w event next e r
+      (run_sound step pack unpack (length chares) (opening_world pes chares strategy) events (w, trace) (opening_sound step pack unpack pes chares strategy some) run)
+      happens there first

@@ -74,7 +74,7 @@ module _ {C A : Type 0} (step : Step C) (pack : C → List ℕ) (unpack : List �
       let d = acc.at_most_once id in
       omega (arith, a, b, c, d)
 
-  run_step : (w : WorldView C A) (trace : List TraceEntry) (event : Event) (next : After C A) → IsRun w trace → Happens step pack unpack w event next
+  pub run_step : (w : WorldView C A) (trace : List TraceEntry) (event : Event) (next : After C A) → IsRun w trace → Happens step pack unpack w event next
       → IsRun next.0 (trace ++ next.1)
   run_step w trace event next h happens =
       let kept : Kept (length chares) first next.0 (trace ++ next.1) = kept_join (length chares) first w next.0 trace next.1 h.kept
@@ -115,7 +115,7 @@ posted_late before after id e one true t =
 posted_late before after id e one false t = refl
 
 -- how often a letter was forwarded, by where it was posted in the trace
-pub hops_from : (before after : List TraceEntry) (id : ℕ × ℕ) (e : ℕ) → times (says_number id) (posts (before ++ Trace.Posted id e ∷ after)) ≤ 1
+hops_from : (before after : List TraceEntry) (id : ℕ × ℕ) (e : ℕ) → times (says_number id) (posts (before ++ Trace.Posted id e ∷ after)) ≤ 1
     → (was_posted id e (before ++ Trace.Posted id e ∷ after) ≡ true → forwards id (before ++ Trace.Posted id e ∷ after) ≤ departed_since id e (before ++ Trace.Posted id e ∷ after))
     → forwards id (before ++ Trace.Posted id e ∷ after) ≤ departures e after
 hops_from before after id e one hops =
@@ -131,14 +131,16 @@ hops_from before after id e one hops =
     omega (arith, a, b, c, d, f)
 
 module _ {C A : Type 0} (step : Step C) (pack : C → List ℕ) (unpack : List ℕ → Result (C × ℕ) PupError) (pes : ℕ) (chares : List C) (strategy : Strategy) (some : 1 ≤ pes) where
-  pub chased : (events : List Event) (last : After C A) → Reaches step pack unpack (opening_world pes chares strategy) events last → IsChase last.0 last.1
-  chased events last run =
-      let r : IsRun step pack unpack pes chares strategy some last.0 last.1 = reached_run step pack unpack pes chares strategy some events last run in
-      let acc : Accounted (length chares) last.0 last.1 = kept_accounted step pack unpack pes chares strategy some last.0 last.1 r.kept in
+  pub run_chase : (w : WorldView C A) (trace : List TraceEntry) → IsRun step pack unpack pes chares strategy some w trace → IsChase w trace
+  run_chase w trace r =
+      let acc : Accounted (length chares) w trace = kept_accounted step pack unpack pes chares strategy some w trace r.kept in
       record {
         hops = λ before after id e is.
             subst (λ (v : List TraceEntry). times (is_forwarded id) v ≤ times (is_departed e) after) (sym is)
             (hops_from before after id e (subst (λ (v : List TraceEntry). times (says_number id) (posts v) ≤ 1) is (acc.at_most_once id))
             (subst (λ (v : List TraceEntry). was_posted id e v ≡ true → forwards id v ≤ departed_since id e v) is (r.chasing.hops id e)));
-        shelved = shelved_bound (length chares) last.0 last.1 r.placed r.chasing;
+        shelved = shelved_bound (length chares) w trace r.placed r.chasing;
       }
+
+  pub chased : (events : List Event) (last : After C A) → Reaches step pack unpack (opening_world pes chares strategy) events last → IsChase last.0 last.1
+  chased events last run = run_chase last.0 last.1 (reached_run step pack unpack pes chares strategy some events last run)

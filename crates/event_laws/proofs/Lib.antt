@@ -28,6 +28,7 @@ pub mod LocalMoves
 pub mod LocationWords
 pub mod Measured
 pub mod Moves
+pub mod NowhereElse
 pub mod OnlyDecide
 pub mod OpeningSites
 pub mod OrderedRounds

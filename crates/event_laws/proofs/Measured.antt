@@ -1,7 +1,7 @@
 -- The snapshot of a decided round has what each element did for the round.
 use Rattle.std.proofs.Common.{◌≡◌, ℕ, ◌<◌, ◌≤◌, List, length, Some, sym, subst}
 use Rattle.std.specs.Prelude.{Result, Contains, slice_get}
-use Rattle.at_sync.specs.Boards.{Kept, kept_of}
+use Rattle.at_sync.specs.Boards.{BoardState, Kept, kept_of}
 use Rattle.lb_snapshot.specs.Measured.{Taken}
 use Rattle.chares.specs.declared.trace_entry.TraceEntry.{TraceEntry}
 use Rattle.chares.specs.declared.trace_entry.TraceEntry.TheVariants.{Decided}
@@ -11,7 +11,7 @@ use Rattle.event_laws.specs.Rounds.{IsPhase}
 use Rattle.event_laws.proofs.Phases.{phase}
 use Rattle.pup_pack.specs.declared.error.PupError.{PupError}
 use Rattle.event_laws.specs.Agreement.{IsTakenOf}
-use Rattle.event_laws.proofs.Snapshots.{run_snaps}
+use Rattle.event_laws.proofs.Snapshots.{Snapped, run_snaps}
 use Rattle.rts_core.specs.declared.event.Event.{Event}
 use Rattle.rts_core.specs.Events.{After, Happens}
 use Rattle.pe_state.specs.Histories.{HasHistories}
@@ -41,6 +41,12 @@ module _ {C A : Type 0} (step : Step C) (fits : C → Type 0) (pack : C → List
             did = subst (λ (i : ℕ). IsPhase step pack (length opened) i chare taken.el.journal r taken.load taken.bytes) (sym same) did;
           }
 
+module _ {C A : Type 0} (step : Step C) (fits : C → Type 0) (pack : C → List ℕ) (chares : List C) (w : WorldView C A) where
+  -- what was measured of each element, of what is kept of a round
+  pub all_measured : (b : BoardState A) (r : ℕ) → Snapped (length chares) w b r → AreHistories step fits pack chares w
+      → (kept : Kept A) × (kept_of b.rounds r ≡ Some kept) × ((e : ℕ) → e < length chares → Measures step pack chares w kept.0 e r)
+  all_measured b r (kept, is, all) are = (kept, is, λ e inside. measures step fits pack chares w kept.0 e r (all e inside) are)
+
 module _ {C A : Type 0} (step : Step C) (fits : C → Type 0) (pack : C → List ℕ) (unpack : List ℕ → Result (C × ℕ) PupError) (pes : ℕ)
     (chares : List C) (strategy : Strategy) (some : 1 ≤ pes) where
   -- where a round is decided
@@ -48,8 +54,5 @@ module _ {C A : Type 0} (step : Step C) (fits : C → Type 0) (pack : C → List
       → Reaches step pack unpack (opening_world pes chares strategy) events (w, trace) → AreHistories step fits pack chares w
       → Happens step pack unpack w event next → Contains next.1 (Decided r)
       → (kept : Kept A) × (kept_of next.0.board.rounds r ≡ Some kept) × ((e : ℕ) → e < length chares → Measures step pack chares w kept.0 e r)
-  measured events w trace event next r run are happens there = by (run_snaps step pack unpack pes chares strategy some events w trace event next r run happens there)
-    where
-      by : (kept : Kept A) × (kept_of next.0.board.rounds r ≡ Some kept) × ((e : ℕ) → e < length chares → IsTakenOf w kept.0 e r)
-          → (kept : Kept A) × (kept_of next.0.board.rounds r ≡ Some kept) × ((e : ℕ) → e < length chares → Measures step pack chares w kept.0 e r)
-      by (kept, is, all) = (kept, is, λ e inside. measures step fits pack chares w kept.0 e r (all e inside) are)
+  measured events w trace event next r run are happens there =
+      all_measured step fits pack chares w next.0.board r (run_snaps step pack unpack pes chares strategy some events w trace event next r run happens there) are

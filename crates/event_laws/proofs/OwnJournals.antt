@@ -39,7 +39,7 @@ resumption_is_own e round = All-nil (λ (l : LetterView). l.to ≡ e)
 letter_is_own : (l : LetterView) → IsOwnEntry l.to (OfLetter l)
 letter_is_own l = All-cons (λ (x : LetterView). x.to ≡ l.to) l [] refl (All-nil (λ (x : LetterView). x.to ≡ l.to))
 
-own_kept : {C : Type 0} (step : Step C) (pack : C → List ℕ) → IsKept step pack FitsOwn PackedOwn
+pub own_kept : {C : Type 0} (step : Step C) (pack : C → List ℕ) → IsKept step pack FitsOwn PackedOwn
 own_kept step pack =
     record {
       opens = λ e chare. (refl, All-nil (λ (l : LetterView). l.to ≡ e));
@@ -69,7 +69,7 @@ pe_owned {C} pe h =
     listed None k = All-nil ItemOwned
     listed (Some x) k = All-cons ItemOwned x [] (parcel_owned x.parcel k) (All-nil ItemOwned)
 
-world_owned : {C A : Type 0} (w : WorldView C A) → WorldKept (FitsOwn {C = C}) PackedOwn w → AreOwn w
+pub world_owned : {C A : Type 0} (w : WorldView C A) → WorldKept (FitsOwn {C = C}) PackedOwn w → AreOwn w
 world_owned {C} w h =
     let pes : All (λ (pe : PeView C). All IsOwn (lives_at pe)) w.pes = All-weaker (PeKept FitsOwn PackedOwn) (λ (pe : PeView C). All IsOwn (lives_at pe)) pe_owned w.pes h.pes in
     let queues : All (λ (queue : List Parcel). All IsOwn (flat_map lives_in queue)) w.queues =

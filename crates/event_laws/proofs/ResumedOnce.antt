@@ -7,6 +7,7 @@ use Rattle.std.proofs.lemmas.Bool.Decides.{nat_tests}
 use Rattle.std.proofs.lemmas.List.Elements.{All-head, All-tail}
 use Rattle.std.proofs.lemmas.List.Sums.{sum_by-cons}
 use Rattle.chares.specs.declared.carried.Carried.TheVariants.{Letter, Element}
+use Rattle.chares.specs.declared.trace_entry.TraceEntry.{TraceEntry}
 use Rattle.chares.specs.Elements.{ElementView}
 use Rattle.chares.specs.Letters.{Done}
 use Rattle.chares.specs.Steps.{Step}
@@ -23,13 +24,13 @@ use Rattle.rts_core.specs.Worlds.{WorldView, opening_world}
 use Rattle.rts_core.proofs.RunAccount.{unlived}
 use Rattle.rts_core.proofs.Listings.{no_letter}
 use Rattle.rts_core.proofs.OpeningWeights.{opened_lives, opening_of, opening_weighs, one_at, opened_later}
-use Rattle.rts_core.proofs.RunLaws.{by_index, run_keeps}
+use Rattle.rts_core.proofs.RunLaws.{by_index, Kept, run_keeps}
 use Rattle.rts_core.proofs.Weights.{of_parcel, of_item, of_hand, of_element, of_pe, of_queue, of_world}
 use Rattle.event_laws.specs.Barrier.{is_resumed}
 use Rattle.rts_core.specs.Orders.{IsParcelInOrder, HasOrder, AreInOrder}
 use Rattle.event_laws.proofs.Resumptions.{resumed_in}
 use Rattle.event_laws.proofs.OrderedRounds.{FitsInOrder, PackedInOrder, AllOrdered, order_kept, are_in_order}
-use Rattle.event_laws.proofs.RunResumptions.{run_gains}
+use Rattle.event_laws.proofs.RunResumptions.{WorldGains, run_gains}
 use Rattle.rts_core.proofs.EachElement.{run_kept, opening_kept}
 use Rattle.event_laws.proofs.Tallies.{one, times-cons}
 use Rattle.at_sync.specs.declared.strategy.Strategy.{Strategy}
@@ -132,18 +133,28 @@ module _ (e r : ℕ) where
       by true = refl
       by false = refl
 
-  module _ {C A : Type 0} (step : Step C) (pack : C → List ℕ) (unpack : List ℕ → Result (C × ℕ) PupError) (pes : ℕ) (chares : List C) (strategy : Strategy) (some : 1 ≤ pes) where
-    pub resumed_once : (events : List Event) (last : After C A) → Reaches step pack unpack (opening_world pes chares strategy) events last → times (is_resumed e r) last.1 ≤ 1
-    resumed_once events last run =
-        let opens : AllOrdered (opening_world pes chares strategy) = opening_kept step pack FitsInOrder PackedInOrder (order_kept step pack) A pes chares strategy in
-        let ordered : AllOrdered last.0 = run_kept step pack FitsInOrder PackedInOrder (order_kept step pack) unpack (opening_world pes chares strategy) events last opens run in
-        let a = run_gains step pack unpack (opening_world pes chares strategy) events last opens run e r in
+  module _ {C A : Type 0} (pes : ℕ) (chares : List C) (strategy : Strategy) (some : 1 ≤ pes) where
+    abbrev opened : WorldView C A
+    opened = opening_world pes chares strategy
+
+    -- a world whose journals have gained since the opening what its trace says
+    pub once_gained : (w : WorldView C A) (trace : List TraceEntry) → AllOrdered w → WorldGains opened (w, trace) → Kept (length chares) opened w trace
+        → times (is_resumed e r) trace ≤ 1
+    once_gained w trace ordered gained kept =
+        let a = gained e r in
         let b = opening_weighs A pes chares strategy some no_letter (resumed_in e r) in
         let c = unlived (resumed_in e r) resumed_none 0 chares in
-        let d = world_le last.0 (are_in_order last.0 ordered) in
-        let f : of_world no_letter known last.0 ≡ of_world no_letter known
-        (opening_world {A = A} pes chares strategy) = (run_keeps step pack unpack (length chares) (opening_world pes chares strategy)
-        events last (opening_of A pes chares strategy some) run).stands (one_at e) in
+        let d = world_le w (are_in_order w ordered) in
+        let f : of_world no_letter known w ≡ of_world no_letter known opened = kept.stands (one_at e) in
         let g = opening_weighs A pes chares strategy some no_letter known in
         let h : sum_by known (opened_lives 0 chares) ≤ 1 = opened_once_each e 0 chares in
         omega (arith, a, b, c, d, f, g, h)
+
+    module _ (step : Step C) (pack : C → List ℕ) (unpack : List ℕ → Result (C × ℕ) PupError) where
+      pub resumed_once : (events : List Event) (last : After C A) → Reaches step pack unpack opened events last → times (is_resumed e r) last.1 ≤ 1
+      resumed_once events last run =
+          let opens : AllOrdered opened = opening_kept step pack FitsInOrder PackedInOrder (order_kept step pack) A pes chares strategy in
+          once_gained last.0 last.1
+          (run_kept step pack FitsInOrder PackedInOrder (order_kept step pack) unpack opened events last opens run)
+          (run_gains step pack unpack opened events last opens run)
+          (run_keeps step pack unpack (length chares) opened events last (opening_of A pes chares strategy some) run)

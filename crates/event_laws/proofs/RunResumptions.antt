@@ -1,5 +1,5 @@
 -- From a world to the one that a list of events reaches, the journals gain the resumptions that are in the trace.
-use Rattle.std.proofs.Common.{◌≡◌, ℕ, ◌+◌, List, [], ◌∷◌, Some, arith, refl, sym, subst}
+use Rattle.std.proofs.Common.{◌≡◌, ℕ, ◌+◌, List, [], ◌∷◌, ◌++◌, Some, arith, refl, sym, subst}
 use Rattle.std.specs.Prelude.{Result, slice_get}
 use Rattle.chares.specs.declared.trace_entry.TraceEntry.{TraceEntry}
 use Rattle.chares.specs.declared.trace_entry.TraceEntry.TheVariants.{Decided}
@@ -29,6 +29,13 @@ WorldGains w a = (e r : ℕ) → of_world no_letter (resumed_in e r) a.0 ≡ of_
 pub gains_none : {C A : Type 0} (w : WorldView C A) → WorldGains w (w, [])
 gains_none w e r = let z : times (is_resumed e r) [] ≡ 0 = refl in omega (arith, z)
 
+pub gains_join : {C A : Type 0} (w : WorldView C A) (first rest : After C A) → WorldGains w first → WorldGains first.0 rest → WorldGains w (rest.0, first.1 ++ rest.1)
+gains_join w first rest a b e r =
+    let x = a e r in
+    let y = b e r in
+    let z = times-append (is_resumed e r) first.1 rest.1 in
+    omega (arith, x, y, z)
+
 module _ {C A : Type 0} (step : Step C) (pack : C → List ℕ) (unpack : List ℕ → Result (C × ℕ) PupError) where
   module _ (w : WorldView C A) (h : AllOrdered w) where
     turn_gains : (p : ℕ) (pe : PeView C) → slice_get w.pes p ≡ Some pe → (a : LocalView C A × List TraceEntry) → Gains (local_view w pe) a → WorldGains w (with_local w p a.0, a.1)
@@ -54,9 +61,4 @@ module _ {C A : Type 0} (step : Step C) (pack : C → List ℕ) (unpack : List �
       let a : WorldGains w first = event_gains w h event first happens in
       let b : WorldGains first.0 rest = run_gains first.0 events rest
       (event_kept step pack FitsInOrder PackedInOrder (order_kept step pack) unpack w event first h happens) leads in
-      subst (λ (v : After C A). WorldGains w v) (sym is)
-      (λ e r.
-      let x = a e r in
-      let y = b e r in
-      let z = times-append (is_resumed e r) first.1 rest.1 in
-      omega (arith, x, y, z))
+      subst (λ (v : After C A). WorldGains w v) (sym is) (gains_join w first rest a b)

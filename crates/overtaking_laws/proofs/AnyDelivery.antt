@@ -35,10 +35,10 @@ module _ {C A : Type 0} (step : Step C) (pack : C → List ℕ) (unpack : List �
           (rw (get_set_same w.queues p (t.before ++ t.parcel ∷ t.after) (t.parcel ∷ t.before ++ t.after) t.queued)
           (rw t.free (rw (set-set w.queues p (t.parcel ∷ t.before ++ t.after) (t.before ++ t.after)) (rw t.leads refl))))
 
-  -- a delivery of the front of a queue is nothing, or one of any parcel
+  -- a delivery from a queue that keeps its order is nothing, or takes the front
   module _ (p : ℕ) (w : WorldView C A) (next : After C A) where
     abbrev pub Takes : Type 0
-    Takes = (next ≡ (w, [])) ⊎ (TakesAny p w next.0 × (next.1 ≡ []))
+    Takes = (next ≡ (w, [])) ⊎ ((takes : TakesAny p w next.0) × (takes.before ≡ []) × (next.1 ≡ []))
 
     -- what a delivery to this PE leads to
     abbrev led_to : PeView C → Option (PeView C × List (List Parcel)) → After C A
@@ -53,6 +53,7 @@ module _ {C A : Type 0} (step : Step C) (pack : C → List ℕ) (unpack : List �
     by_parcels pe [] there queued free h = inl h
     by_parcels pe (parcel ∷ rest) there queued free h = inr (
       record { pe = pe; there = there; free = free; before = []; parcel = parcel; after = rest; queued = queued; leads = ap (λ (v : After C A). v.0) h },
+      refl,
       ap (λ (v : After C A). v.1) h,
     )
 

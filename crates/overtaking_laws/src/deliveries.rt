@@ -15,14 +15,14 @@ use std::alloc::Allocator;
 
 /// What free runs there are. The function does nothing: its clauses are the laws. They hold for any chares, from any world on.
 /// Where a PE takes a parcel out of its queue, wherever in the queue it is, the parcel overtakes those before it, and then it
-/// is delivered. A delivery from a queue that keeps its order takes the front, or changes nothing. So every list of events in
-/// which a delivery may be of any parcel is a free run, with the same trace. A list of events where queues keep their order is
-/// one in which nothing overtakes.
+/// is delivered. A delivery from a queue that keeps its order takes the front, which has nothing before it, or changes nothing.
+/// So every list of events in which a delivery may be of any parcel is a free run, with the same trace. A list of events where
+/// queues keep their order is one in which nothing overtakes.
 pub fn delivery_laws<C: Chare<A>, A: Allocator>()
     ensures taken { (p : ℕ) (w next : WorldView C A) → TakesAny p w next
         → (between : WorldView C A) × Overtakes w between × Happens C.step C.pack C.unpack between (Deliver p) (next, []) }
     ensures front { (p : ℕ) (w : WorldView C A) (next : After C A) → Happens C.step C.pack C.unpack w (Deliver p) next
-        → (next ≡ (w, [])) ⊎ (TakesAny p w next.0 × (next.1 ≡ [])) }
+        → (next ≡ (w, [])) ⊎ ((takes : TakesAny p w next.0) × (takes.before ≡ []) × (next.1 ≡ [])) }
     ensures unordered { (w : WorldView C A) (events : List Event) (last : After C A) → ReachesUnordered C.step C.pack C.unpack w events last
         → (steps : List FreeStep) × ReachesFreely C.step C.pack C.unpack w steps last }
     ensures ordered { (w : WorldView C A) (events : List Event) (last : After C A) → Reaches C.step C.pack C.unpack w events last
