@@ -2,4 +2,3 @@ pub mod Dumped
 pub mod Fields
 pub mod Refused
 pub mod Rounds
-pub mod Values

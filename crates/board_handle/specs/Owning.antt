@@ -1,16 +1,15 @@
 -- What a handle owns.
-use Rattle.std.specs.Prelude.{Bool, true, false}
-use mir.Syntax.{Ty}
-use base.Fml.{Fml, ftrue}
+use Rattle.std.specs.Prelude.{Bool}
+use base.Fml.{Fml}
 use denote.RattleType.{RattleType}
 use denote.RawPtr.{Ptr}
-use Rattle.std.specs.Box.Ownership.{box_owns}
 use Rattle.std_heap.specs.declared.Global.{Global}
 use Rattle.std_heap.specs.contracts.Global as heap
 use Rattle.std_heap.specs.contracts.GlobalAllocator.TheImpl.{ghosts}
 use Rattle.at_sync.specs.Boards.{BoardState, new_board}
 use Rattle.at_sync.specs.declared.strategy.Strategy.TheVariants.{Least}
 use Rattle.at_sync.specs.contracts.board.Board as board
+use Rattle.loose_box.specs.Owning.{boxed_if}
 
 -- a board whose lists are on the C library's heap, and one to name where there is none
 abbrev pub BoardView : Type 0
@@ -22,11 +21,6 @@ no_board = new_board 0 1 Least
 abbrev pub board_row : RattleType
 board_row = board.the_row heap.the_row ghosts
 
--- the right to free a block of the C library's heap; every handle to it gives the same
-abbrev pub may_free : Ty → Ptr → Fml
-may_free = ghosts.dealloc_token (record { memory = record { seal = tt } })
-
 -- an open handle owns a box's memory, with this board in it; a closed one owns nothing
 abbrev pub held : Ptr → Bool → BoardView → Fml
-held p true x = box_owns may_free board_row p x
-held p false x = ftrue
+held p is_open x = boxed_if board_row p is_open x

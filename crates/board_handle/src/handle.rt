@@ -3,8 +3,8 @@
 ghost use Rattle.std.specs.Prelude.{◌≡◌, MatchOption, true, false};
 ghost use Rattle.board_handle.specs.Owning.{BoardView};
 
-use crate::loose::Loose;
 use at_sync::Board;
+use loose_box::Loose;
 use std::alloc::Global;
 use std::marker::Model;
 use std::mem::replace;

@@ -13,7 +13,6 @@ mod deciding;
 mod dumping;
 mod error;
 mod handle;
-mod loose;
 mod opening;
 mod reading;
 mod reporting;

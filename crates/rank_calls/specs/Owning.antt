@@ -1,16 +1,15 @@
 -- What a handle owns.
-use Rattle.std.specs.Prelude.{Bool, true, false}
+use Rattle.std.specs.Prelude.{Bool}
 use mathlib.Core.List.{[]}
-use mir.Syntax.{Ty, ty_struct, tnil}
-use base.Fml.{Fml, ftrue}
+use mir.Syntax.{ty_struct, tnil}
+use base.Fml.{Fml}
 use denote.Exit.{no}
 use denote.Param.{param, arg}
 use denote.RattleType.{RattleType}
 use denote.RawPtr.{Ptr}
 use Rattle.core.specs.contracts.marker.Brand as brand
-use Rattle.std.specs.Box.Ownership.{box_owns}
-use Rattle.std_heap.specs.contracts.GlobalAllocator.TheImpl.{ghosts}
 use Rattle.foreign_chare.specs.Scripts.{Stamp}
+use Rattle.loose_box.specs.Owning.{boxed_if}
 use Rattle.pe_state.specs.Pes.{PeView, new_pe}
 use Rattle.rank_calls.specs.Runs.{Run}
 use Rattle.rank_calls.specs.declared.run.RunName.{Ghosts}
@@ -23,14 +22,9 @@ PeOf = PeView Stamp
 abbrev pub no_pe : PeOf
 no_pe = new_pe 0 0
 
--- the right to free a block of the C library's heap; every handle to it gives the same
-abbrev pub may_free : Ty → Ptr → Fml
-may_free = ghosts.dealloc_token (record { memory = record { seal = tt } })
-
 -- an open lodge owns a box's memory, with this PE in it; a closed one owns nothing
 abbrev pub lodged : (R : RattleType) → Ghosts R.Denot → Ptr → Bool → PeOf → Fml
-lodged R g p true pe = box_owns may_free (rank.the_row R g) p pe
-lodged R g p false pe = ftrue
+lodged R g p is_open pe = boxed_if (rank.the_row R g) p is_open pe
 
 -- the type argument `Brand`, as a call hands it over
 abbrev pub marker : RattleType

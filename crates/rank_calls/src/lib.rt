@@ -23,7 +23,6 @@
 
 mod handle;
 mod lodge;
-mod loose;
 mod opening;
 mod rank;
 mod request;

@@ -4,9 +4,9 @@ ghost use Rattle.std.specs.Prelude.{◌≡◌, MatchOption, true, false};
 ghost use Rattle.foreign_chare.specs.Scripts.{Stamp};
 ghost use Rattle.pe_state.specs.Pes.{PeView};
 
-use crate::loose::Loose;
 use crate::rank::Rank;
 use crate::run::RunName;
+use loose_box::Loose;
 use std::alloc::Global;
 use std::marker::Model;
 use std::ptr::null_mut;

@@ -7,11 +7,11 @@ ghost use Rattle.rank_calls.specs.Refusals.{refusal, IsRefused};
 ghost use Rattle.rank_calls.specs.Runs.{opened};
 
 use crate::lodge::Lodge;
-use crate::loose::Loose;
 use crate::rank::Rank;
 use crate::request::{CallError, Reply, Request};
 use crate::run::RunName;
 use chare_index::{Limits, Pe};
+use loose_box::Loose;
 use std::alloc::Global;
 
 /// Does what is asked, with the PE that is there, or without one.

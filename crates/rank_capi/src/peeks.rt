@@ -149,7 +149,8 @@ pub extern "C" fn tezgumi_pe_next_note(
     ensures closed { (result ≡ negsuc 2) ↔ (handle.old.is_open ≡ false) }
     ensures shown { result ≡ pos 0 → IsSomeAnd (slice_get handle.old.pe.notes 0) (note_in kind.new index.new round.new load.new bytes.new) }
     ensures nothing { result ≡ pos 1 → slice_get handle.old.pe.notes 0 ≡ None }
-    ensures not_written { result ≢ pos 0 → (kind.new ≡ kind.old) × (index.new ≡ index.old) × (round.new ≡ round.old) × (load.new ≡ load.old) × (bytes.new ≡ bytes.old) }
+    ensures not_written { result ≢ pos 0
+        → (kind.new ≡ kind.old) × (index.new ≡ index.old) × (round.new ≡ round.old) × (load.new ≡ load.old) × (bytes.new ≡ bytes.old) }
 {
     match handle.call(alloc, Request::NextNote) {
         Reply::IsOwed(Some(note)) => {

@@ -14,7 +14,7 @@ use denote.Steps.{nothing}
 use denote.Triple.Walked.{Stays, walk_of}
 use Rattle.std.proofs.raw_atomic.Walks.{proved, leaves}
 use Rattle.std.specs.Prelude.{false, ◌≡◌}
-use Rattle.board_handle.proofs.Values.{both}
+use Rattle.loose_box.proofs.Values.{both}
 use Rattle.board_handle.specs.Owning.{no_board}
 use Rattle.board_handle.proofs.Fields.{handle_in}
 use Rattle.board_handle.specs.contracts.handle.BoardHandle.closed as f
@@ -31,4 +31,5 @@ closed_spec 𝓤 𝓛 𝓜 𝓡 wired =
     sets ! (agg ! (and_then ! (lit ! tt) (and_then ! (false_lit !) (no_more !)))) refl (tt, (record { fits = lit< tt }, (tt, tt))) $
     nothing ! $ handle_in ! null_ptr false no_board $
     use0 𝓛 (raw (fact 𝓤 (false ≡ false))) (fact_i 𝓤 (false ≡ false) (emp 𝓤) refl) $ nothing ! $ nothing ! $
-    returns ! (look_at ! 0 refl) $ free_all ! refl $ keep ! (0 ∷ 1 ∷ 3 ∷ 2 ∷ []) $ by ! (leaves 𝓛 f.ended hs c z v (record { at = null_ptr; is_open = false; board = no_board }) tt tt)))
+    returns ! (look_at ! 0 refl) $ free_all ! refl $ keep ! (0 ∷ 1 ∷ 3 ∷ 2 ∷ []) $ by ! (leaves 𝓛 f.ended hs c z v
+    (record { at = null_ptr; is_open = false; board = no_board }) tt tt)))

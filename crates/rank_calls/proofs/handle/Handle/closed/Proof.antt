@@ -14,7 +14,7 @@ use denote.Steps.{nothing}
 use denote.Triple.Walked.{Stays, walk_of}
 use Rattle.std.proofs.raw_atomic.Walks.{proved, leaves}
 use Rattle.std.specs.Prelude.{false, ◌≡◌}
-use Rattle.rank_calls.proofs.Values.{both}
+use Rattle.loose_box.proofs.Values.{both}
 use Rattle.rank_calls.proofs.Fields.{handle_in}
 use Rattle.rank_calls.specs.Owning.{no_pe}
 use Rattle.rank_calls.specs.Runs.{no_run}

@@ -47,7 +47,8 @@ use Rattle.rank_calls.proofs.request.Request.TheLaws as request_laws
 use Rattle.rank_calls.specs.contracts.request.Reply as reply
 use Rattle.rank_calls.proofs.request.Reply.TheLaws as reply_laws
 use Rattle.rank_calls.proofs.Spent.{blank_request, gone}
-use Rattle.rank_calls.proofs.Values.{both, both_tt, al, pair_in}
+use Rattle.loose_box.proofs.Values.{both, al}
+use Rattle.rank_calls.proofs.Values.{both_tt, pair_in}
 use Rattle.rank_calls.proofs.Fields.{handle_in, handle_out, lodge_in, lodge_out}
 use Rattle.rank_calls.specs.contracts.handle.Handle.turn.{ended, clauses}
 use Rattle.rank_calls.specs.contracts.handle.Handle.turn.Key.{name as #self}

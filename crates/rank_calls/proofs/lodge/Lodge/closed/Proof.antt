@@ -19,7 +19,7 @@ use denote.Steps.{nothing}
 use denote.Param.{param, bounded}
 use denote.Triple.Walked.{Stays, walk_of}
 use Rattle.std.proofs.raw_atomic.Walks.{proved_at, leaves}
-use Rattle.rank_calls.proofs.Values.{both}
+use Rattle.loose_box.proofs.Values.{both}
 use Rattle.rank_calls.proofs.Fields.{lodge_in}
 use Rattle.rank_calls.specs.Owning.{no_pe}
 use Rattle.rank_calls.specs.contracts.lodge.Lodge.closed.{ended, clauses}

@@ -25,37 +25,29 @@ use denote.Steps.{nothing}
 use denote.Param.{param, bounded, layout}
 use denote.Triple.Walked.{Stays, stay_dropped, walk_of, Goes-dropped}
 use Rattle.core.specs.declared.option.Option.TheVariants.{None, Some}
-use Rattle.std.specs.Prelude.{not}
-use lib.Dec.{T}
 use Rattle.core.proofs.atomic.Steps.{Ptr-Good}
 use Rattle.core.proofs.option.Made.{Some-of, none_of}
 use Rattle.core.proofs.alloc.Calls.{handle_tells, Goes-blank}
 use Rattle.core.proofs.alloc.Shapes.{after}
 use Rattle.core.proofs.cell.Inside.{Good}
 use Rattle.std_alloc.specs.Box.Ownership.{box_owns}
+use Rattle.std_alloc.proofs.Flags.{T_back}
 use Rattle.std_alloc.proofs.ResultValues.{and_tt}
 use Rattle.std.proofs.raw_atomic.Walks.{proved_at, leaves}
 use Rattle.std_heap.specs.contracts.Global as heap
 use Rattle.std_heap.specs.contracts.GlobalAllocator.TheImpl.{ghosts}
+use Rattle.std_heap.proofs.Calls.{T_false}
 use Rattle.std_heap.proofs.Global.TheLaws as heap_laws
-use Rattle.rank_calls.specs.Owning.{lodged, may_free}
+use Rattle.loose_box.specs.Owning.{may_free}
+use Rattle.rank_calls.specs.Owning.{lodged}
 use Rattle.rank_calls.specs.contracts.rank.Rank as rank
 use Rattle.rank_calls.specs.contracts.lodge.Lodge as lodge
-use Rattle.rank_calls.proofs.Values.{both, Loose, loose_good, loose_in, al}
+use Rattle.loose_box.proofs.Values.{both, Loose, loose_good, loose_in, al}
 use Rattle.rank_calls.proofs.Fields.{lodge_out}
 use Rattle.rank_calls.specs.contracts.lodge.Lodge.into_loose.{ended, clauses}
 use Rattle.rank_calls.specs.contracts.lodge.Lodge.into_loose.Key.{name as #self}
 use Rattle.rank_calls.proofs.lodge.Lodge.into_loose.Statement.{statement}
 use Rattle.rank_calls.proofs.lodge.Lodge.into_loose.Code as code
-
--- a test that failed, and one that held
-shut : (b : Bool) → T (not b) → b ≡ false
-shut true n = absurd n
-shut false n = refl
-
-ajar : (b : Bool) → T (not (not b)) → b ≡ true
-ajar true n = refl
-ajar false n = absurd n
 
 pub into_loose_spec : {M : Type 1} → statement M
 into_loose_spec 𝓤 𝓛 𝓜 𝓡 wired T L g d met =
@@ -80,9 +72,9 @@ into_loose_spec 𝓤 𝓛 𝓜 𝓡 wired T L g d met =
     first ! $ branches ! (get ! refl)
     (λ closed. sets ! (agg ! (and_then ! (lit ! tt) (no_more !))) refl (tt, (record { fits = lit< tt }, tt)) $
     use0 𝓛 (‵ (Out.own_val None (none ∷ []))) (none_of 𝓛 Lr) $
-    let Told : Type 0 = v.is_open ≡ false in use0 𝓛 (raw (fact 𝓤 Told)) (fact_i 𝓤 Told (emp 𝓤) (shut v.is_open closed)) $ nothing ! $ nothing ! $ fjoin ! $ nothing ! $ fjoin ! $
+    let Told : Type 0 = v.is_open ≡ false in use0 𝓛 (raw (fact 𝓤 Told)) (fact_i 𝓤 Told (emp 𝓤) (T_false v.is_open closed)) $ nothing ! $ nothing ! $ fjoin ! $ nothing ! $ fjoin ! $
     returns_within ! Post refl (look_at ! 0 refl) $ free_all ! refl $ keep ! (6 ∷ 0 ∷ 2 ∷ 1 ∷ []) $ by ! (leaves 𝓛 En hs c z none None (tt, (tt, tt)) (tt, (tt, tt))))
-    (λ opened. skips ! $ exec ! 𝓣.C 𝓣.Λ Ev (after 4 fn.body) (at_ret Ev Post) $ let is : v.is_open ≡ true = ajar v.is_open opened in
+    (λ opened. skips ! $ exec ! 𝓣.C 𝓣.Λ Ev (after 4 fn.body) (at_ret Ev Post) $ let is : v.is_open ≡ true = T_back v.is_open opened in
     rewrite ! 2 (λ (b : Bool). ‵ (lodged P g v.at b v.pe)) is refl $ move ! (2 ∷ []) $
     in_a_block ! v.at (λ p. box_owns may_free R p v.pe) (fst∗ 𝓤 (never 𝓤) (sem 𝓛 (ghosts.dealloc_token a (bare (lone R.mir)) null_ptr))) (λ b o e.
     let typed = loose_good R Z LZ ghosts b o h fits in let made : Val = both (vptr b o) h in let some : Val = live 1 (vcons made vnil) in

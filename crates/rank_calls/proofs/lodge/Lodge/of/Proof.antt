@@ -26,7 +26,7 @@ use Rattle.std_heap.specs.contracts.Global as heap
 use Rattle.std_heap.specs.contracts.GlobalAllocator.TheImpl.{ghosts}
 use Rattle.std_heap.proofs.Global.TheLaws as heap_laws
 use Rattle.rank_calls.specs.contracts.rank.Rank as rank
-use Rattle.rank_calls.proofs.Values.{both, Loose, loose_good, loose_out}
+use Rattle.loose_box.proofs.Values.{both, Loose, loose_good, loose_out}
 use Rattle.rank_calls.proofs.Fields.{lodge_in}
 use Rattle.rank_calls.specs.contracts.lodge.Lodge.of.{ended, clauses}
 use Rattle.rank_calls.specs.contracts.lodge.Lodge.of.Key.{name as #self}
