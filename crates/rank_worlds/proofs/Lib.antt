@@ -1,0 +1,9 @@
+pub mod Addressed
+pub mod Addresses
+pub mod CallEvents
+pub mod LateEvents
+pub mod LateLaws
+pub mod Openings
+pub mod OwingPes
+pub mod RankEvents
+pub mod StampedRanks
