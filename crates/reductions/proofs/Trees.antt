@@ -149,6 +149,26 @@ some_joined combined (Some a) (Some b) value e = (a, b, refl, refl, cc)
 some_joined combined (Some a) None value e = cc
 some_joined combined None right value e = cc
 
+-- above the slot of the element there is nothing more
+module _ {V : Type 0} (combined : V → V → V) (n i : ℕ) (own : Option V) (parts : List (ℕ × V)) where
+  passed_by : (s : ℕ) → has_child n i s ≡ false → gathered combined n i own parts (suc s) ≡ gathered combined n i own parts s
+  unfolding gathered
+  passed_by s none = rw none refl
+
+  no_more : (s d : ℕ) → slot i ≤ s → gathered combined n i own parts (s + d) ≡ gathered combined n i own parts s
+  no_more s zero above = let e : s + 0 ≡ s = omega arith in ap (gathered combined n i own parts) e
+  no_more s (suc d) above =
+      let e : s + suc d ≡ suc (s + d) = omega arith in
+      let none : has_child n i (s + d) ≡ false = grind (arith, nat_tests) in
+      ap (gathered combined n i own parts) e ∙ passed_by (s + d) none ∙ no_more s d above
+
+  -- all of the slots
+  pub all_slots : gathered combined n i own parts SLOTS ≡ gathered combined n i own parts (slot i)
+  all_slots =
+      let few : slot i ≤ 16 = trailing_le 16 i in
+      let e : 16 ≡ slot i + (16 - slot i) = omega (arith, few) in
+      ap (gathered combined n i own parts) e ∙ no_more (slot i) (16 - slot i) (omega arith)
+
 module _ {V : Type 0} (combined : V → V → V) (n i : ℕ) (contribution : ℕ → V) (parts : List (ℕ × V)) where
   -- down to a slot below that of the element, one more slot
   right_by : (s : ℕ) (b : Bool) (value : V) → nat_lt s (slot i) && nat_lt (child i s) n ≡ b → s < slot i
@@ -174,25 +194,6 @@ module _ {V : Type 0} (combined : V → V → V) (n i : ℕ) (contribution : ℕ
   right_below (suc s) value few right e =
       right_by s (has_child n i s) value refl (omega arith) right (λ v. right_below s v (omega arith) right) e
 
-  -- above it there is nothing more
-  passed_by : (s : ℕ) → has_child n i s ≡ false → gathered combined n i (Some (contribution i)) parts (suc s) ≡ gathered combined n i (Some (contribution i)) parts s
-  unfolding gathered
-  passed_by s none = rw none refl
-
-  no_more : (s d : ℕ) → slot i ≤ s → gathered combined n i (Some (contribution i)) parts (s + d) ≡ gathered combined n i (Some (contribution i)) parts s
-  no_more s zero above = let e : s + 0 ≡ s = omega arith in ap (gathered combined n i (Some (contribution i)) parts) e
-  no_more s (suc d) above =
-      let e : s + suc d ≡ suc (s + d) = omega arith in
-      let none : has_child n i (s + d) ≡ false = grind (arith, nat_tests) in
-      ap (gathered combined n i (Some (contribution i)) parts) e ∙ passed_by (s + d) none ∙ no_more s d above
-
-  -- all of the slots
-  all_slots : gathered combined n i (Some (contribution i)) parts SLOTS ≡ gathered combined n i (Some (contribution i)) parts (slot i)
-  all_slots =
-      let few : slot i ≤ 16 = trailing_le 16 i in
-      let e : 16 ≡ slot i + (16 - slot i) = omega (arith, few) in
-      ap (gathered combined n i (Some (contribution i)) parts) e ∙ no_more (slot i) (16 - slot i) (omega arith)
-
   -- and with all parts there is a value
   there_by : (s : ℕ) (b : Bool) → nat_lt s (slot i) && nat_lt (child i s) n ≡ b → s < slot i
       → ((j : ℕ) → has_child n i j ≡ true → part_in j parts ≡ Some (tree_fold combined n contribution (child i j) j))
@@ -215,8 +216,8 @@ module _ {V : Type 0} (combined : V → V → V) (n i : ℕ) (contribution : ℕ
 
 pub goes_on_right : {V : Type 0} (combined : V → V → V) → GoesOnRight combined
 goes_on_right combined n i contribution parts value right e =
-    right_below combined n i contribution parts (slot i) value (omega arith) right (sym (all_slots combined n i contribution parts) ∙ e)
+    right_below combined n i contribution parts (slot i) value (omega arith) right (sym (all_slots combined n i (Some (contribution i)) parts) ∙ e)
 
 pub goes_on : {V : Type 0} (combined : V → V → V) → GoesOn combined
 goes_on combined n i contribution parts there =
-    all_slots combined n i contribution parts ∙ there_below combined n i contribution parts (slot i) (omega arith) there
+    all_slots combined n i (Some (contribution i)) parts ∙ there_below combined n i contribution parts (slot i) (omega arith) there

@@ -2,15 +2,16 @@
 
 ghost use Rattle.std.specs.Prelude.{◌≡◌, ◌++◌, ◌∷◌, [], ◌<◌, ◌≤◌, Bool, true, false, length, OnErr, OnOk, IfSome, IsNone, ◌↔◌, Some, None};
 ghost use Rattle.reductions.specs.NodePacks.{is_node, of_parts};
-ghost use Rattle.reductions.specs.Nodes.{contributed, emptied, gathered, is_full, joined, opening_node, part_in, with_more, with_part, with_waits};
+ghost use Rattle.reductions.specs.Nodes.{contributed, emptied, gathered, is_full, opening_node, part_in, with_more, with_part, with_waits};
 ghost use Rattle.reductions.specs.Trees.{SLOTS};
 
 use crate::combines::Combines;
-use crate::tree::{self, has_child};
+use crate::tree::{self, has_child, slot};
 use chare_index::Index;
 use pup_pack::{Fields, Items, Pup, PupError};
 use std::alloc::{AllocError, Allocator, Global};
 use std::marker::Model;
+use std::mem::replace;
 
 /// A part: the value of a child's subtree, with the slot of that child.
 pub(crate) type Part<V> = (u8, V);
@@ -78,14 +79,19 @@ impl<V, A: Allocator> Node<V, A> {
         }
     }
 
-    /// Forgets what has gone on.
+    /// Forgets what has gone on. The memory of the parts stays for those of the next reduction.
     pub(crate) fn empty(&mut self, alloc: A)
     where
         V: Drop,
         ensures value { self.new ≡ emptied self.old }
     {
         self.own = None;
-        self.parts = Items::new(Vec::new(alloc));
+        if self.parts.as_slice().is_empty() {
+            return;
+        }
+        let mut parts = replace(&mut self.parts, Items::new(Vec::new(alloc))).into_vec();
+        parts.clear();
+        self.parts = Items::new(parts);
     }
 
     // The node with these fields, or `None` past the slots.
@@ -137,7 +143,7 @@ impl<A: Allocator + Copy, V: Combines<A>> Pup<A> for Node<V, A> {
 impl<A: Allocator + Copy, V: Combines<A>> Node<V, A> {
     /// The value of the subtree of an element, where this is its own contribution and this part is there beside those that came, or
     /// `None` while one is missing.
-    #[tactic(auto, using(crate::proofs::Nodes::gathered_none, crate::proofs::Nodes::gathered_more))]
+    #[tactic(auto, using(crate::proofs::Nodes::gathered_none, crate::proofs::Nodes::gathered_more, crate::proofs::Nodes::without_own, crate::proofs::Nodes::without_part))]
     pub(crate) fn whole(
         &self,
         n: u32,
@@ -147,13 +153,18 @@ impl<A: Allocator + Copy, V: Combines<A>> Node<V, A> {
     ) -> Option<V>
         ensures value { result ≡ gathered V.combined n me own (with_more self.now.parts more) SLOTS }
     {
-        let mut value = own;
-        for in_slot in 0..tree::SLOTS {
+        let Some(mut value) = own else {
+            return None;
+        };
+        for in_slot in 0..slot(me) {
             if has_child(n, me, in_slot) {
-                value = joined(value, found(self.parts.as_slice(), more, in_slot));
+                let Some(part) = found(self.parts.as_slice(), more, in_slot) else {
+                    return None;
+                };
+                value = value.combine(part);
             }
         }
-        value
+        Some(value)
     }
 
     /// The value of its subtree with one more part.
@@ -195,16 +206,6 @@ impl<A: Allocator + Copy, V: Combines<A>> Node<V, A> {
         } else {
             self.own = contribution;
         }
-    }
-}
-
-// Two values in order, where both are there.
-fn joined<A: Allocator, V: Combines<A>>(left: Option<V>, right: Option<V>) -> Option<V>
-    ensures value { result ≡ joined V.combined left right }
-{
-    match (left, right) {
-        (Some(left), Some(right)) => Some(left.combine(right)),
-        _ => None,
     }
 }
 
