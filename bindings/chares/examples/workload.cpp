@@ -1,7 +1,7 @@
 // Runs a workload as charm_run of this project does, and prints the same text: docs/FORMATS.md, "Workloads" and "What charm_run prints".
 //
 //     g++ -std=c++17 -O2 workload.cpp $(pkg-config --cflags --libs tezgumi-chares) -pthread -o workload
-//     ./workload [--tolerance T] [--dump PREFIX] worked.workload
+//     ./workload [--tolerance T] [--dump PREFIX] [--events PREFIX] worked.workload
 //     mpicxx -DWITH_MPI -std=c++17 -O2 workload.cpp $(pkg-config --cflags --libs tezgumi-chares) -pthread -o workload_mpi
 //     mpirun -n 2 ./workload_mpi worked.workload      # as many ranks as the workload has PEs
 #include "launch.hpp"
@@ -123,21 +123,22 @@ struct tally : tezgumi::chare {
     }
 };
 
-// Prints what a run left. Its status.
-static int print(const launch::program &program, const launch::outcome<tally> &end)
+// Prints what a run of so many chares left. Its status.
+static int print(const launch::program &program, const launch::outcome<tally> &end, std::uint32_t chares)
 {
     const auto sums = end.collect([](const tally &one) { return one.sum; });
     if (!program.prints()) return end.status();
     for (const tezgumi::round_report &of : end.rounds) {
         std::printf("round %u bottleneck %" PRIu64 " moved %" PRIu64 "\n", of.round, of.bottleneck, of.moved);
     }
-    if (end.is_good() || end.met.kind == tezgumi::fault_kind::dump) {
+    // Where a dump was not written the sums are there. Where the events could not be opened there are no elements of that PE.
+    if (end.is_good() || (end.met.kind == tezgumi::fault_kind::dump && sums.size() == chares)) {
         std::printf("sums");
         for (std::uint64_t sum : sums) std::printf(" %" PRIu64, sum);
     } else {
         std::printf("fault %s", end.met.word());
-        std::fprintf(stderr, "workload: %s\n", end.met.text().c_str());
     }
+    if (!end.is_good()) std::fprintf(stderr, "workload: %s\n", end.met.text().c_str());
     std::printf("\nposted %" PRIu64 " executed %" PRIu64 " held %" PRIu64 "\n", end.letters.posted, end.letters.executed, end.letters.held);
     return end.status();
 }
@@ -152,10 +153,11 @@ int main(int argc, char **argv)
     how.within = !tolerance.empty();
     how.tolerance = static_cast<std::uint32_t>(std::atoi(tolerance.c_str()));
     how.dumps = words.text("--dump");
+    how.events = words.text("--events");
     launch::delays(words, how);
     launch::bounds(words, how);
     if (!words.is_good() || words.rest().size() != 1 || how.tolerance > 1000) {
-        if (program.prints()) std::fputs("workload [--tolerance T] [--dump PREFIX] FILE\n", stderr);
+        if (program.prints()) std::fputs("workload [--tolerance T] [--dump PREFIX] [--events PREFIX] FILE\n", stderr);
         return 2;
     }
     const workload of = read(words.rest()[0]);
@@ -174,5 +176,5 @@ int main(int argc, char **argv)
         one.pad.resize(of.pad);
         return one;
     });
-    return print(program, end);
+    return print(program, end, of.chares);
 }

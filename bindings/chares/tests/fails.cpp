@@ -1,4 +1,4 @@
-// How a run ends in which an element fails: fails KIND ELEMENT. The status is that of the run, or of the way in which its process ends.
+// How a run ends in which an element fails: fails KIND ELEMENT [EVENTS]. The status is that of the run, or of the way in which its process ends.
 #include "harness.hpp"
 
 struct failing : tezgumi::chare {
@@ -23,6 +23,7 @@ int main(int argc, char **argv)
     const std::uint32_t which = static_cast<std::uint32_t>(std::atoi(argv[2]));
     tezgumi::settings how;
     how.pes = program.pes(4);
+    if (argc > 3) how.events = argv[3];
     const auto end = launch::run<failing>(how, 16, [&](std::uint32_t i) {
         failing one;
         if (i == which) one.kind = kind;

@@ -1,5 +1,5 @@
 // Runs: messages, broadcasts, rounds and contributions, elements that move, long bodies, exceptions, and how runs end. On 1 to 8 PEs as
-// threads, or on the ranks of MPI.
+// threads, or on the ranks of MPI. With a word only those runs whose events are to be merged: they go to files of which this is the prefix.
 #include "harness.hpp"
 
 #include <atomic>
@@ -12,11 +12,14 @@ namespace {
 
 std::uint32_t pes = 1; // of the runs that come
 
-tezgumi::settings usual()
+std::string prefix;     // of the files of events, if there are to be any
+
+tezgumi::settings usual(const std::string &name = "")
 {
     tezgumi::settings how;
     how.pes = pes;
     how.clock = tezgumi::clock_kind::none;
+    if (!prefix.empty()) how.events = prefix + "." + name + "." + std::to_string(pes);
     return how;
 }
 
@@ -127,7 +130,7 @@ void rounds()
     const std::uint32_t n = 30;
     constexpr std::uint32_t rounds = 12;
     for (int kind = 0; kind < 4; kind++) {
-        tezgumi::settings how = usual();
+        tezgumi::settings how = usual("rounds" + std::to_string(kind));
         how.every = kind == 1 ? 0 : kind == 2 ? 3 : 1;
         how.within = kind == 3;
         how.tolerance = 200;
@@ -278,7 +281,7 @@ struct carrier : tezgumi::chare {
 void long_bodies()
 {
     const std::uint32_t n = 11;
-    const auto end = launch::run<carrier>(usual(), n, [](std::uint32_t) { return carrier(); });
+    const auto end = launch::run<carrier>(usual("bodies"), n, [](std::uint32_t) { return carrier(); });
     std::uint64_t sum = 0;
     for (std::uint64_t one : end.collect([](const carrier &of) { return of.sum; })) sum += one;
     // In each round each element sends 252, 253, 254 and 50000 numbers, and one sends 5000 bytes to all.
@@ -352,7 +355,11 @@ void exceptions()
     bool missing = made.elements.count(4) == 0;
     for (int one : made.collect([](const thrower &of) { return of.how; })) missing = missing && one == 0;
     expect(at("an element that is not made"), missing && made.met.kind == tezgumi::fault_kind::handler && made.met.element == 4 && made.met.what == "no element");
-    const auto end = launch::run<restorer>(usual(), 5, [](std::uint32_t) { return restorer(); });
+}
+
+void restored()
+{
+    const auto end = launch::run<restorer>(usual("restored"), 5, [](std::uint32_t) { return restorer(); });
     bool good = end.is_good() && end.letters.failed == 15 && end.letters.posted == 50 && end.letters.executed == 50;
     for (auto state : end.collect([](const restorer &one) { return one.state; })) {
         std::sort(state.begin(), state.end());
@@ -601,11 +608,13 @@ void clocks()
 
 void all()
 {
-    rings();
     rounds();
+    long_bodies();
+    restored();
+    if (!prefix.empty()) return;
+    rings();
     weights();
     contributions();
-    long_bodies();
     exceptions();
     brittle_ones();
     told();
@@ -619,6 +628,7 @@ void all()
 int main(int argc, char **argv)
 {
     launch::program program(argc, argv);
+    if (argc > 1) prefix = argv[1];
 #ifdef WITH_MPI
     pes = program.pes(1);
     all();

@@ -366,6 +366,7 @@ private:
         for (const note &one : owed) board_->take(one);
         if (board_->is_complete()) {
             latest_ = std::make_shared<const decision>(board_->decide());
+            if (log) log->decide(latest_->round);
             pup::bytes bytes;
             pup::pack(*latest_, bytes);
             for (std::uint32_t to = 1; to < ranks_; to++) post(to, round_decided, pup::bytes(bytes));

@@ -134,15 +134,18 @@ private:
 };
 
 // A parcel: its message, as docs/RANKS.md has it, and what goes beside it, which is the object of an element or the long body of a letter.
-// What is read of a message here is its kind, its index and its body.
+// What is read of a message here is its kind; of an element its index; of a letter who posted it, its number there, for whom it is, and its
+// body.
 struct parcel {
     const std::uint8_t *message = nullptr, *beside = nullptr;
     std::size_t len = 0, beside_len = 0;
 
-    static constexpr std::size_t index_at = 1, receiver_at = 9, body_at = 21;
+    static constexpr std::size_t index_at = 1, poster_at = 1, number_at = 5, receiver_at = 9, body_at = 21;
     bool is_element() const { return len > 5 && message[0] == 1; }
     bool is_letter() const { return len >= body_at && message[0] == 0; }
     std::uint32_t element() const { return pup::detail::read_word<std::uint32_t>(message + index_at); }
+    std::uint32_t poster() const { return pup::detail::read_word<std::uint32_t>(message + poster_at); }
+    std::uint32_t number() const { return pup::detail::read_word<std::uint32_t>(message + number_at); }
     std::uint32_t receiver() const { return pup::detail::read_word<std::uint32_t>(message + receiver_at); }
     const std::uint8_t *body() const { return message + body_at; }
     std::size_t body_len() const { return len - body_at; }
@@ -210,10 +213,14 @@ private:
     std::size_t at_ = head;
 };
 
+class event_log;
+
 // What carries batches between PEs, and has the board. Each PE has one.
 class link {
 public:
     virtual ~link() = default;
+    // Where the events of this PE are written down, or nothing.
+    event_log *log = nullptr;
     // Lets messages come in and go out. Whether something came.
     virtual bool poll() = 0;
     // Whether a batch is here, or a decision of a round after this one.

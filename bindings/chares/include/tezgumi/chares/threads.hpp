@@ -49,13 +49,14 @@ public:
 
     // ---- The board ----
 
-    void report(const std::vector<note> &notes)
+    void report(const std::vector<note> &notes, event_log *log)
     {
         const std::lock_guard<std::mutex> lock(mutex_);
         for (const note &one : notes) board_.take(one);
         if (board_.is_complete()) {
             latest_ = std::make_shared<const decision>(board_.decide());
             decided_ = latest_->round;
+            if (log) log->decide(latest_->round);
             rounds_.push_back(board_.report());
             tell(how_.on_round, rounds_.back());
         }
@@ -150,7 +151,7 @@ public:
         return true;
     }
     void took(std::uint32_t from) override { field_.took(me_, from); }
-    void report(std::vector<note> &notes) override { field_.report(notes); }
+    void report(std::vector<note> &notes) override { field_.report(notes, log); }
     std::shared_ptr<const decision> decided(std::uint32_t after) override { return field_.decided(after); }
     bool ended() override { return field_.ended(); }
     void fail(const fault &met) override { field_.fail(met); }

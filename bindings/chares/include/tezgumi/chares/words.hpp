@@ -42,6 +42,7 @@ struct settings {
     bool within = false; // true: the fewest bytes move within the tolerance; false: the least greatest load
     std::uint32_t tolerance = 0; // in thousandths of the least greatest load
     std::string dumps; // where it is not empty: each round that is balanced is dumped to this name, a dot and the round
+    std::string events; // where it is not empty: each PE writes its events to this name, a dot and its number
     std::size_t batch = 64 * 1024; // a message between PEs is sent once it has so many bytes, or nothing else is to do
     std::uint32_t window = 4; // so many messages a PE sends to another before that one has used one up
     std::size_t backlog = 16 * 1024 * 1024; // a PE that cannot get rid of so many bytes runs no handler until it can
@@ -60,7 +61,7 @@ enum class fault_kind : std::uint32_t {
     handler = 5, // a handler, or a pup, ended by an exception
     quiet = 6, // nothing was left to do, and an element had not finished
     mismatch = 7, // what was carried is not what was sent: an error in the driver or below
-    dump = 8, // a dump was not written
+    dump = 8, // a dump was not written, or the events
     input = 9 // the settings, the planner or the PE refused something
 };
 

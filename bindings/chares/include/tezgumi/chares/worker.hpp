@@ -2,7 +2,7 @@
 #ifndef TEZGUMI_CHARES_WORKER_HPP
 #define TEZGUMI_CHARES_WORKER_HPP
 
-#include "pe.hpp"
+#include "events.hpp"
 
 #include <time.h>
 
@@ -49,6 +49,7 @@ public:
                     rest(false);
                 } else {
                     turn();
+                    if (log_) log_->check();
                 }
             } catch (...) {
                 fail();
@@ -57,15 +58,23 @@ public:
     }
 
     // At the end: takes in the elements that came, and counts the letters that are still anywhere here. Batches that come after the end are
-    // given to it first. Where an element cannot be unpacked all others are there nevertheless.
+    // given to it first. Where an element cannot be unpacked all others are there nevertheless. The file of events ends before that, and a
+    // fault of it is told where there is no other.
     void leave(account &letters)
     {
+        std::exception_ptr lost;
+        try {
+            if (log_) log_->close();
+        } catch (...) {
+            lost = std::current_exception();
+        }
         leave_batches();
         for (auto &one : leaving_) leave_element(one.first, one.second.data(), one.second.size());
         if (hand_element_ != fault::no_element) leave_element(hand_element_, hand_beside_.data(), hand_beside_.size());
         held_ += inside_ - gone_ - executed_;
         letters.add(account{posted_, executed_, held_, failed_});
         if (missed_) std::rethrow_exception(missed_);
+        if (lost) std::rethrow_exception(lost);
     }
 
 private:
@@ -90,6 +99,10 @@ private:
 
     template <class Begin> void open(Begin &&begin)
     {
+        if (!how_.events.empty()) {
+            log_ = std::make_unique<event_log>(how_, me_, pes_, n_);
+            link_.log = log_.get();
+        }
         pe_ = std::make_unique<pe_handle>(me_, pes_, n_);
         for (std::uint32_t i = 0; i < n_; i++) {
             if (opening_place(i) != me_) continue;
@@ -177,13 +190,13 @@ private:
                 own_ready_.pop_front();
             }
         }
-        return fetch_from(own_);
+        return fetch_from(own_, me_);
     }
     bool fetch_other()
     {
         if (!has_inbox_) has_inbox_ = next_inbox();
         if (!has_inbox_) return false;
-        if (fetch_from(inbox_.parcels)) {
+        if (fetch_from(inbox_.parcels, inbox_.from)) {
             if (!inbox_.parcels.has_next()) end_inbox();
             return true;
         }
@@ -215,12 +228,13 @@ private:
             inbox_ = arrival();
         }
     }
-    bool fetch_from(batch &from)
+    bool fetch_from(batch &of, std::uint32_t from)
     {
         parcel next;
-        if (!from.front(next)) return false;
+        if (!of.front(next)) return false;
         take_in(next);
-        from.pop(next);
+        if (log_) log_->deliver(from, next);
+        of.pop(next);
         return true;
     }
     // Takes a parcel into the hand.
@@ -251,8 +265,9 @@ private:
             has_hand_ = false;
             return true;
         }
-        if (pe_->wanted(index)) pe_->look(place_of(index));
+        if (pe_->wanted(index)) look(index);
         if (!pe_->act()) return false;
+        if (log_) log_->act();
         add_to_outbox(unknown); // the letter is forwarded, or letters that waited for the element go on
         has_hand_ = false;
         if (hand_element_ == fault::no_element) return true;
@@ -261,10 +276,21 @@ private:
         return true;
     }
 
-    std::uint32_t place_of(std::uint32_t index) const
+    // Gives the letter that is wanted next its address: this PE as long as its element is here, also where that is about to leave; and
+    // otherwise where the element is by the last decision.
+    void look(std::uint32_t index)
     {
         if (index >= n_) throw run_fault(fault_kind::mismatch, "an element is looked for that is not there");
-        return places_[index];
+        pe_->look(room_[index] ? me_ : places_[index]);
+        if (log_) tell_look(index);
+    }
+    void tell_look(std::uint32_t index)
+    {
+        if (room_[index]) {
+            log_->look_here(index);
+        } else {
+            log_->look(index, places_[index], round_);
+        }
     }
 
     // Gives up what may leave the outbox, in which are so many parcels, or nobody knows how many.
@@ -276,7 +302,7 @@ private:
         // The letters of the last handler alone: for whom they are is known.
         if (are_fresh_ && !has_hand_) {
             for (std::uint32_t receiver : out_.receivers) {
-                pe_->look(place_of(receiver));
+                look(receiver);
                 if (!pe_->send(to, next.message, next.len)) throw run_fault(fault_kind::mismatch, "a letter is not in the outbox", receiver);
                 carry(to, next);
             }
@@ -284,7 +310,7 @@ private:
         }
         while (in_outbox_ != 0) {
             const bool is_wanted = pe_->wanted(index);
-            if (is_wanted) pe_->look(place_of(index));
+            if (is_wanted) look(index);
             if (pe_->send(to, next.message, next.len)) {
                 carry(to, next);
                 if (in_outbox_ != unknown) in_outbox_--;
@@ -301,6 +327,7 @@ private:
     }
     void carry(std::uint32_t to, parcel next)
     {
+        if (log_) log_->flush(to, next);
         if (to >= pes_) throw run_fault(fault_kind::mismatch, "a parcel goes to no PE");
         if (next.is_element()) {
             const auto at = leaving_.find(next.element());
@@ -462,6 +489,7 @@ private:
             objects_.receive(index, place & 0x7f, longer ? longer->data() : body + 1, longer ? longer->size() : len - 1);
         });
         pe_->execute(index, out_.answer);
+        if (log_) log_->act();
         executed_++;
         handled(index, at);
     }
@@ -473,6 +501,8 @@ private:
         at.round = round_;
         handle(index, at, [&] { objects_.resume(index, round_); });
         pe_->resume(index, round_, out_.answer);
+        if (log_ && round_ == 0) log_->start(index);
+        if (log_ && round_ != 0) log_->resume(index, round_);
         handled(index, at);
         out_.result = &nothing_;
     }
@@ -490,7 +520,17 @@ private:
         round_ = next.round;
         result_ = next.result;
         std::sort(waiting_.begin(), waiting_.end());
-        for (std::uint32_t index : waiting_) due_.push_back(index);
+        // Those that leave go first, and letters of the others then follow them.
+        std::size_t staying = 0;
+        for (std::uint32_t index : waiting_) {
+            if (places_[index] == me_) {
+                waiting_[staying++] = index;
+            } else {
+                due_.push_back(index);
+            }
+        }
+        waiting_.resize(staying);
+        due_.insert(due_.end(), waiting_.begin(), waiting_.end());
         waiting_.clear();
     }
 
@@ -520,6 +560,7 @@ private:
         guarded(index, [&] { objects_.pack(index, p); });
         if (packed.size() > longest_beside) throw run_fault(fault_kind::toolong, "an element packs into more than 2^30 bytes", index);
         pe_->depart(index, places_[index]);
+        if (log_) log_->depart(index, places_[index], round_);
         add_to_outbox(1);
         leaving_.emplace(index, std::move(packed));
         room_[index].reset();
@@ -563,6 +604,7 @@ private:
             }
             notes_.push_back(owed);
             pe_->note_done();
+            if (log_) log_->report(owed);
         }
         if (notes_.empty()) return false;
         link_.report(notes_);
@@ -639,6 +681,7 @@ private:
     outgoing &out_;
     const std::uint32_t me_, pes_, n_;
     std::unique_ptr<pe_handle> pe_;
+    std::unique_ptr<event_log> log_; // where events are to be written down
     std::vector<std::unique_ptr<slot>> room_; // of each element that is here
     // Parcels: those of this PE to itself, the batch that is being used up, those that came too early, and those that leave.
     batch own_, own_next_;
