@@ -18,7 +18,7 @@ use Rattle.chares.specs.declared.trace_entry.TraceEntry.TheVariants.{Departed}
 use Rattle.chares.specs.Elements.{ElementView, PackedView, packed, unpacked}
 use Rattle.chares.specs.Letters.{LetterView}
 use Rattle.chares.specs.Steps.{Step}
-use Rattle.pe_state.specs.Pes.{PeView, Parcel, Item, Acting, at_pe, letter_at, element_at, front_at, front_parcel, front_address, wanted, hand_wants, looked, looked_in, received, gave_up, executed, shelving, forwarding, passing, installed, installing, on_letter, on_element, on_parcel, acting_on, acting, departed}
+use Rattle.pe_state.specs.Pes.{PeView, Parcel, Item, Acting, letter_at, element_at, front_parcel, front_address, wanted, hand_wants, looked, looked_in, received, gave_up, executed, shelving, forwarding, passing, installed, installing, on_letter, on_element, on_parcel, acting_on, acting, departed}
 use Rattle.pe_state.specs.Rooms.{found, joined, without}
 use Rattle.rts_core.specs.Events.{where_true, front_of, look_event, flush_event, delivered, deliver_event, due, depart_event, act_event}
 use Rattle.rts_core.proofs.EventSteps.{where_some, front_is}
@@ -26,6 +26,7 @@ use Rattle.rts_core.proofs.Rooms.{at_place}
 use Rattle.event_laws.specs.Agreement.{Owes, WaitsForPlace, AgreesWith, AgreesOn, IsOwed, AgreesAt}
 use Rattle.event_laws.proofs.Rooms.{joined_other, without_other, places_joined, places_without, Key, of_found}
 use Rattle.event_laws.proofs.AgreeingHandlers.{ItemAgrees, IsDue, due_waits, owes_none_decided, letter_agrees}
+use Rattle.event_laws.proofs.Addressing.{at_hand, at_front}
 
 pub if_some : {X : Type 0} (P : X → Type 0) (o : Option X) (x : X) → IfSome o P → o ≡ Some x → P x
 if_some P None x h e = cc
@@ -43,17 +44,9 @@ module _ {C : Type 0} (m : Measured) where
   -- Look
   looked_in_agrees : (pe : PeView C) (q : ℕ) (o : Option ℕ) → AgreesAt m pe → AgreesAt m (looked_in pe q o)
   looked_in_agrees pe q (Some e) h =
-      record { keyed = h.keyed; room = h.room; notes = h.notes; once = h.once; hand = at_hand pe.hand h.hand; outbox = h.outbox }
-    where
-      at_hand : (o : Option Item) → IfSome o (ItemAgrees m) → IfSome (option_map (at_pe q) o) (ItemAgrees m)
-      at_hand None k = tt
-      at_hand (Some x) k = k
+      record { keyed = h.keyed; room = h.room; notes = h.notes; once = h.once; hand = at_hand (AgreesOn m) q pe.hand h.hand; outbox = h.outbox }
   looked_in_agrees pe q None h =
-      record { keyed = h.keyed; room = h.room; notes = h.notes; once = h.once; hand = h.hand; outbox = at_front pe.outbox h.outbox }
-    where
-      at_front : (xs : List Item) → All (ItemAgrees m) xs → All (ItemAgrees m) (front_at q xs)
-      at_front [] k = k
-      at_front (x ∷ xs) k = All-cons (ItemAgrees m) (at_pe q x) xs (All-head (ItemAgrees m) x xs k) (All-tail (ItemAgrees m) x xs k)
+      record { keyed = h.keyed; room = h.room; notes = h.notes; once = h.once; hand = h.hand; outbox = at_front (AgreesOn m) q pe.outbox h.outbox }
 
   pub look_event_agrees : (pe : PeView C) (words : List ℕ) (a : PeView C) → AgreesAt m pe → look_event pe words ≡ Some a → AgreesAt m a
   look_event_agrees pe words a h s =

@@ -17,7 +17,7 @@ use Rattle.chares.specs.Elements.{ElementView, PackedView, packed, unpacked, ran
 use Rattle.chares.specs.Letters.{LetterView, Done}
 use Rattle.chares.specs.Posting.{letters_of, letter_to}
 use Rattle.chares.specs.Steps.{Step}
-use Rattle.pe_state.specs.Pes.{PeView, Parcel, Item, at_pe, letter_at, element_at, front_at, front_parcel, is_for, hand_wants, looked_in, handled, installed, departed}
+use Rattle.pe_state.specs.Pes.{PeView, Parcel, Item, letter_at, element_at, front_parcel, is_for, hand_wants, looked_in, handled, installed, departed}
 use Rattle.pe_state.specs.Rooms.{found, changed, ran_in}
 use Rattle.rts_core.specs.declared.event.Event.{Event}
 use Rattle.rts_core.specs.Events.{After, LocalView, local_view, with_local, Happens}
@@ -25,6 +25,7 @@ use Rattle.rts_core.specs.Worlds.{WorldView}
 use Rattle.rts_core.proofs.Turns.{EachTurn, each_map, happens_so}
 use Rattle.rts_core.proofs.Rooms.{at_place}
 use Rattle.event_laws.specs.Finished.{HoldsIn, HoldsOn, HoldsOfEach}
+use Rattle.event_laws.proofs.Addressing.{at_hand, at_front}
 use Rattle.event_laws.proofs.Rooms.{of_found}
 use Rattle.event_laws.proofs.Reporting.{all_two}
 
@@ -63,16 +64,8 @@ module _ {C : Type 0} (step : Step C) (pack : C → List ℕ) (P : ℕ → Progr
         }
 
     looked_in_holds : (q : ℕ) (o : Option ℕ) → HoldsOn P (looked_in pe q o)
-    looked_in_holds q (Some e) = record { room = h.room; hand = at_hand pe.hand h.hand; outbox = h.outbox }
-      where
-        at_hand : (o : Option Item) → IfSome o Boxed → IfSome (option_map (at_pe q) o) Boxed
-        at_hand None k = tt
-        at_hand (Some x) k = k
-    looked_in_holds q None = record { room = h.room; hand = h.hand; outbox = at_front pe.outbox h.outbox }
-      where
-        at_front : (xs : List Item) → All Boxed xs → All Boxed (front_at q xs)
-        at_front [] k = k
-        at_front (x ∷ xs) k = All-cons Boxed (at_pe q x) xs (All-head Boxed x xs k) (All-tail Boxed x xs k)
+    looked_in_holds q (Some e) = record { room = h.room; hand = at_hand (HoldsIn P) q pe.hand h.hand; outbox = h.outbox }
+    looked_in_holds q None = record { room = h.room; hand = h.hand; outbox = at_front (HoldsIn P) q pe.outbox h.outbox }
 
     departed_holds : (e q : ℕ) (el : ElementView C) → found e pe.room ≡ Some el → HoldsOn P (departed pack pe e q)
     departed_holds e q el at =

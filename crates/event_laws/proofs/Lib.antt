@@ -1,4 +1,5 @@
 pub mod ActHandlers
+pub mod Addressing
 pub mod AgreeingEvents
 pub mod AgreeingHandlers
 pub mod AgreeingOpenings

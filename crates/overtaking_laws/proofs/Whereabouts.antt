@@ -4,7 +4,7 @@ use Rattle.std.proofs.Common.{◌≡◌, ℕ, ◌+◌, ◌≤◌, List, [], ◌�
 use Rattle.std.specs.Prelude.{Result, All, IfSome, if◌then◌else◌}
 use Rattle.std.specs.List.{filter}
 use Rattle.std.specs.Option.{option_map, option_and_then, option_to_list}
-use Rattle.std.proofs.lemmas.List.Elements.{All-nil, All-cons, All-head, All-tail, All-append, All-push, All-drop}
+use Rattle.std.proofs.lemmas.List.Elements.{All-nil, All-cons, All-append, All-push, All-drop}
 use Rattle.std.proofs.lemmas.Option.{same_Some}
 use Rattle.at_sync.specs.Boards.{BoardState, place_in}
 use Rattle.chares.specs.declared.carried.Carried.TheVariants.{Letter, Element}
@@ -18,11 +18,12 @@ use Rattle.chares.specs.Posting.{letters_of, letter_to}
 use Rattle.chares.specs.Progressing.{ended}
 use Rattle.chares.specs.Steps.{Step}
 use Rattle.pup_pack.specs.declared.error.PupError.{PupError}
-use Rattle.pe_state.specs.Pes.{PeView, Parcel, Item, at_pe, letter_at, element_at, front_at, is_for, hand_wants, looked_in, gave_up, received, noted, handled, resumed, departed, installed, executed, waits_for, waits_at}
+use Rattle.pe_state.specs.Pes.{PeView, Parcel, Item, letter_at, element_at, is_for, hand_wants, looked_in, gave_up, received, noted, handled, resumed, departed, installed, executed, waits_for, waits_at}
 use Rattle.pe_state.specs.Rooms.{found, changed, ran_in}
 use Rattle.rts_core.specs.declared.event.Event.{Event}
 use Rattle.rts_core.specs.Events.{LocalView}
 use Rattle.rts_core.proofs.Rooms.{EachAt, each_found, each_changed, each_joined, each_without}
+use Rattle.event_laws.proofs.Addressing.{at_hand, at_front}
 use Rattle.overtaking_laws.proofs.OwnTurns.{IsAct, Frees, IsDue, IsInHand, EachOwnTurn}
 
 -- ---- the round of an element after a handler
@@ -110,16 +111,8 @@ module _ (R : ℕ → ℕ → ℕ → List Done → Type 0) (K : ℕ → ℕ →
         }
 
     looked_in_holds : (q : ℕ) (o : Option ℕ) → Holds p (looked_in pe q o)
-    looked_in_holds q (Some e) = record { room = h.room; hand = at_hand pe.hand h.hand; outbox = h.outbox }
-      where
-        at_hand : (o : Option Item) → IfSome o Boxed → IfSome (option_map (at_pe q) o) Boxed
-        at_hand None k = tt
-        at_hand (Some x) k = k
-    looked_in_holds q None = record { room = h.room; hand = h.hand; outbox = at_front pe.outbox h.outbox }
-      where
-        at_front : (xs : List Item) → All Boxed xs → All Boxed (front_at q xs)
-        at_front [] k = k
-        at_front (x ∷ xs) k = All-cons Boxed (at_pe q x) xs (All-head Boxed x xs k) (All-tail Boxed x xs k)
+    looked_in_holds q (Some e) = record { room = h.room; hand = at_hand Inside q pe.hand h.hand; outbox = h.outbox }
+    looked_in_holds q None = record { room = h.room; hand = h.hand; outbox = at_front Inside q pe.outbox h.outbox }
 
     departed_holds : (pack : C → List ℕ) (e q : ℕ) (el : ElementView C) → found e pe.room ≡ Some el → K e el.progress.round el.journal → Holds p (departed pack pe e q)
     departed_holds pack e q el at goes =
