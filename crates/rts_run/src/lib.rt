@@ -37,7 +37,6 @@ mod outcome;
 mod running;
 mod workers;
 
-pub use at_sync::Strategy;
 pub use chain_refinement::Tolerance;
 pub use chares::{BodyLimit, History};
 pub use config::Config;
@@ -46,3 +45,4 @@ pub use opened_run::{OpenedRun, open_post};
 pub use outcome::Outcome;
 pub use pe_worker::{Fault, NoWatch, PeStep, Watch};
 pub use running::{run, run_opened, run_watched};
+pub use sync_board::Strategy;

@@ -6,7 +6,6 @@ ghost use Rattle.std.specs.VecDeque.{deque_len};
 ghost use Rattle.pe_queues.specs.Seats.{new_seat, pes};
 
 use crate::config::Config;
-use at_sync::Board;
 use barrier::RunStrategy;
 use chares::{BodyLimit, Chare, Openings};
 use pe_queues::Seat;
@@ -15,6 +14,7 @@ use pe_worker::{Agenda, RunBeginning, SeatedPe, Worker};
 use run_account::take_next;
 use std::alloc::{AllocError, Allocator};
 use std::collections::VecDeque;
+use sync_board::Board;
 
 /// A worker for each PE, in order, with its seat and its agenda. The only error is that memory was refused.
 pub(crate) fn open_workers<
