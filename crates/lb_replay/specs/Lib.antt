@@ -1,3 +1,4 @@
+pub mod CommandLine
 pub mod Internal
 pub mod Requests
 pub mod Simulation
