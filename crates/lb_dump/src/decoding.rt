@@ -1,11 +1,10 @@
 ghost use Rattle.std.specs.Prelude.{◌≡◌, ◌⊎◌, List, [], ℕ, length, IfErr, IfSome, IsErrOf, MatchResult, OnOk, Ok, Err};
 ghost use Rattle.std.specs.Io.KnownBytes.{Consumes, IsAtEnd};
-ghost use Rattle.lb_dump.specs.Reading.{IsAnswer};
+ghost use Rattle.lb_dump.specs.Reading.{IsAnswer, ReaderHasFailed};
 ghost use Rattle.dump_format.specs.Dumps.{Dumped};
 ghost use Rattle.dump_format.specs.Faults.{IsFault, IsGood};
 ghost use Rattle.dump_format.specs.Text.{IsText};
 ghost use Rattle.dump_format.specs.declared.error.DumpError.{DumpError};
-ghost use Rattle.streams.specs.Logs.{HasFailed};
 
 use crate::reader::DumpReader;
 use dump_format::{Dump, DumpError};
@@ -67,7 +66,7 @@ pub fn read_from_logged<R: Read, A: Allocator + Copy>(
     ensures known { IfSome (R.remaining reader.old) (λ bytes. (result ≡ Err DumpError.Read) ⊎ IsAnswer bytes result) }
     ensures at_end { OnOk result (IsAtEnd (R.remaining reader.new)) }
     ensures so_far { IsErrOf result DumpError.Read → (text : List ℕ) × Consumes (R.remaining reader.old) (R.remaining reader.new) text × IsGood text }
-    ensures failed { IsErrOf result DumpError.Read → HasFailed CALLS log.new }
+    ensures failed { IsErrOf result DumpError.Read → ReaderHasFailed log.new }
 {
     let mut dump = DumpReader::new(alloc);
     feed_all(alloc, &mut dump, reader, log)?;
@@ -86,7 +85,7 @@ fn feed_all<R: Read, A: Allocator + Copy>(
         × Consumes (R.remaining reader.old) (R.remaining reader.new) text × IsAtEnd (R.remaining reader.new)) }
     ensures fault { IfErr result (λ e. IfSome (R.remaining reader.old) (λ bytes. (e ≡ DumpError.Read) ⊎ ((e ≡ DumpError.OutOfMemory) ⊎ IsFault bytes e))) }
     ensures so_far { IfErr result (λ e. e ≡ DumpError.Read → (text : List ℕ) × Consumes (R.remaining reader.old) (R.remaining reader.new) text × IsGood text) }
-    ensures failed { IfErr result (λ e. e ≡ DumpError.Read → HasFailed CALLS log.new) }
+    ensures failed { IfErr result (λ e. e ≡ DumpError.Read → ReaderHasFailed log.new) }
 {
     let mut piece = Vec::new(alloc);
     piece.resize(PIECE_LEN, 0)?;
@@ -106,7 +105,7 @@ fn feed_from<R: Read, A: Allocator + Copy>(
         × Consumes (R.remaining reader.old) (R.remaining reader.new) text × IsAtEnd (R.remaining reader.new)) }
     ensures fault { IfErr result (λ e. IfSome (R.remaining reader.old) (λ bytes. (e ≡ DumpError.Read) ⊎ ((e ≡ DumpError.OutOfMemory) ⊎ IsFault bytes e))) }
     ensures so_far { IfErr result (λ e. e ≡ DumpError.Read → (text : List ℕ) × Consumes (R.remaining reader.old) (R.remaining reader.new) text × IsGood text) }
-    ensures failed { IfErr result (λ e. e ≡ DumpError.Read → HasFailed CALLS log.new) }
+    ensures failed { IfErr result (λ e. e ≡ DumpError.Read → ReaderHasFailed log.new) }
 {
     for _call in 0..CALLS {
         let Ok(len) = log.read(reader, piece) else {

@@ -1,3 +1,4 @@
+pub mod Ended
 pub mod Internal
 pub mod Requests
 pub mod Simulation
