@@ -4,6 +4,8 @@
 //!
 //! - [`simulate`]: the replay in some [`Way`], from the bytes of a reader to the bytes of a writer; [`replay_file`]: that of a file.
 //! - [`verify`]: the check of the decision that was recorded in a dump; [`verify_file`]: that of a file.
+//! - [`simulate_logged`] and [`verify_logged`]: with the calls of the reader and of the writer in logs, which have a failure where
+//!   the end is that one of these failed.
 //! - [`SimEnd`]: how a replay or a check ended, and the status for it; [`dump_advice`]: what to do about a fault of a dump.
 //! - [`asked`]: what the words of a command line ask for, as [`SimOptions`]. clap reads them, and writes the texts for what it refuses,
 //!   for help and for the version.
@@ -49,7 +51,7 @@ mod words;
 pub use ended::SimEnd;
 pub use fault::dump_advice;
 pub use request::{Clash, SimOptions, Task, run};
-pub use simulation::{replay_file, simulate};
-pub use verifying::{verify, verify_file};
+pub use simulation::{replay_file, simulate, simulate_logged};
+pub use verifying::{verify, verify_file, verify_logged};
 pub use way::Way;
 pub use words::{asked, refuse_both};
