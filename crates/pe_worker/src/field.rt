@@ -1,4 +1,4 @@
-//! What the workers of a run share.
+//! The shared state of the workers of a run.
 
 ghost use Rattle.std.specs.Prelude.{◌≡◌, ◌≤◌, IfOk, length};
 ghost use Rattle.at_sync.specs.Boards.{IsBoard};
@@ -72,8 +72,8 @@ impl<C: Chare<A>, H: Openings<C> + RunStrategy, J: RunBeginning<C>, A: Allocator
     A,
 > {
     /// The queues, words and board of a run as it opens, or as it is opened again, which takes some bytes for each PE: the only
-    /// error is that memory was refused. Its workers give up after so many idle turns, its elements keep or drop what they have
-    /// handled, and a round is decided by at most so many probe workers, 1 to 64, and by one where its PEs are few.
+    /// error is that memory was refused. Its workers give up after this many idle turns, its elements keep or drop what they have
+    /// handled, and a round is decided by at most this many probe workers, 1 to 64, and by one where its PEs are few.
     pub fn new(
         alloc: A,
         post: Post<Parcel<C, H, A>, A>,
@@ -157,7 +157,7 @@ impl<C: Chare<A>, H: Openings<C> + RunStrategy, J: RunBeginning<C>, A: Allocator
         Round::new(round)
     }
 
-    /// Tells that so many more letters were executed.
+    /// Tells that this many more letters were executed.
     pub(crate) fn tell_executed(&self, letters: u64) {
         self.executed.fetch_add(letters, SeqCst);
     }

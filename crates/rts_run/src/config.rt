@@ -1,3 +1,5 @@
+//! The settings of a run.
+
 ghost use Rattle.std.specs.Prelude.{◌≡◌, ◌≤◌, IsTrue, ◌↔◌, MatchOption};
 ghost use Rattle.at_sync.specs.declared.strategy.Strategy.TheVariants.{Least};
 ghost use Rattle.chare_index.specs.declared.limits.TheConstants.Limits.{BODY_BYTES};
