@@ -1,4 +1,4 @@
--- Which event a seed draws, as docs/SCHEDULES.md says: "How an event is drawn".
+-- Which event a seed draws, as docs/RUNS.md says: "How an event is drawn".
 use Rattle.std.specs.Prelude.{◌≡◌, ℕ, zero, suc, ◌-◌, ◌*◌, ◌/◌, ◌==◌, List, [], ◌∷◌, length, map, sum_by, Option, None, Some, Bool, true, false, ◌&&◌, if◌then◌else◌, nat_lt, is_none, is_some, slice_get, slice_set, IfSome, Result}
 use Rattle.std.specs.List.{filter_map, list_all, range_with_len}
 use Rattle.std.specs.Option.{option_and_then, option_map_or}
