@@ -1,6 +1,6 @@
 use Rattle.std.proofs.lemmas.Result.{err_from_is_err_and}
-use Rattle.run_checkpoint.proofs.WholeText.{stopped_reading, stopped_known, stopped_end, whole_reading, whole_known, whole_end}
-use Rattle.run_checkpoint.proofs.checkpoint.Checkpoint.read_from.Goals as goal
+use Rattle.run_checkpoint.proofs.WholeText.{never_failed, passed_on, stopped_reading, stopped_known, stopped_end, whole_reading, whole_known, whole_end}
+use Rattle.run_checkpoint.proofs.checkpoint.Checkpoint.read_from_logged.Goals as goal
 
 pub returns-in_err-bytes-clause-read : goal.returns-in_err-bytes-clause-read
 returns-in_err-bytes-clause-read g c =
@@ -31,3 +31,10 @@ returns-clause-known g c =
 
 pub returns-clause-at_end : goal.returns-clause-at_end
 returns-clause-at_end g c = whole_end (g.R.Read.remaining c.read_whole.new.reader) c.parse.result c.in_ok-bytes.ensures.ended.1
+
+pub returns-in_err-bytes-clause-failed : goal.returns-in_err-bytes-clause-failed
+returns-in_err-bytes-clause-failed g c = passed_on _ c.in_err-bytes.field-0.0 _ c.from_residual.ensures.1 c.in_err-bytes.ensures.failed
+
+pub returns-clause-failed : goal.returns-clause-failed
+returns-clause-failed g c =
+    never_failed c.in_ok-bytes.bytes.items c.parse.result _ (rw c.deref.ensures.value at c.parse.ensures.answer)
