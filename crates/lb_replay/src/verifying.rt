@@ -1,3 +1,5 @@
+//! Checks the decision that a dump records.
+
 ghost use Rattle.std.specs.Prelude.{◌≡◌, ◌⊎◌, List, ℕ, Option, IfOk, IfErr, IfSome, MatchResult, Some};
 ghost use Rattle.lb_dump.specs.Reading.{ReaderHasFailed};
 ghost use Rattle.lb_replay.specs.Ended.{HasUnread, HasUnwritten};
