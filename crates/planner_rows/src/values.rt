@@ -1,7 +1,7 @@
 //! What lists give back, loads of ranges, and what other cuts and names of the worked examples cost.
 
-use super::fixtures::{index, loads, moves, pe, prefix, sizes, table};
-use crate::fixtures::{is_list, list};
+use crate::fixtures::{index, loads, moves, pe, prefix, sizes, table};
+use crate::lists::{is_list, list};
 use chain_partition::Chain;
 use lb_certificates::PriceList;
 use std::process::Abort;

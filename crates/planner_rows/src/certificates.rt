@@ -1,7 +1,7 @@
 //! The worked certificates of divisions, and the example as a snapshot.
 
-use super::fixtures::{EXAMPLE, Element, division, example, loads, sizes};
-use crate::fixtures::{assert_for, same};
+use crate::fixtures::{EXAMPLE, Element, division, example, loads, sizes};
+use crate::lists::{assert_for, same};
 use lb_certificates::{Flaw, check_division};
 use lb_snapshot::{Snapshot, Units};
 use std::process::Abort;

@@ -1,5 +1,5 @@
 ghost use Rattle.std.specs.Prelude.{◌≡◌, ◌↔◌, IfOk, IsTrue};
-ghost use Rattle.tests_fixtures.specs.Worked.{three_elements, three_sizes};
+ghost use Rattle.row_fixtures.specs.Worked.{three_elements, three_sizes};
 
 use crate::numbers::pe;
 use chare_index::Pe;

@@ -2,8 +2,8 @@
 
 ghost use Rattle.std.specs.Prelude.{◌≤◌};
 
-use super::fixtures::{ends_of, prefix};
-use crate::fixtures::{assert_for, list, push};
+use crate::fixtures::{ends_of, prefix};
+use crate::lists::{assert_for, list, push};
 use chain_partition::probe_on;
 use lb_snapshot::Units;
 use std::process::Abort;

@@ -3,18 +3,18 @@
 
 ghost use Rattle.std.specs.Prelude.{◌≤◌};
 
-use super::fixtures::{
+use crate::fixtures::{
     EXAMPLE_PLAN, FULL_ARRAYS, example, full_loads, is_division, is_plan, is_whole_array, loads,
 };
-use crate::fixtures::{assert_for, same};
+use crate::lists::{assert_for, same};
 use chain_partition::divide_with;
 use chare_index::{Gate, NoGate};
 use lb_certificates::Division;
 use lb_snapshot::{Loads, Units};
 use lb_strategy::plan_with;
+use row_fixtures::{CountingGate, MeetingGate};
 use std::process::Abort;
 use std::thread::Threads;
-use tests_fixtures::{CountingGate, MeetingGate};
 
 fn divided<R: Threads + Sync + Abort + AllocGlobal>(
     rt: &R,
@@ -78,9 +78,9 @@ fn each_worker_passes_with_its_own_number(rt: HostRuntime) {
     }
 }
 
-// Whether two workers at this gate divide a full array in halves.
+// Whether two workers at this gate divide a full array of the greatest loads of 32 bits in halves.
 fn divides_in_halves<R: Threads + Sync + Abort + AllocGlobal>(rt: &R, gate: &MeetingGate) -> bool {
-    let full = full_loads(rt, 140_737_488_355_327);
+    let full = full_loads(rt, 4_294_967_295);
     let division = divide_with(rt, rt.alloc(), &full, 2, 2, gate).expect(rt, "out of memory");
     same(division.cuts.as_slice(), &[0, 32_768, 65_536])
 }

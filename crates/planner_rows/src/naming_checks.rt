@@ -1,7 +1,7 @@
 //! The worked namings, and cuts that no naming is checked for.
 
-use super::fixtures::{naming, prices, sizes};
-use crate::fixtures::{assert_for, list, push};
+use crate::fixtures::{naming, prices, sizes};
+use crate::lists::{assert_for, list, push};
 use lb_certificates::{Cuts, Flaw, check_naming};
 use std::process::Abort;
 

@@ -1,5 +1,5 @@
 ghost use Rattle.std.specs.Prelude.{◌≡◌, ◌++◌, OnErr, OnOk};
-ghost use Rattle.tests_fixtures.specs.Rows.{row};
+ghost use Rattle.row_fixtures.specs.Rows.{row};
 
 use std::alloc::AllocError;
 

@@ -1,10 +1,10 @@
 //! The worked decisions, and the example's with one part forged for each flaw.
 
-use super::fixtures::{
+use crate::fixtures::{
     EXAMPLE, EXAMPLE_PLAN, Element, Plan, Step, division, example, full_loads, index, is_plan,
     moves, naming, pe, prices, snapshot,
 };
-use crate::fixtures::{assert_for, push};
+use crate::lists::{assert_for, push};
 use block_assignment::NameError;
 use chare_index::Index;
 use lb_certificates::{Division, Flaw};

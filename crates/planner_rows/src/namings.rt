@@ -3,8 +3,8 @@
 ghost use Rattle.std.specs.Prelude.{◌≡◌};
 ghost use Rattle.lb_certificates.specs.Naming.{IsNaming};
 
-use super::fixtures::table;
-use crate::fixtures::{assert_for, is_list, list, push, same};
+use crate::fixtures::table;
+use crate::lists::{assert_for, is_list, list, push, same};
 use block_assignment::{CostTable, name_blocks};
 use lb_certificates::{Naming, Prices};
 use std::process::Abort;

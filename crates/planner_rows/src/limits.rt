@@ -1,6 +1,6 @@
 //! Each limit by its number.
 
-use crate::fixtures::assert_for;
+use crate::lists::assert_for;
 use chare_index::Limits;
 
 #[test]

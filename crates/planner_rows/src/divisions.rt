@@ -1,14 +1,13 @@
-//! The worked examples, and every small chain against the slow reference.
+//! The worked divisions and probes, and full arrays.
 
 ghost use Rattle.std.specs.Prelude.{◌≤◌};
 
-use super::fixtures::{
+use crate::fixtures::{
     FULL_ARRAYS, ends_of, full_loads, is_division, is_whole_array, loads, prefix,
 };
-use super::reference;
-use crate::fixtures::{assert_for, is_list, push};
+use crate::lists::{assert_for, is_list};
 use chain_partition::{Probe, divide, probe, probe_on};
-use lb_certificates::{Division, check_division};
+use lb_certificates::Division;
 use lb_snapshot::{Loads, Units};
 use std::process::Abort;
 
@@ -98,51 +97,5 @@ fn a_full_array_of_full_loads(rt: HostRuntime) {
     for &(load, all) in &FULL_ARRAYS {
         let division = divided(&rt, &full_loads(&rt, load), 1);
         assert_for(&rt, is_whole_array(&division, all), load);
-    }
-}
-
-// The chain of this number of loads, each of them 0, 1 or 7, whose number is this one.
-fn chain(rt: &(impl Abort + AllocGlobal), length: u32, number: usize) -> Vec<Units> {
-    let choices: [Units; 3] = [0, 1, 7];
-    let mut units = Vec::new(rt.alloc());
-    let mut rest = number;
-    for _ in 0..length {
-        push(rt, &mut units, choices[rest % 3]);
-        rest /= 3;
-    }
-    units
-}
-
-// Whether the division is the least by the reference, and certified.
-fn is_least(rt: &(impl Abort + AllocGlobal), loads: &Loads, pes: u32) -> bool
-    requires some_pe { 1 ≤ pes }
-    requires few_pes { pes ≤ 256 }
-{
-    let division = divided(rt, loads, pes);
-    let bottleneck = division.bottleneck;
-    let certified = check_division(loads, pes, &division).is_ok();
-    certified && reference::least_peak(loads, pes) == Some(bottleneck)
-}
-
-// The chain of this length and number has least divisions for up to four PEs.
-fn expect_least(rt: &(impl Abort + AllocGlobal), length: u32, number: usize) {
-    let units = chain(rt, length, number);
-    let loads = loads(rt, &units);
-    for pes in 1..=4 {
-        assert_for(rt, is_least(rt, &loads, pes), (units.as_slice(), pes));
-    }
-}
-
-// All chains of this length have least divisions for up to four PEs.
-fn expect_all_least(rt: &(impl Abort + AllocGlobal), length: u32) {
-    for number in 0..3usize.saturating_pow(length) {
-        expect_least(rt, length, number);
-    }
-}
-
-#[test]
-fn small_chains_are_divided_as_the_reference_says(rt: HostRuntime) {
-    for length in 0..=5u32 {
-        expect_all_least(&rt, length);
     }
 }
