@@ -2,13 +2,13 @@
 
 ghost use Rattle.lb_replay.specs.Requests.{MayRun};
 
-use super::fixtures::{DECIDED, REPLAY, RIGHT, TEXT, ended, ends, has, is_end};
-use crate::fixtures::assert_for;
+use crate::fixtures::{REPLAY, RIGHT, TEXT, ended, ends, has, is_end};
+use crate::rows::assert_for;
 use dump_format::DumpError;
 use lb_replay::{SimEnd, Task};
+use row_fixtures::{EXAMPLE_DUMP, RECORDED_DUMP, Sink, Source};
 use std::io::{self, ErrorKind, Write};
 use std::process::Abort;
-use tests_fixtures::{EXAMPLE_DUMP, Sink, Source};
 
 // Whether it is a check or a replay, of this dump, the text that it writes, the bytes that each call of its writer takes, and so
 // the number of calls.
@@ -43,7 +43,7 @@ fn expect_end_at_failure(rt: &(impl Abort + AllocGlobal), row: &Work) {
 #[test]
 fn a_reader_that_fails_after_each_byte(rt: HostRuntime) {
     expect_end_at_failure(&rt, &(false, &EXAMPLE_DUMP, TEXT, 8, 14));
-    expect_end_at_failure(&rt, &(true, &DECIDED, RIGHT, 1, 10));
+    expect_end_at_failure(&rt, &(true, &RECORDED_DUMP, RIGHT, 1, 10));
 }
 
 // Whether this ends where its writer fails in this way at this call. The writer has to have the text that was taken before.
@@ -81,7 +81,7 @@ fn a_writer_that_fails_at_each_call(rt: HostRuntime) {
     const ROWS: [(Work, SimEnd); 5] = [
         ((false, &EXAMPLE_DUMP, TEXT, 8, 14), SimEnd::Printed),
         ((false, &EXAMPLE_DUMP, TEXT, 1, 110), SimEnd::Printed),
-        ((true, &DECIDED, RIGHT, 1, 10), SimEnd::Printed),
+        ((true, &RECORDED_DUMP, RIGHT, 1, 10), SimEnd::Printed),
         (
             (false, b"LBD3", "dump: not LBD1 or LBD2\n", 1, 23),
             SimEnd::Dump(DumpError::Magic),

@@ -3,13 +3,13 @@
 
 ghost use Rattle.std.specs.Prelude.{◌≤◌};
 
-use super::fixtures::same;
-use crate::fixtures::assert_for;
+use crate::fixtures::same;
+use crate::rows::assert_for;
 use chare_index::{Pe, Round};
 use lb_database::{DbError, LoadDb};
 use lb_snapshot::{Snapshot, Units};
+use row_fixtures::{pe, round};
 use std::process::Abort;
-use tests_fixtures::{pe, round};
 
 // Whether an element has this number of units and this report.
 fn has(db: &LoadDb, i: u32, units: Units, report: Option<(u32, Pe)>) -> bool {
@@ -87,10 +87,12 @@ fn waits(db: &mut LoadDb) -> bool {
     let refused = charge(db, 4, 1) == Err(DbError::Stranger)
         && db.next_round() == Err(DbError::Incomplete)
         && !db.stands_on(0);
-    if !refused || !db.stands_on(1) {
-        return false;
-    }
-    db.snapshot(1, 1).err() == Some(DbError::Incomplete)
+    refused && lacks_a_report(db)
+}
+
+// Whether a database gives no snapshot, since a report is missing.
+fn lacks_a_report(db: &LoadDb) -> bool {
+    db.stands_on(1) && db.snapshot(1, 1).err() == Some(DbError::Incomplete)
 }
 
 // The snapshot of a database whose elements are on this number of PEs.
@@ -120,9 +122,11 @@ fn four_elements_of_which_one_reported(rt: HostRuntime) {
     let report_of_two = has(&db, 2, 4_294_967_296, Some((5, pe(0))));
     assert_for(&rt, report_of_two, "element 2");
     assert_for(&rt, waits(&mut db), "it goes on");
-    for i in [0, 1, 3] {
+    for i in [0, 1] {
         assert_for(&rt, report(&rt, &mut db, i, 1, 1).is_ok(), "the others");
     }
+    assert_for(&rt, lacks_a_report(&db), "one is missing");
+    assert_for(&rt, report(&rt, &mut db, 3, 1, 1).is_ok(), "the last");
     assert_for(&rt, gives_the_four(&rt, &db), "another snapshot");
     drop(db);
 }

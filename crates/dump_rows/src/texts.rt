@@ -1,14 +1,14 @@
 //! Worked texts in both formats: read whole and in pieces, cut and changed; and the faults by their numbers and texts.
 
-use super::feeding::{expect_in_any_pieces, expect_short_starts, is_read_so};
-use super::fixtures::{changed, comes_to, list, push, spells};
-use super::parts::{DECIDED, Decided, EXAMPLE, dump};
-use crate::fixtures::assert_for;
+use crate::feeding::{expect_in_any_pieces, expect_short_starts, is_read_so};
+use crate::fixtures::{changed, comes_to, list, push, spells};
+use crate::parts::{DECIDED, Decided, EXAMPLE, dump};
+use crate::rows::assert_for;
 use dump_format::{Dump, DumpError, format_laws};
 use lb_dump::decode;
+use row_fixtures::{EXAMPLE_DUMP, RECORDED_DUMP};
 use std::alloc::Global;
 use std::process::Abort;
-use tests_fixtures::{EXAMPLE_DUMP, RECORDED_DUMP};
 
 // The example in the format LBD2 without a decision.
 const PLAIN: [u8; 68] = *b"LBD2\

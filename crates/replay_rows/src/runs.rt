@@ -2,14 +2,14 @@
 
 ghost use Rattle.lb_replay.specs.Requests.{MayRun};
 
-use super::fixtures::{DECIDED, ON_ONE, REPLAY, RIGHT, TEXT, same};
-use crate::fixtures::assert_for;
+use crate::fixtures::{ON_ONE, REPLAY, RIGHT, TEXT, same};
+use crate::rows::assert_for;
 use dump_format::DumpError;
 use lb_certificates::Flaw;
 use lb_replay::{SimEnd, Task, run};
 use lb_strategy::PlanError;
+use row_fixtures::{EXAMPLE_DUMP, RECORDED_DUMP, Source};
 use std::io::{self, ErrorKind, Read};
-use tests_fixtures::{EXAMPLE_DUMP, Source};
 
 // Whether a run on a file writes this text, and has this end and a reason of this kind, or none.
 fn runs<R: Read + Drop>(
@@ -45,7 +45,7 @@ fn runs_that_print(rt: HostRuntime) {
     assert_for(&rt, prints(&rt, REPLAY, &EXAMPLE_DUMP, TEXT), TEXT);
     let one = prints(&rt, Task::Replay(Some(1)), &EXAMPLE_DUMP, ON_ONE);
     assert_for(&rt, one, ON_ONE);
-    assert_for(&rt, prints(&rt, Task::Check, &DECIDED, RIGHT), RIGHT);
+    assert_for(&rt, prints(&rt, Task::Check, &RECORDED_DUMP, RIGHT), RIGHT);
 }
 
 // Whether a run returns the reason where its file is not opened.
@@ -71,7 +71,11 @@ fn a_run_hands_the_reason_on(rt: HostRuntime) {
     assert_for(&rt, tells_missing(&rt, REPLAY), "no file to replay");
     assert_for(&rt, tells_missing(&rt, Task::Check), "no file to check");
     assert_for(&rt, tells_failed(&rt, REPLAY, &EXAMPLE_DUMP), "a replay");
-    assert_for(&rt, tells_failed(&rt, Task::Check, &DECIDED), "a check");
+    assert_for(
+        &rt,
+        tells_failed(&rt, Task::Check, &RECORDED_DUMP),
+        "a check",
+    );
 }
 
 #[test]

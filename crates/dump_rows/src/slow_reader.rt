@@ -1,12 +1,12 @@
 //! A slow reader of both formats, which takes the fields one after another, and every text that differs from an example in
 //! one byte: its first fault, or the same text again.
 
-use super::fixtures::{changed, comes_to};
-use crate::fixtures::assert_for;
+use crate::fixtures::{changed, comes_to};
+use crate::rows::assert_for;
 use dump_format::DumpError;
 use lb_dump::decode;
+use row_fixtures::{EXAMPLE_DUMP, RECORDED_DUMP};
 use std::process::Abort;
-use tests_fixtures::{EXAMPLE_DUMP, RECORDED_DUMP};
 
 // A text that is read, and where its next field begins.
 #[derive(Drop)]

@@ -1,6 +1,6 @@
 //! The parts of a snapshot and of a decision as plain numbers, and what is made of them.
 
-use super::fixtures::{list, push};
+use crate::fixtures::{list, push};
 use chare_index::{Index, Pe};
 use dump_format::{Dump, Recorded};
 use lb_certificates::{Cuts, Division, Floor, Naming, PriceList, Prices, Stops};

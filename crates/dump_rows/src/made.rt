@@ -1,8 +1,8 @@
 //! Which decisions a dump is made of: each list has the length that follows from the target, and there are no more moves than
 //! elements, each of an element that exists.
 
-use super::parts::{DECIDED, Decided, EXAMPLE, Move, recorded, snapshot};
-use crate::fixtures::assert_for;
+use crate::parts::{DECIDED, Decided, EXAMPLE, Move, recorded, snapshot};
+use crate::rows::assert_for;
 use dump_format::Dump;
 use std::process::Abort;
 

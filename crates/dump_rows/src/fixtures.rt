@@ -4,8 +4,8 @@
 use dump_format::{Dump, DumpError};
 use dump_writing::{encode, encode_dump, write_dump, write_to};
 use lb_snapshot::Snapshot;
+use row_fixtures::Sink;
 use std::process::Abort;
-use tests_fixtures::Sink;
 
 /// Whether these lists are the same.
 pub(crate) fn same<T: PartialEq>(some: &[T], others: &[T]) -> bool {

@@ -1,17 +1,17 @@
 //! The most elements in both formats, encoded, written and read, and loads that are too great for the format LBD1. The texts
 //! have more than one block of the writer and more than one piece of the reader.
 
-use super::feeding::is_read_so;
-use super::fixtures::{comes_to, list, push, same, spells, write};
-use super::parts::{Elements, snapshot};
-use crate::fixtures::assert_for;
+use crate::feeding::is_read_so;
+use crate::fixtures::{comes_to, list, push, same, spells, write};
+use crate::parts::{Elements, snapshot};
+use crate::rows::assert_for;
 use dump_format::{Dump, DumpError, Recorded};
 use dump_writing::{encode, encode_dump, write_to};
 use lb_dump::{decode, read_from};
 use lb_snapshot::{Snapshot, Units};
 use lb_strategy::{check, plan};
+use row_fixtures::{Sink, Source, push_element};
 use std::process::Abort;
-use tests_fixtures::{Sink, Source, push_element};
 
 // Whether a writer that takes this number of bytes per call has this text of a dump.
 fn writes(rt: &impl AllocGlobal, at_once: usize, dump: &Dump, text: &[u8]) -> bool {

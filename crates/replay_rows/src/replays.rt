@@ -1,21 +1,25 @@
 //! Whole replays and checks: worked dumps, decisions that are right, forged, or none, and dumps with a fault.
 
-use super::fixtures::{DECIDED, ON_ONE, RIGHT, TEXT, checks, ends, replays};
-use crate::fixtures::assert_for;
+use crate::fixtures::{ON_ONE, RIGHT, TEXT, checks, ends, replays};
+use crate::rows::assert_for;
 use dump_format::DumpError;
 use lb_certificates::Flaw;
 use lb_replay::{SimEnd, Task};
+use row_fixtures::{EXAMPLE_DUMP, RECORDED_DUMP};
 use std::alloc::{AllocError, Allocator};
 use std::process::Abort;
-use tests_fixtures::EXAMPLE_DUMP;
 
 #[test]
 fn the_example_and_its_decision(rt: HostRuntime) {
     let printed = replays(&rt, &EXAMPLE_DUMP, TEXT, SimEnd::Printed);
     assert_for(&rt, printed, TEXT);
-    let printed = replays(&rt, &DECIDED, TEXT, SimEnd::Printed);
+    let printed = replays(&rt, &RECORDED_DUMP, TEXT, SimEnd::Printed);
     assert_for(&rt, printed, "a dump with a decision");
-    assert_for(&rt, checks(&rt, &DECIDED, RIGHT, SimEnd::Printed), RIGHT);
+    assert_for(
+        &rt,
+        checks(&rt, &RECORDED_DUMP, RIGHT, SimEnd::Printed),
+        RIGHT,
+    );
     let none = "check: no decision\n";
     let checked = checks(&rt, &EXAMPLE_DUMP, none, SimEnd::NoDecision);
     assert_for(&rt, checked, none);
@@ -32,6 +36,42 @@ fn no_elements_and_one_block(rt: HostRuntime) {
     let task = Task::Replay(Some(1));
     let printed = ends(&rt, task, &mut example, ON_ONE, SimEnd::Printed);
     assert_for(&rt, printed, ON_ONE);
+}
+
+// Two elements of 8 bytes on PE 0, at step 0 on two PEs.
+const TWO: [u8; 40] = *b"LBD1\0\0\0\0\0\0\0\x02\0\0\0\x02\
+    \0\0\0\x01\0\0\0\x08\0\0\0\0\
+    \0\0\0\x01\0\0\0\x08\0\0\0\0";
+
+// Of the two cheapest namings the first is printed.
+const FIRST_OF_TWO: &str = "step 0 procs 2 elements 2\n\
+    bottleneck 1\n\
+    fence 0 0 0\n\
+    block 0 0..1 load 1 pe 0\n\
+    block 1 1..2 load 1 pe 1\n\
+    moved 8\n";
+
+// Four elements of 40 bytes on two PEs, at step 1.
+const FOUR: [u8; 64] = *b"LBD1\0\0\0\x01\0\0\0\x02\0\0\0\x04\
+    \0\0\0\x06\0\0\0\x28\0\0\0\0\
+    \0\0\0\x01\0\0\0\x28\0\0\0\0\
+    \0\0\0\x01\0\0\0\x28\0\0\0\x01\
+    \0\0\0\x02\0\0\0\x28\0\0\0\x01";
+
+// One of them moves.
+const ONE_OF_FOUR: &str = "step 1 procs 2 elements 4\n\
+    bottleneck 6\n\
+    fence 0 0 0\n\
+    block 0 0..1 load 6 pe 0\n\
+    block 1 1..4 load 4 pe 1\n\
+    moved 40\n";
+
+#[test]
+fn the_first_of_two_namings_and_one_of_four_elements(rt: HostRuntime) {
+    let printed = replays(&rt, &TWO, FIRST_OF_TWO, SimEnd::Printed);
+    assert_for(&rt, printed, FIRST_OF_TWO);
+    let printed = replays(&rt, &FOUR, ONE_OF_FOUR, SimEnd::Printed);
+    assert_for(&rt, printed, ONE_OF_FOUR);
 }
 
 // Bytes that replace those of a dump between two places.
@@ -69,7 +109,7 @@ fn is_checked(
 type Forged = (Change, &'static str, Flaw);
 
 fn is_forged(rt: &(impl Abort + AllocGlobal), row: &Forged) -> bool {
-    let changed = change(rt.alloc(), &DECIDED, &row.0);
+    let changed = change(rt.alloc(), &RECORDED_DUMP, &row.0);
     is_checked(rt, changed, row.1, SimEnd::Flawed(row.2))
 }
 
@@ -170,37 +210,37 @@ fn a_fault_of_the_dump(rt: HostRuntime) {
             DumpError::Place(2),
         ),
         (
-            &DECIDED,
+            &RECORDED_DUMP,
             (18, 19, b"\x80"),
             "dump: element 0 has too great a load\n",
             DumpError::Load(0),
         ),
         (
-            &DECIDED,
+            &RECORDED_DUMP,
             (67, 68, b"\x02"),
             "dump: flag is not 0 or 1\n",
             DumpError::Flag,
         ),
         (
-            &DECIDED,
+            &RECORDED_DUMP,
             (71, 72, b"\0"),
             "dump: target out of 1..256\n",
             DumpError::Target,
         ),
         (
-            &DECIDED,
+            &RECORDED_DUMP,
             (95, 96, b"\x02"),
             "dump: floor is not 0 or 1\n",
             DumpError::Floor,
         ),
         (
-            &DECIDED,
+            &RECORDED_DUMP,
             (159, 160, b"\x04"),
             "dump: more moves than elements\n",
             DumpError::MoveCount,
         ),
         (
-            &DECIDED,
+            &RECORDED_DUMP,
             (163, 164, b"\x03"),
             "dump: move 0 is out of range\n",
             DumpError::Move(0),

@@ -1,14 +1,14 @@
 //! Readers and writers that fail, of the example in both formats.
 
-use super::fixtures::{changed, comes_to, same, write};
-use super::parts::{DECIDED, EXAMPLE, dump};
-use crate::fixtures::assert_for;
+use crate::fixtures::{changed, comes_to, same, write};
+use crate::parts::{DECIDED, EXAMPLE, dump};
+use crate::rows::assert_for;
 use dump_format::{Dump, DumpError};
 use lb_dump::read_from;
+use row_fixtures::{EXAMPLE_DUMP, RECORDED_DUMP, Sink, Source};
 use std::alloc::Global;
 use std::io::ErrorKind;
 use std::process::Abort;
-use tests_fixtures::{EXAMPLE_DUMP, RECORDED_DUMP, Sink, Source};
 
 // A text, the number of bytes that are read or written per call, and so the number of calls.
 type Calls = (&'static [u8], usize, usize);

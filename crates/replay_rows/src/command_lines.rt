@@ -1,7 +1,7 @@
 //! Command lines: what their arguments ask for, what is to be done, and the status where they ask for nothing to be done.
 
-use super::fixtures::same;
-use crate::fixtures::assert_for;
+use crate::fixtures::same;
+use crate::rows::assert_for;
 use chain_refinement::Tolerance;
 use lb_replay::{Clash, SimOptions};
 use program_words::words_status;

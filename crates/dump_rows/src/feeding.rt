@@ -1,7 +1,7 @@
 //! Ways in which a text comes to a reader, and when the reader reports its fault.
 
-use super::fixtures::comes_to;
-use crate::fixtures::assert_for;
+use crate::fixtures::comes_to;
+use crate::rows::assert_for;
 use dump_format::DumpError;
 use lb_dump::{DumpReader, decode};
 use std::process::Abort;
