@@ -53,7 +53,7 @@ pub(crate) fn open_workers<
 
 // A PE with its seat, on which letters are posted with bodies of up to this length.
 fn seated<C: Chare<A>, H: Openings<C> + RunStrategy, J: RunBeginning<C>, A: Allocator + Copy>(
-    mut pe: PeState<C, H, A>,
+    pe: PeState<C, H, A>,
     seat: Seat<Parcel<C, H, A>, A>,
     longest: BodyLimit,
 ) -> SeatedPe<C, H, J, A>
@@ -61,8 +61,9 @@ fn seated<C: Chare<A>, H: Openings<C> + RunStrategy, J: RunBeginning<C>, A: Allo
     requires seat { seat ≡ new_seat J.beginning.post seat.seats }
     requires share { slice_get J.beginning.shares pe.me ≡ Some seat.seats }
     requires served { pes J.beginning.post ≡ H.pes }
-    ensures made { result ≡ record { pe = pe; seat = seat } }
+    ensures made { result ≡ record { pe = record pe { longest = longest }; seat = seat } }
 {
-    pe.set_longest(longest);
-    SeatedPe::new(pe, seat)
+    let mut seated = SeatedPe::new(pe, seat);
+    seated.set_longest(longest);
+    seated
 }
