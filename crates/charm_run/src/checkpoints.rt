@@ -4,7 +4,6 @@ ghost use Rattle.std.specs.Prelude.{IfOk, None};
 ghost use Rattle.run_checkpoint.specs.Text.{IsWithin};
 
 use crate::{ADVICE, TURNS, history_of};
-use at_sync::Strategy;
 use chare_index::Pes;
 use checkpointed_runs::{
     CheckpointFiles, Checkpoints, drive_from, finish_kept, on_pes, opening_of, read_checkpoint,
@@ -21,6 +20,7 @@ use std::sync::Wait;
 use std::thread::Threads;
 use std::time::Clock;
 use streams::Advice;
+use sync_board::Strategy;
 use workload_run::report_memory;
 
 /// What to do about a checkpoint with a fault.

@@ -3,7 +3,7 @@
 ghost use Rattle.std.specs.Prelude.{◌≡◌, ◌<◌, ◌≤◌, None, Some, IfOk, IfSome, IsFalse, IsTrue, IsSome, ◌↔◌, ℕ, length};
 ghost use Rattle.std.specs.Option.{option_copied, option_map};
 ghost use Rattle.std.specs.String.{string_bytes};
-ghost use Rattle.at_sync.specs.Boards.{decision_of};
+ghost use Rattle.sync_board.specs.Boards.{decision_of};
 ghost use Rattle.checkpointed_runs.specs.Keeping.{Keeps, new_name};
 ghost use Rattle.checkpointed_runs.specs.Lines.{not_kept_line};
 ghost use Rattle.checkpointed_runs.specs.Pausing.{IsDue, KeepsAt, KeepsNoted, all_decided, first_failure, last_places, places_by};
@@ -13,7 +13,6 @@ ghost use Rattle.lb_strategy.specs.Moves.{HasPlace};
 ghost use Rattle.streams.specs.Writing.{WritesPrefix};
 
 use crate::files::{CheckpointFiles, replace};
-use at_sync::Board;
 use carried_runs::Pauses;
 use chare_index::{Index, Limits, Pe, Round};
 use chares::Chare;
@@ -24,6 +23,7 @@ use run_checkpoint::DecidedRound;
 use std::alloc::{AllocError, Allocator, Global};
 use std::io::{self, Write};
 use streams::write_out;
+use sync_board::Board;
 use workload::Workload;
 
 /// The line where a checkpoint was not kept.

@@ -12,7 +12,6 @@ ghost use Rattle.workload_run.specs.declared.ended.RunEnd.TheVariants.{OutOfMemo
 use crate::checkpoints::Checkpoints;
 use crate::files::CheckpointFiles;
 use crate::whole::whole_text;
-use at_sync::Strategy;
 use chare_index::{Limits, NoGate, Pe};
 use placed_runs::run_placed;
 use pup_pack::Pup;
@@ -22,6 +21,7 @@ use std::alloc::{AllocError, Allocator};
 use std::io::Write;
 use std::sync::Wait;
 use std::thread::Threads;
+use sync_board::Strategy;
 use tally::Tally;
 use workload::Workload;
 use workload_run::{Driven, Onlooker, RunEnd, report_memory, report_text};

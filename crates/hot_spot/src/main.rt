@@ -11,7 +11,6 @@ mod help;
 mod words;
 
 use crate::words::{RunOptions, read_options};
-use at_sync::Strategy;
 use hot_spot_run::{ending_of, run_chain_watched, text_of};
 use hot_spot_strip::{Mode, Strip, StripChain, StripChainError};
 use pe_worker::Watch;
@@ -26,6 +25,7 @@ use std::sync::Wait;
 use std::thread::Threads;
 use std::time::{Clock, Instant};
 use streams::write_out;
+use sync_board::Strategy;
 
 /// Cells of each strip.
 const CELLS: u32 = 16;

@@ -1,13 +1,12 @@
 //! What the workers of a run share.
 
 ghost use Rattle.std.specs.Prelude.{◌≡◌, ◌≤◌, IfOk, length};
-ghost use Rattle.at_sync.specs.Boards.{IsBoard};
+ghost use Rattle.sync_board.specs.Boards.{IsBoard};
 ghost use Rattle.lb_database.specs.Measuring.{elements};
 
 use crate::agenda::last_round;
 use crate::ballot::Ballot;
 use crate::seated::{OfRun, RunBeginning};
-use at_sync::Board;
 use barrier::{Barrier, RunStrategy};
 use chare_index::{Limits, Round};
 use chares::{Chare, History, Openings};
@@ -18,6 +17,7 @@ use std::marker::{Model, PhantomData};
 use std::sync::Wait;
 use std::sync::atomic::Ordering::SeqCst;
 use std::sync::atomic::{AtomicBool, AtomicU64};
+use sync_board::Board;
 
 // With fewer PEs than this, a walk over the chain is done before a thread for it has started.
 const PES_WORTH_THREADS: u32 = 128;

@@ -1,13 +1,13 @@
 ghost use Rattle.std.specs.Prelude.{◌≡◌, ◌≤◌, IsTrue, ◌↔◌, MatchOption};
-ghost use Rattle.at_sync.specs.declared.strategy.Strategy.TheVariants.{Least};
+ghost use Rattle.sync_board.specs.declared.strategy.Strategy.TheVariants.{Least};
 ghost use Rattle.chare_index.specs.declared.limits.TheConstants.Limits.{BODY_BYTES};
 ghost use Rattle.chares.specs.declared.history.History.TheVariants.{Kept};
 ghost use Rattle.rts_run.specs.Configs.{IsFirstOutside, IsWithin, MayBegin};
 
 use crate::error::Setting;
-use at_sync::Strategy;
 use chare_index::Limits;
 use chares::{BodyLimit, History};
+use sync_board::Strategy;
 
 /// The numbers of a run, and how its rounds are decided.
 #[derive(Clone, Copy, Debug, PartialEq)]

@@ -4,7 +4,7 @@
 //! - [`run_watched`]: the same, observed by a [`Watch`].
 //! - [`Config`]: on how many PEs, with which limits (a [`BodyLimit`] among them), how rounds are decided (a [`Strategy`], within a
 //!   [`Tolerance`]), and whether elements keep what they have handled (a [`History`]).
-//! - [`Outcome`]: what a run left. Nothing is lost, whatever the schedule was and whatever went wrong.
+//! - [`Outcome`], with a [`PeEnd`] for each PE: what a run left. Nothing is lost, whatever the schedule was and whatever went wrong.
 //! - [`OpenedRun`], with [`open_post`] and [`run_opened`]: what a run begins with, for one that opens in another way.
 //! - [`RunError`]: why a run did not begin, with the [`Setting`] that is out of its limits. [`Fault`]: why one ended early.
 //!
@@ -37,12 +37,13 @@ mod outcome;
 mod running;
 mod workers;
 
-pub use at_sync::Strategy;
 pub use chain_refinement::Tolerance;
 pub use chares::{BodyLimit, History};
 pub use config::Config;
 pub use error::{RunError, Setting};
 pub use opened_run::{OpenedRun, open_post};
 pub use outcome::Outcome;
+pub use pe_state::PeEnd;
 pub use pe_worker::{Fault, NoWatch, PeStep, Watch};
 pub use running::{run, run_opened, run_watched};
+pub use sync_board::Strategy;

@@ -11,7 +11,6 @@ ghost use Rattle.rts_run.specs.Openings.{AreNewSeats, AreOfRun, IsBeginning};
 
 use crate::config::Config;
 use crate::workers::open_workers;
-use at_sync::Board;
 use barrier::RunStrategy;
 use chare_index::{Limits, Pe, Pes};
 use chares::{Chare, Openings};
@@ -22,6 +21,7 @@ use rts_core::{opening_pes, opening_words};
 use std::alloc::{AllocError, Allocator};
 use std::collections::VecDeque;
 use std::marker::Model;
+use sync_board::Board;
 
 /// A run that has opened, or opened again, before its workers begin: its queues with a seat for each PE, its PEs, a location word for
 /// each element, and its board. Contracts see its beginning.
@@ -67,7 +67,7 @@ impl<C: Chare<A>, H: Openings<C> + RunStrategy, A: Allocator + Copy> OpenedRun<C
         let pes = Pes::of(config.pes);
         let homes = opening_words(alloc, n, pes)?;
         let words = Locations::<OfRun<C, H>, A>::new(alloc, &homes, config.pes)?;
-        let board = Board::new(alloc, n, config.pes, config.strategy)?;
+        let board = Board::with_strategy(alloc, n, config.pes, config.strategy)?;
         let (post, seats) = open_post::<C, H, A>(alloc, config)?;
         let states = opening_pes(alloc, pes, chares)?;
         let opened = OpenedRun {

@@ -2,7 +2,7 @@
 
 ghost use Rattle.std.specs.Prelude.{◌≡◌, ◌≢◌, ◌≤◌, IfOk, IfSome, IsTrue, MatchResult, None, Some, length, map};
 ghost use Rattle.std.specs.VecDeque.{deque_len};
-ghost use Rattle.at_sync.specs.Boards.{HaveFinished};
+ghost use Rattle.sync_board.specs.Boards.{HaveFinished};
 ghost use Rattle.pe_worker.specs.Causes.{HasCause};
 ghost use Rattle.pe_worker.specs.declared.fault.Fault.TheVariants.{Mismatch, Quiet, Stopped, Unpack};
 ghost use Rattle.round_marks.specs.Finished.{HaveAllFinished};
@@ -19,7 +19,6 @@ use crate::error::RunError;
 use crate::gathering::gather;
 use crate::opened_run::OpenedRun;
 use crate::outcome::Outcome;
-use at_sync::Board;
 use barrier::RunStrategy;
 use chare_index::{Gate, Limits, Pe};
 use chares::{Chare, Openings};
@@ -32,6 +31,7 @@ use std::collections::VecDeque;
 use std::marker::Brand;
 use std::sync::Wait;
 use std::thread::Threads;
+use sync_board::Board;
 use worker_threads::Crew;
 
 /// Runs chares on PEs until every one has finished, or a fault is met, and gives what is left. Element `i` is the `i`-th

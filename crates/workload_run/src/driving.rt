@@ -9,7 +9,6 @@ use crate::ended::RunEnd;
 use crate::onlooker::Onlooker;
 use crate::tallies::tallies_of;
 use crate::telling::{report_fault, report_memory, tell_outcome};
-use at_sync::Strategy;
 use carried_runs::{NoPauses, Pauses, run_in_parts};
 use chare_index::{Limits, NoGate};
 use pe_worker::NoWatch;
@@ -20,6 +19,7 @@ use std::io::{self, Read, Write};
 use std::sync::Wait;
 use std::thread::Threads;
 use streams::Noted;
+use sync_board::Strategy;
 use tally::Tally;
 use workload::{WorkError, Workload};
 
