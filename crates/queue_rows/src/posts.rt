@@ -3,12 +3,12 @@
 ghost use Rattle.std.specs.Prelude.{◌≡◌, ◌<◌, IfOk};
 ghost use Rattle.pe_queues.specs.Seats.{pes};
 
-use super::seats::{next, two_seats};
+use crate::seats::{next, two_seats};
 use pe_queues::{Full, Post, PostError, Seat, Unsettled};
+use row_fixtures::pe;
 use std::alloc::{AllocError, Allocator};
 use std::sync::Wait;
 use std::test::Fail;
-use tests_fixtures::pe;
 
 // Whether a queue of one place takes a value and refuses a second one, returns the first one and is empty
 // then.
@@ -77,40 +77,6 @@ fn holds_one<R: Wait, A: Allocator + Copy>(rt: &R, alloc: A) -> Result<bool, Fai
 fn a_queue_of_one_place(rt: HostRuntime) -> Result<(), Fail> {
     assert!(rt; holds_one(&rt, rt.alloc())?);
     Ok(())
-}
-
-// Whether values go through one of two queues in order, by two seats, until it has two.
-fn pass_in_order<R: Wait, A: Allocator>(
-    rt: &R,
-    post: &Post<u32, A>,
-    first: &mut Seat<u32, A>,
-    second: &mut Seat<u32, A>,
-) -> bool
-    requires own { (first.old.post ≡ post.now) × (second.old.post ≡ post.now) }
-    requires two { pes post.now ≡ 2 }
-    ensures own { (first.new.post ≡ post.now) × (second.new.post ≡ post.now) }
-{
-    let put = post.put(rt, first, pe(1), 20).is_ok() && post.put(rt, second, pe(1), 21).is_ok();
-    let full = post.put(rt, first, pe(1), 22) == Err(Full(22));
-    let taken = post.take(rt, second, pe(1)) == Some(20);
-    put && full && taken && post.put(rt, first, pe(1), 22).is_ok()
-}
-
-/// Whether what is left of two queues stands by queue, the front of each first.
-pub(crate) fn leaves_in_order<R: Wait, A: Allocator + Copy>(
-    rt: &R,
-    alloc: A,
-) -> Result<bool, PostError> {
-    let (post, mut first, mut second) = two_seats(alloc, 2, 2)?;
-    let passed = pass_in_order(rt, &post, &mut first, &mut second);
-    let put = post.put(rt, &mut second, pe(0), 1).is_ok();
-    let all = post.join(first, second);
-    let left = post.settle(rt, all).map_err(|unsettled| unsettled.cause)?;
-    let [zero, one] = left.as_slice() else {
-        return Ok(false);
-    };
-    let stand = zero.as_slice() == [1].as_slice() && one.as_slice() == [21, 22].as_slice();
-    Ok(passed && put && stand)
 }
 
 // Numbers of PEs, of seats and of places, and the error of a post with these.

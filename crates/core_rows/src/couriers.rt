@@ -3,18 +3,17 @@
 
 ghost use Rattle.std.specs.Prelude.{◌≡◌};
 
-use super::fixtures::opened;
-use super::steps::{Line, Step, Told, expect_account, take};
-use crate::fixtures::{assert_for, pe};
+use crate::fixtures::{assert_for, opened, pe};
+use crate::steps::{expect_account, take};
 use Step::{Act, Decide, Deliver, Depart, Flush, Look, Report, Resume, Start};
 use Told::{Departed, Executed, Installed, Posted, Refused, Resumed, Shelved, Synced};
 use chares::Openings;
 use pe_state::StepError;
+use row_chares::Courier;
+use row_scripts::{Line, Step, Told};
 use rts_core::{Account, World};
-use std::alloc::Global;
 use std::marker::Brand;
 use std::process::Abort;
-use tests_chares::Courier;
 
 /// A number of couriers, the element that they all send to, 1 where they go on after a send that is refused, and the
 /// length of what they send.
@@ -206,9 +205,8 @@ fn plays<H: Openings<Courier>>(
     requires run { pes ≡ H.pes }
     requires opened { chares.items ≡ H.opened }
 {
-    let world = opened::<Courier, H, Global>(rt, rt.alloc(), pes, chares);
-    let mut world = world.expect(rt, "out of memory");
-    assert!(rt; !take(rt, &mut world, lines), "refused");
+    let mut world = opened::<Courier, H>(rt, pes, chares);
+    take(rt, &mut world, lines);
     expect_account(rt, &world, account);
     drop(world);
 }
@@ -250,10 +248,9 @@ fn owes<H: Openings<Courier>>(rt: &(impl Abort + AllocGlobal), chares: Vec<Couri
     requires run { H.pes ≡ 1 }
     requires opened { chares.items ≡ H.opened }
 {
-    let world = opened::<Courier, H, Global>(rt, rt.alloc(), 1, chares);
-    let mut world = world.expect(rt, "out of memory");
+    let mut world = opened::<Courier, H>(rt, 1, chares);
     for (lines, want) in &OWED {
-        assert!(rt; !take(rt, &mut world, *lines), "refused");
+        take(rt, &mut world, *lines);
         let owed = owes_finish(rt, &world);
         assert_for(rt, owed == Some(*want), owed);
     }

@@ -3,21 +3,21 @@
 ghost use Rattle.std.specs.Prelude.{◌≤◌};
 
 use crate::fixtures::{assert_for, pe, round};
+use at_sync::{Board, BoardError, Strategy};
 use chain_refinement::Tolerance;
 use chare_index::{Limits, Round};
 use lb_refinement::Refined;
 use lb_snapshot::Units;
+use row_fixtures::{CountingGate, MeetingGate};
 use std::process::Abort;
 use std::thread::Threads;
-use sync_board::{Board, BoardError, Strategy};
-use tests_fixtures::{CountingGate, MeetingGate};
 
-fn board(rt: &(impl Abort + AllocGlobal), n: u32, pes: u32, strategy: Strategy) -> Board
+fn board(rt: &(impl Abort + AllocGlobal), n: u32, pes: u32) -> Board
     requires few { n ≤ Limits.ELEMENTS }
     requires some_pe { 1 ≤ pes }
     requires few_pes { pes ≤ Limits.PES }
 {
-    Board::with_strategy(rt.alloc(), n, pes, strategy).expect(rt, "out of memory")
+    Board::new(rt.alloc(), n, pes).expect(rt, "out of memory")
 }
 
 // An element, the units that it reports, its size and its place.
@@ -50,7 +50,7 @@ const SECOND: Report = (1, 3, 5, 1);
 
 // Two elements on two PEs, of which the first has reported.
 fn one_reported(rt: &(impl Abort + AllocGlobal)) -> Board {
-    let mut board = board(rt, 2, 2, Strategy::Least);
+    let mut board = board(rt, 2, 2);
     report_all(rt, &mut board, 1, &[FIRST]);
     board
 }
@@ -136,7 +136,7 @@ fn reports_past_a_limit(rt: HostRuntime) {
         (2, (0, 7, 1_048_577, 1), BoardError::WrongRound),
         (2, (2, 7, 1_048_577, 1), BoardError::Stranger),
     ];
-    let mut board = board(&rt, 2, 2, Strategy::Least);
+    let mut board = board(&rt, 2, 2);
     report_all(
         &rt,
         &mut board,
@@ -160,7 +160,7 @@ fn reports_past_a_limit(rt: HostRuntime) {
 
 #[test]
 fn no_elements(rt: HostRuntime) {
-    let mut board = board(&rt, 0, 256, Strategy::Least);
+    let mut board = board(&rt, 0, 256);
     assert!(rt; board.is_empty() && board.all_finished());
     for number in 1..3 {
         decide(&rt, &mut board, number);
@@ -203,7 +203,7 @@ fn is_decided_so<R: Threads + Sync + Abort + AllocGlobal>(rt: &R, row: &Decided)
         Some(thousandths) => Strategy::within(Tolerance::new(*thousandths)),
         None => Strategy::within(None),
     };
-    let mut board = board(rt, 4, 2, strategy);
+    let mut board = Board::with_strategy(rt.alloc(), 4, 2, strategy).expect(rt, "out of memory");
     report_all(rt, &mut board, 1, FOUR);
     let decided = if *gated {
         three_decide(rt, &mut board)
@@ -238,7 +238,7 @@ fn a_tolerance_keeps_what_lies_within_it(rt: HostRuntime) {
 
 // The reports of a full array on all PEs, where each element has the most to do.
 fn full_array(rt: &(impl Abort + AllocGlobal)) -> Board {
-    let mut board = board(rt, 65_536, 256, Strategy::Least);
+    let mut board = board(rt, 65_536, 256);
     for i in 0..65_536 {
         let row = (i, 140_737_488_355_327, 1_048_576, i % 256);
         assert_for(rt, report(rt, &mut board, 1, &row).is_ok(), i);

@@ -5,7 +5,7 @@ ghost use Rattle.chare_index.specs.declared.limits.TheConstants.Limits.{ELEMENTS
 ghost use Rattle.chares.specs.declared.sends.SendError.TheVariants.{Stranger, TooLong};
 ghost use Rattle.chares.specs.Posting.{posted};
 ghost use Rattle.pup_pack.specs.declared.error.PupError.TheVariants.{Bad, OutOfMemory};
-ghost use Rattle.tests_chares.specs.Couriers.{MaySend, RefusesSend, is_courier, of_parts};
+ghost use Rattle.row_chares.specs.Couriers.{MaySend, RefusesSend, is_courier, of_parts};
 
 use chare_index::{Gate, Index, Limits, Round};
 use chares::{Chare, Effect, Here, SendError, Sends};
@@ -23,7 +23,7 @@ pub struct Courier<A: Allocator = Global> {
 
 impl<A: Allocator> Model for Courier<A> {
     ghost use Rattle.std.specs.Prelude.{◌≡◌, true};
-    ghost use Rattle.tests_chares.specs.Couriers.{CourierView, is_courier};
+    ghost use Rattle.row_chares.specs.Couriers.{CourierView, is_courier};
 
     ghost Value = { CourierView };
 
@@ -105,7 +105,7 @@ impl<A: Allocator + Copy> Pup<A> for Courier<A> {
     ghost use Rattle.std.specs.Prelude.{◌≡◌, refl, true};
     ghost use Rattle.pup_pack.specs.Structs.{made, judged};
     ghost use Rattle.pup_pack.specs.Trips.{bytes_trips, judged_trips, pair_trips, struct_trips, u32_trips};
-    ghost use Rattle.tests_chares.specs.Couriers.{is_courier, of_parts, parts};
+    ghost use Rattle.row_chares.specs.Couriers.{is_courier, of_parts, parts};
 
     ghost fits = { λ c. ⟦<Parts<A> as Pup<A>>⟧.fits (parts c) × (is_courier c ≡ true) };
 
@@ -133,7 +133,7 @@ impl<A: Allocator + Copy> Pup<A> for Courier<A> {
 }
 
 impl<A: Allocator + Copy> Chare<A> for Courier<A> {
-    ghost use Rattle.tests_chares.specs.Couriers.{CourierRefuses, courier_packs, courier_step};
+    ghost use Rattle.row_chares.specs.Couriers.{CourierRefuses, courier_packs, courier_step};
 
     ghost step = { courier_step };
 

@@ -2,16 +2,14 @@
 
 ghost use Rattle.std.specs.Prelude.{◌≡◌};
 
-use super::couriers::couriers;
-use super::fixtures::opened;
-use crate::fixtures::{assert_for, index, pe};
+use crate::couriers::couriers;
+use crate::fixtures::{assert_for, index, opened, pe};
 use chare_index::{Index, Pe};
 use chares::{Openings, Progress};
+use row_chares::Courier;
 use rts_core::World;
-use std::alloc::Global;
 use std::marker::Brand;
 use std::process::Abort;
-use tests_chares::Courier;
 
 // Whether an element is on this PE, is looked for there, and has done nothing yet.
 fn is_fresh_on<H: Openings<Courier>>(world: &World<Courier, H>, e: Index, home: Pe) -> bool {
@@ -49,8 +47,7 @@ fn opens<H: Openings<Courier>>(
     requires run { pes ≡ H.pes }
     requires opened { chares.items ≡ H.opened }
 {
-    let world = opened::<Courier, H, Global>(rt, rt.alloc(), pes, chares);
-    let world = world.expect(rt, "out of memory");
+    let world = opened::<Courier, H>(rt, pes, chares);
     let holds = are_at_home(rt, &world, pes, n);
     drop(world);
     holds

@@ -4,7 +4,7 @@ ghost use Rattle.std.specs.Prelude.{◌≡◌, ◌≢◌, ◌≤◌, ◌<◌, �
 ghost use Rattle.chare_index.specs.declared.limits.TheConstants.Limits.{ELEMENTS};
 ghost use Rattle.chares.specs.declared.sends.SendError.TheVariants.{OutOfMemory};
 ghost use Rattle.chares.specs.Posting.{IsPost, RefusesPut, posted};
-ghost use Rattle.tests_runs.specs.Errands.{RefusesAll, empty_letters};
+ghost use Rattle.row_chares.specs.Errands.{RefusesAll, empty_letters};
 
 use chare_index::{Gate, Index, Round};
 use chares::{Chare, Effect, Here, SendError, Sends};
@@ -15,22 +15,22 @@ use std::marker::Model;
 /// A chare that sends empty letters. As it goes on after a round, or starts, it passes the gate with the sum of 1,000,
 /// twice the round and its index.
 #[derive(Drop)]
-pub(crate) struct Errand {
+pub struct Errand {
     /// The element that its letters go to.
-    pub(crate) to: u32,
+    pub to: u32,
     /// How many it sends as it starts, and after each round.
-    pub(crate) letters: u32,
+    pub letters: u32,
     /// How many it sends for each letter that it gets.
-    pub(crate) replies: u32,
+    pub replies: u32,
     /// How many letters it has yet to get before it finishes.
-    pub(crate) wanted: u32,
+    pub wanted: u32,
     /// The number of rounds after which it may finish.
-    pub(crate) rounds: u32,
+    pub rounds: u32,
 }
 
 impl Errand {
     /// A chare that finishes as it starts.
-    pub(crate) fn none() -> Errand {
+    pub fn none() -> Errand {
         Errand {
             to: 0,
             letters: 0,
@@ -42,7 +42,7 @@ impl Errand {
 }
 
 impl Model for Errand {
-    ghost use Rattle.tests_runs.specs.Errands.{ErrandView};
+    ghost use Rattle.row_chares.specs.Errands.{ErrandView};
 
     ghost Value = { ErrandView };
 
@@ -84,7 +84,7 @@ impl<A: Allocator + Copy> Pup<A> for Errand {
     ghost use Rattle.std.specs.Prelude.{refl};
     ghost use Rattle.pup_pack.specs.Structs.{made};
     ghost use Rattle.pup_pack.specs.Trips.{pair_trips, struct_trips, u32_trips};
-    ghost use Rattle.tests_runs.specs.Errands.{of_parts, parts};
+    ghost use Rattle.row_chares.specs.Errands.{of_parts, parts};
 
     ghost fits = { λ e. ⟦<Parts as Pup<A>>⟧.fits (parts e) };
 
@@ -125,7 +125,7 @@ impl<A: Allocator + Copy> Pup<A> for Errand {
 }
 
 impl<A: Allocator + Copy> Chare<A> for Errand {
-    ghost use Rattle.tests_runs.specs.Errands.{ErrandRefuses, errand_packs, errand_step};
+    ghost use Rattle.row_chares.specs.Errands.{ErrandRefuses, errand_packs, errand_step};
 
     ghost step = { errand_step };
 

@@ -5,14 +5,14 @@ ghost use Rattle.std.specs.Prelude.{◌≡◌, ◌<◌, ◌≤◌, ◌+◌, All,
 ghost use Rattle.std.specs.Thread.{IsSync};
 ghost use Rattle.pe_queues.specs.Seats.{pes};
 
-use super::seats::next;
+use crate::seats::next;
 use pe_queues::{Full, Post, Seat};
+use row_fixtures::pe;
 use std::alloc::{AllocError, Global};
 use std::cell::Cell;
 use std::sync::Wait;
 use std::test::Fail;
 use std::thread::{self, Threads};
-use tests_fixtures::pe;
 
 const EACH: u32 = 1_000;
 
