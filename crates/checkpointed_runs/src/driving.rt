@@ -15,7 +15,7 @@ use crate::whole::whole_text;
 use chare_index::{Limits, NoGate, Pe};
 use placed_runs::run_placed;
 use pup_pack::Pup;
-use rts_run::{BodyLimit, Config, History, Outcome};
+use rts_run::{Config, History, Options, Outcome};
 use run_checkpoint::{Checkpoint, DecidedRound, tallies_after};
 use std::alloc::{AllocError, Allocator};
 use std::io::Write;
@@ -182,9 +182,11 @@ fn outcome_from<
         capacity: CAPACITY,
         turns,
         probe_workers: PROBE_WORKERS,
-        longest: BodyLimit::usual(),
+    };
+    let options = Options {
         strategy,
         history,
+        ..Options::usual()
     };
     let chares = tallies_after(alloc, &workload, decided.len() as u32)?;
     checkpoints.begin(&places, decided, workload);
@@ -192,6 +194,7 @@ fn outcome_from<
         rt,
         alloc,
         &config,
+        &options,
         &NoGate,
         watch,
         checkpoints,

@@ -15,7 +15,7 @@ use hot_spot_run::{ending_of, run_chain_watched, text_of};
 use hot_spot_strip::{Mode, Strip, StripChain, StripChainError};
 use pe_worker::Watch;
 use program_words::{NO_OUTPUT, RUN_FAULT, on_words, refused};
-use rts_run::{Config, History, Outcome};
+use rts_run::{Config, History, Idle, Options, Outcome};
 use run_trace::{LostTrace, Tracing, keep_trace};
 use std::alloc::AllocError;
 use std::fs::{File, Files};
@@ -101,17 +101,19 @@ fn run_and_print<V: Watch + Sync, R: Threads + Wait + Sync + Clock + Print + Epr
     options: &RunOptions<'_>,
     watch: &V,
 ) -> Result<(Outcome<Strip>, u8), StripChainError> {
-    let config = Config {
+    let config = Config::usual(options.pes);
+    let wanted = Options {
         strategy: Strategy::within(options.tolerance),
         history: if options.no_journal {
             History::Dropped
         } else {
             History::Kept
         },
-        ..Config::usual(options.pes)
+        idle: Idle::Quiet,
+        ..Options::usual()
     };
     let start = Instant::now(rt);
-    let outcome = run_chain_watched(rt, rt.alloc(), &config, watch, chain)?;
+    let outcome = run_chain_watched(rt, rt.alloc(), &config, &wanted, watch, chain)?;
     if let Ok(start) = start {
         tell_time(rt, &start, outcome.account().executed);
     }

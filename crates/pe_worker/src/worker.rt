@@ -275,7 +275,7 @@ impl<C: Chare<A>, H: Openings<C> + RunStrategy, J: RunBeginning<C>, A: Allocator
             if idle >= field.turns {
                 return Err(Fault::Idle);
             }
-            if is_quiet(&field.ballot, me, idle, &mut question) {
+            if field.looks_quiet && is_quiet(&field.ballot, me, idle, &mut question) {
                 return Err(Fault::Quiet);
             }
             pause(idle);

@@ -6,6 +6,7 @@ ghost use Rattle.std.specs.VecDeque.{deque_len};
 ghost use Rattle.pe_queues.specs.Seats.{new_seat, pes};
 
 use crate::config::Config;
+use crate::options::Options;
 use barrier::RunStrategy;
 use chares::{BodyLimit, Chare, Openings};
 use pe_queues::Seat;
@@ -25,6 +26,7 @@ pub(crate) fn open_workers<
 >(
     alloc: A,
     config: &Config,
+    options: &Options,
     board: &Board<A>,
     mut states: VecDeque<PeState<C, H, A>, A>,
     mut seats: VecDeque<Seat<Parcel<C, H, A>, A>, A>,
@@ -45,7 +47,7 @@ pub(crate) fn open_workers<
             unreachable!()
         };
         let agenda = Agenda::new(alloc, &pe, board, config.pes)?;
-        let seated = seated(pe, seat, config.longest);
+        let seated = seated(pe, seat, options.longest);
         workers.push_back_reserved(Worker::new(seated, agenda));
     }
     Ok(workers)

@@ -13,7 +13,7 @@ use carried_runs::{NoPauses, Pauses, run_in_parts};
 use chare_index::{Limits, NoGate};
 use pe_worker::NoWatch;
 use pup_pack::Pup;
-use rts_run::{BodyLimit, Config, History, Outcome};
+use rts_run::{Config, History, Options, Outcome};
 use std::alloc::{AllocError, Allocator};
 use std::io::{self, Read, Write};
 use std::sync::Wait;
@@ -222,13 +222,15 @@ fn outcome_of<
         capacity: CAPACITY,
         turns,
         probe_workers: PROBE_WORKERS,
-        longest: BodyLimit::usual(),
+    };
+    let options = Options {
         strategy,
         history,
+        ..Options::usual()
     };
     let chares = tallies_of(alloc, &workload)?;
     drop(workload);
-    match run_in_parts(rt, alloc, &config, &NoGate, watch, pauses, chares) {
+    match run_in_parts(rt, alloc, &config, &options, &NoGate, watch, pauses, chares) {
         Ok(outcome) => Ok(outcome),
         Err(_) => Err(AllocError),
     }
