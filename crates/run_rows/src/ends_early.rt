@@ -1,31 +1,21 @@
 //! Runs that end early, each with its fault, and what they leave.
 
-use super::fixtures::{account, assert_for, index, patient, run_past};
-use super::found::compare;
+use crate::fixtures::{account, assert_for, index, patient, run_past};
 use chare_index::{Gate, NoGate};
 use chares::{Carried, Chare};
 use pe_state::PeEnd;
-use pe_worker::Fault;
+use row_chares::{Courier, Errand};
+use row_fixtures::pe;
 use rts_core::Account;
-use rts_run::{Config, Outcome};
+use rts_run::{Config, Fault, Outcome};
 use std::alloc::Global;
 use std::process::Abort;
 use std::sync::Wait;
 use std::sync::atomic::{AtomicU64, Ordering};
 use std::thread::Threads;
-use tests_chares::{Courier, Errand};
-use tests_fixtures::pe;
 
-// Whether a run of this number of elements met this fault, decided no round, and has this account; each letter and each element
-// is found in what it left.
-fn is_ended<C: Chare<Global>>(
-    rt: &(impl Abort + AllocGlobal),
-    outcome: &Outcome<C>,
-    n: usize,
-    fault: Fault,
-    account: Account,
-) -> bool {
-    compare(rt, outcome, n);
+// Whether a run met this fault, decided no round, and has this account.
+fn is_ended<C: Chare<Global>>(outcome: &Outcome<C>, fault: Fault, account: Account) -> bool {
     let ended = outcome.fault() == Some(fault) && outcome.account() == account;
     ended && outcome.rounds().is_empty()
 }
@@ -57,7 +47,7 @@ fn a_chare_that_never_finishes(rt: HostRuntime) {
     };
     let errands = vec![in rt.alloc(); waits].expect(&rt, "out of memory");
     let outcome = run_on_one(&rt, 1_000, errands);
-    let ended = is_ended(&rt, &outcome, 1, Fault::Idle, account(0, 0, 0));
+    let ended = is_ended(&outcome, Fault::Idle, account(0, 0, 0));
     assert!(rt; ended && started(&rt, &outcome) == Some(true));
 }
 
@@ -89,7 +79,7 @@ fn a_letter_to_no_element_while_one_is_handled(rt: HostRuntime) {
     };
     let errands = vec![in rt.alloc(); first, second].expect(&rt, "out of memory");
     let outcome = run_on_one(&rt, 1_000_000_000, errands);
-    let ended = is_ended(&rt, &outcome, 2, Fault::Stranger, account(1, 0, 1));
+    let ended = is_ended(&outcome, Fault::Stranger, account(1, 0, 1));
     let end = outcome.ends().first().expect(&rt, "no PE 0");
     assert!(rt; ended && in_hand(&rt, end));
     drop(outcome);
@@ -100,7 +90,7 @@ fn a_body_that_is_too_long(rt: HostRuntime) {
     let chare = Courier::with_zeros(rt.alloc(), 0, 0, 1_025).expect(&rt, "out of memory");
     let chares = vec![in rt.alloc(); chare].expect(&rt, "out of memory");
     let outcome = run_past(&rt, &patient(1, 1_024), &NoGate, chares);
-    let ended = is_ended(&rt, &outcome, 1, Fault::TooLong, account(0, 0, 0));
+    let ended = is_ended(&outcome, Fault::TooLong, account(0, 0, 0));
     assert!(rt; ended && started(&rt, &outcome) == Some(false));
 }
 
@@ -147,9 +137,9 @@ fn a_start_that_is_stalled(rt: HostRuntime) {
     };
     let errands = vec![in rt.alloc(); first, second].expect(&rt, "out of memory");
     let outcome = run_past(&rt, &config, &gate, errands);
-    compare(&rt, &outcome, 2);
-    let (fault, posted) = (outcome.fault(), outcome.account().posted);
+    let (fault, found) = (outcome.fault(), outcome.account());
     drop(outcome);
     assert_for(&rt, fault == Some(Fault::Idle), fault);
-    assert_for(&rt, posted == 3, posted);
+    let all = found.posted == 3 && found.executed.saturating_add(found.held) == 3;
+    assert_for(&rt, all, found);
 }

@@ -1,12 +1,12 @@
 //! Gates that see when handlers run: two at the same time, and none too early.
 
-use super::fixtures::{assert_for, patient, run_past};
+use crate::fixtures::{assert_for, patient, run_past};
 use chare_index::Gate;
+use row_chares::Errand;
 use std::process::Abort;
 use std::sync::Wait;
 use std::sync::atomic::{AtomicU64, Ordering};
 use std::thread::Threads;
-use tests_chares::Errand;
 
 // Runs two chares of this number of rounds on two PEs, without a fault.
 fn run_two<G: Gate + Sync, R: Threads + Wait + Sync + Abort + AllocGlobal>(
