@@ -1,12 +1,11 @@
 //! Readers and writers that fail once.
 
-use super::fixtures::{WORKED, WORKED_TEXT, assert_for, drive_from};
+use crate::fixtures::{WORKED, WORKED_TEXT, assert_for, drive_from};
+use row_fixtures::{Sink, Source};
 use std::io::ErrorKind;
 use std::process::Abort;
 use std::sync::Wait;
 use std::thread::Threads;
-use sync_board::Strategy;
-use tests_fixtures::{Sink, Source};
 use workload::WorkError;
 use workload_run::RunEnd;
 
@@ -18,7 +17,7 @@ fn is_told<R: Threads + Wait + Sync + Abort + AllocGlobal>(
 ) -> bool {
     let mut reader = Source::new(workload, 1, Some((at, ErrorKind::Interrupted)));
     let mut text = Vec::new(rt.alloc());
-    let driven = drive_from(rt, rt.alloc(), &mut reader, &mut text, Strategy::Least);
+    let driven = drive_from(rt, rt.alloc(), &mut reader, &mut text);
     let right = driven.ended == RunEnd::Refused(WorkError::Read) && driven.rounds().is_empty();
     drop(driven);
     right && text.as_slice() == b"workload: read failed\n".as_slice()
@@ -44,7 +43,7 @@ fn is_cut<R: Threads + Wait + Sync + Abort + AllocGlobal>(
 ) -> bool {
     let mut reader = WORKED;
     let mut writer = Sink::new(rt, 7, at, error);
-    let driven = drive_from(rt, rt.alloc(), &mut reader, &mut writer, Strategy::Least);
+    let driven = drive_from(rt, rt.alloc(), &mut reader, &mut writer);
     let right = driven.ended == RunEnd::WriteFailed && driven.rounds().len() == 2;
     drop(driven);
     let prefix = WORKED_TEXT.as_bytes().starts_with(&writer.taken);

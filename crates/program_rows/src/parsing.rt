@@ -1,9 +1,9 @@
 //! Texts of workloads and their faults, whole and read in pieces.
 
-use super::fixtures::{WORKED, assert_for};
+use crate::fixtures::{WORKED, assert_for};
+use row_fixtures::Source;
 use std::alloc::{AllocError, Global};
 use std::process::Abort;
-use tests_fixtures::Source;
 use workload::{WorkError, Workload};
 
 // The fault of a text, or `None` where it is one of a workload.

@@ -1,7 +1,6 @@
 //! Worked workloads: what is printed of their runs, and the line of each fault of a workload.
 
-use super::fixtures::{Row, WORKED, WORKED_TEXT, assert_for, tells};
-use sync_board::Strategy;
+use crate::fixtures::{Row, WORKED, WORKED_TEXT, assert_for, tells};
 use workload::WorkError;
 use workload_run::RunEnd;
 
@@ -60,6 +59,6 @@ static ROWS: [Row<'static>; 9] = [
 #[test]
 fn workloads_and_what_is_printed(rt: HostRuntime) {
     for row in &ROWS {
-        assert_for(&rt, tells(&rt, row, Strategy::Least), row.3);
+        assert_for(&rt, tells(&rt, row), row.3);
     }
 }
