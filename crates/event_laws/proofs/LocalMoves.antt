@@ -158,6 +158,7 @@ module _ {C A : Type 0} (w : WorldView C A) (p : ℕ) (pe : PeView C) (at : slic
           outbox = pe.outbox;
           notes = pe.notes;
           count = pe.count;
+          longest = pe.longest;
           kept = None;
         } in
         on_pe w p pe (departed pack pe e q) kept (slice_set w.words e q) w.board (Trace.Departed e ∷ []) (Departs p e el.index q) at
@@ -204,6 +205,7 @@ module _ {C A : Type 0} (w : WorldView C A) (p : ℕ) (pe : PeView C) (at : slic
             outbox = pe.outbox;
             notes = pe.notes;
             count = pe.count;
+            longest = pe.longest;
             kept = None;
           } in
           on_pe w p pe (forwarding pe l q).pe kept w.words w.board (forwarding pe l q).trace (Forwards q l) at

@@ -3,9 +3,8 @@
 use crate::fixtures::same;
 use crate::rows::assert_for;
 use chain_refinement::Tolerance;
-use lb_replay::{Clash, SimOptions};
+use lb_replay::{Clash, SimOptions, asked, refuse_both};
 use program_words::words_status;
-use sim_command_line::{asked, refuse_both};
 use std::alloc::Global;
 
 // Arguments, the file, the number of PEs and the thousandths that they ask for, whether they ask for an order that is kept, for any

@@ -1,6 +1,6 @@
-use Rattle.sim_command_line.specs.CommandLine.{both_line}
+use Rattle.lb_replay.specs.CommandLine.{both_line}
 use Rattle.program_words.proofs.Tellings.{at_most_written}
-use Rattle.sim_command_line.proofs.words.refuse_both.Goals as goal
+use Rattle.lb_replay.proofs.words.refuse_both.Goals as goal
 
 pub returns-clause-told : goal.returns-clause-told
 returns-clause-told g c =

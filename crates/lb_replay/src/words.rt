@@ -6,14 +6,14 @@ ghost use Rattle.clap.specs.Words.{FailsBy, app_of, fault_of, first_value, found
 ghost use Rattle.clap.specs.declared.builder.value_parser.ValueParser.TheVariants.{Signed};
 ghost use Rattle.program_words.specs.Arguments.{NamesFile, SpellsTolerance, file_rule, tolerance_rule};
 ghost use Rattle.streams.specs.Writing.{WritesPrefix};
-ghost use Rattle.sim_command_line.specs.CommandLine.{AsksAnyOrder, AsksCheck, AsksKeepOrder, Spells, any_order_rule, both_line, check_rule, file_in, keep_order_rule, procs_in, procs_rule};
-ghost use Rattle.sim_command_line.specs.CommandLine.{program, tolerance_in};
+ghost use Rattle.lb_replay.specs.CommandLine.{AsksAnyOrder, AsksCheck, AsksKeepOrder, Spells, any_order_rule, both_line, check_rule, file_in, keep_order_rule, procs_in, procs_rule};
+ghost use Rattle.lb_replay.specs.CommandLine.{program, tolerance_in};
 
 use crate::help::{ABOUT, HOW_TO};
+use crate::request::{Clash, SimOptions};
 use chare_index::Limits;
 use clap::builder::ValueParser;
 use clap::{Arg, ArgMatches, Command, Error, value_parser};
-use lb_replay::{Clash, SimOptions};
 use program_words::{NO_WORDS, flag, new_program, tolerance_in, word};
 use std::alloc::{AllocError, Global};
 use std::io::Write;

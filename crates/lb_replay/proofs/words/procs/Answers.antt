@@ -3,7 +3,7 @@ use Rattle.std.specs.Prelude.{pos}
 use Rattle.chare_index.specs.declared.limits.TheConstants.Limits.{PES}
 use Rattle.clap.specs.Words.{Rule}
 use Rattle.clap.specs.declared.builder.value_parser.ValueParser.TheVariants.{Signed}
-use Rattle.sim_command_line.proofs.words.procs.Goals as goal
+use Rattle.lb_replay.proofs.words.procs.Goals as goal
 
 pub returns-clause-rule : goal.returns-clause-rule
 returns-clause-rule c =

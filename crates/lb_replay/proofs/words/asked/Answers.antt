@@ -5,8 +5,8 @@ use Rattle.clap.specs.declared.parser.matches.ArgMatches.{ArgMatches}
 use Rattle.clap.proofs.OnLiterals.{clap_on_literals}
 use Rattle.program_words.proofs.Chains.{by_word, first_word, found_by, one_word, refused_by}
 use Rattle.program_words.specs.Arguments.{SpellsTolerance}
-use Rattle.sim_command_line.specs.CommandLine.{Spells, program}
-use Rattle.sim_command_line.proofs.words.asked.Goals as goal
+use Rattle.lb_replay.specs.CommandLine.{Spells, program}
+use Rattle.lb_replay.proofs.words.asked.Goals as goal
 
 simple : is_simple program ≡ true
 unfolding clap_on_literals

@@ -6,8 +6,8 @@ use Rattle.clap.specs.Words.{first_value, found_of}
 use Rattle.clap.proofs.CallerLemmas.{required_in_chain}
 use Rattle.program_words.proofs.Chains.{are_distinct, distinct_ids, ids_of, with_argument}
 use Rattle.program_words.specs.Arguments.{file_rule, tolerance_rule, versioned}
-use Rattle.sim_command_line.specs.CommandLine.{any_order_rule, check_rule, keep_order_rule, procs_rule}
-use Rattle.sim_command_line.proofs.words.command.Goals as goal
+use Rattle.lb_replay.specs.CommandLine.{any_order_rule, check_rule, keep_order_rule, procs_rule}
+use Rattle.lb_replay.proofs.words.command.Goals as goal
 
 distinct : are_distinct (codes "file" ∷ codes "procs" ∷ codes "tolerance" ∷ codes "keep-order" ∷ codes "any-order" ∷ codes "check" ∷ []) ≡ true
 distinct = refl
