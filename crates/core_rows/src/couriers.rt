@@ -5,12 +5,12 @@ ghost use Rattle.std.specs.Prelude.{◌≡◌};
 
 use crate::fixtures::{assert_for, opened, pe};
 use crate::steps::{expect_account, take};
-use Step::{Act, Decide, Deliver, Depart, Flush, Look, Report, Resume, Start};
-use Told::{Departed, Executed, Installed, Posted, Refused, Resumed, Shelved, Synced};
+use ScriptEntry::{Departed, Executed, Installed, Posted, Refused, Resumed, Shelved, Synced};
+use ScriptEvent::{Act, Decide, Deliver, Depart, Flush, Look, Report, Resume, Start};
 use chares::Openings;
 use pe_state::StepError;
 use row_chares::Courier;
-use row_scripts::{Line, Step, Told};
+use row_scripts::{Line, ScriptEntry, ScriptEvent};
 use rts_core::{Account, World};
 use std::marker::Brand;
 use std::process::Abort;
@@ -125,7 +125,7 @@ static ROWS: [Row; 7] = [
             (Report(0), &[Synced(0, 1)]),
             (Report(1), &[Synced(1, 1)]),
             (Report(2), &[Synced(2, 1)]),
-            (Decide, &[Told::Decided(1)]),
+            (Decide, &[ScriptEntry::Decided(1)]),
             (Depart(2, 2), &[Departed(2)]),
             (Look(1), &[]),
             (Flush(1), &[]),
@@ -173,7 +173,7 @@ static ROWS: [Row; 7] = [
             (Report(1), &[Synced(1, 1)]),
             (Start(2, 2), &[Resumed(2, 0), Posted(2, 0, 1)]),
             (Report(2), &[Synced(2, 1)]),
-            (Decide, &[Told::Decided(1)]),
+            (Decide, &[ScriptEntry::Decided(1)]),
             (Look(1), &[]),
             (Flush(1), &[]),
             (Deliver(1), &[]),

@@ -2,7 +2,7 @@
 
 use crate::fixtures::assert_for;
 use chares::Openings;
-use row_scripts::{Line, Told, are_told, event_of, is_refusal};
+use row_scripts::{Line, ScriptEntry, are_told, event_of, is_refusal};
 use rts_core::{Account, Chare, Event, World};
 use std::alloc::Global;
 use std::process::Abort;
@@ -11,7 +11,7 @@ use std::process::Abort;
 fn is_answered<C: Chare<Global>, H: Openings<C>>(
     world: &mut World<C, H>,
     event: Event,
-    want: &[Told],
+    want: &[ScriptEntry],
 ) -> bool {
     match world.step(event) {
         Ok(reports) => are_told(reports.as_slice(), want),

@@ -1,8 +1,8 @@
 use crate::steps::Line;
-use crate::steps::Step::{Act, Decide, Deliver, Depart, Flush, Look, Report, Resume, Start};
-use crate::steps::Told::{
+use crate::steps::ScriptEntry::{
     Decided, Departed, Executed, Forwarded, Installed, Posted, Resumed, Shelved, Synced,
 };
+use crate::steps::ScriptEvent::{Act, Decide, Deliver, Depart, Flush, Look, Report, Resume, Start};
 
 /// Each tally starts, and posts its first amount to its neighbor, which gets it.
 pub const START: &[Line] = &[

@@ -5,7 +5,7 @@ use rts_core::Event;
 
 /// An event, by the numbers of its PE and its element.
 #[derive(Clone, Copy)]
-pub enum Step {
+pub enum ScriptEvent {
     /// An element on a PE starts.
     Start(u32, u32),
     /// A PE looks up where a letter goes.
@@ -29,7 +29,7 @@ pub enum Step {
 /// A trace entry, or a refusal, by its numbers: those of a letter are its PE, its number there, and the element that it is
 /// for.
 #[derive(Clone, Copy)]
-pub enum Told {
+pub enum ScriptEntry {
     /// A letter was posted.
     Posted(u32, u32, u32),
     /// A letter was executed.
@@ -53,20 +53,20 @@ pub enum Told {
 }
 
 /// A step, and all that is told of it, in order.
-pub type Line = (Step, &'static [Told]);
+pub type Line = (ScriptEvent, &'static [ScriptEntry]);
 
 /// The event of a step, or `None` where a number of it is past its limit.
-pub fn event_of(step: Step) -> Option<Event> {
+pub fn event_of(step: ScriptEvent) -> Option<Event> {
     let event = match step {
-        Step::Start(p, e) => Event::Start(Pe::new(p)?, Index::new(e)?),
-        Step::Look(p) => Event::Look(Pe::new(p)?),
-        Step::Flush(p) => Event::Flush(Pe::new(p)?),
-        Step::Deliver(p) => Event::Deliver(Pe::new(p)?),
-        Step::Act(p) => Event::Act(Pe::new(p)?),
-        Step::Report(p) => Event::Report(Pe::new(p)?),
-        Step::Decide => Event::Decide,
-        Step::Depart(p, e) => Event::Depart(Pe::new(p)?, Index::new(e)?),
-        Step::Resume(p, e) => Event::Resume(Pe::new(p)?, Index::new(e)?),
+        ScriptEvent::Start(p, e) => Event::Start(Pe::new(p)?, Index::new(e)?),
+        ScriptEvent::Look(p) => Event::Look(Pe::new(p)?),
+        ScriptEvent::Flush(p) => Event::Flush(Pe::new(p)?),
+        ScriptEvent::Deliver(p) => Event::Deliver(Pe::new(p)?),
+        ScriptEvent::Act(p) => Event::Act(Pe::new(p)?),
+        ScriptEvent::Report(p) => Event::Report(Pe::new(p)?),
+        ScriptEvent::Decide => Event::Decide,
+        ScriptEvent::Depart(p, e) => Event::Depart(Pe::new(p)?, Index::new(e)?),
+        ScriptEvent::Resume(p, e) => Event::Resume(Pe::new(p)?, Index::new(e)?),
     };
     Some(event)
 }
@@ -76,24 +76,24 @@ fn letter(p: u32, number: u32) -> Option<LetterId> {
 }
 
 // The trace entry with these numbers, or `None` where they are of a refusal, or past a limit.
-fn entry(told: Told) -> Option<TraceEntry> {
+fn entry(told: ScriptEntry) -> Option<TraceEntry> {
     let entry = match told {
-        Told::Posted(p, k, e) => TraceEntry::Posted(letter(p, k)?, Index::new(e)?),
-        Told::Executed(p, k, e) => TraceEntry::Executed(letter(p, k)?, Index::new(e)?),
-        Told::Resumed(e, r) => TraceEntry::Resumed(Index::new(e)?, Round::new(r)?),
-        Told::Shelved(p, k) => TraceEntry::Shelved(letter(p, k)?),
-        Told::Forwarded(p, k) => TraceEntry::Forwarded(letter(p, k)?),
-        Told::Installed(e) => TraceEntry::Installed(Index::new(e)?),
-        Told::Synced(e, r) => TraceEntry::Synced(Index::new(e)?, Round::new(r)?),
-        Told::Decided(r) => TraceEntry::Decided(Round::new(r)?),
-        Told::Departed(e) => TraceEntry::Departed(Index::new(e)?),
-        Told::Refused(_) => return None,
+        ScriptEntry::Posted(p, k, e) => TraceEntry::Posted(letter(p, k)?, Index::new(e)?),
+        ScriptEntry::Executed(p, k, e) => TraceEntry::Executed(letter(p, k)?, Index::new(e)?),
+        ScriptEntry::Resumed(e, r) => TraceEntry::Resumed(Index::new(e)?, Round::new(r)?),
+        ScriptEntry::Shelved(p, k) => TraceEntry::Shelved(letter(p, k)?),
+        ScriptEntry::Forwarded(p, k) => TraceEntry::Forwarded(letter(p, k)?),
+        ScriptEntry::Installed(e) => TraceEntry::Installed(Index::new(e)?),
+        ScriptEntry::Synced(e, r) => TraceEntry::Synced(Index::new(e)?, Round::new(r)?),
+        ScriptEntry::Decided(r) => TraceEntry::Decided(Round::new(r)?),
+        ScriptEntry::Departed(e) => TraceEntry::Departed(Index::new(e)?),
+        ScriptEntry::Refused(_) => return None,
     };
     Some(entry)
 }
 
 /// Whether these are exactly the trace entries that are to be told.
-pub fn are_told(found: &[TraceEntry], want: &[Told]) -> bool {
+pub fn are_told(found: &[TraceEntry], want: &[ScriptEntry]) -> bool {
     let mut same = found.len() == want.len();
     for (one, told) in found.iter().zip(want.iter()) {
         same &= entry(*told) == Some(*one);
@@ -102,9 +102,9 @@ pub fn are_told(found: &[TraceEntry], want: &[Told]) -> bool {
 }
 
 /// Whether only this refusal is told.
-pub fn is_refusal(told: &[Told], error: StepError) -> bool {
+pub fn is_refusal(told: &[ScriptEntry], error: StepError) -> bool {
     match told {
-        [Told::Refused(want)] => *want == error,
+        [ScriptEntry::Refused(want)] => *want == error,
         _ => false,
     }
 }
