@@ -4,7 +4,7 @@ use Rattle.sync_board.specs.Refusals.{RefusesDecision}
 use Rattle.sync_board.specs.declared.error.BoardError.{BoardError}
 use Rattle.lb_database.specs.Measuring.{Measured, elements}
 
--- what a board of so many elements had measured when it refused a decision with this error
+-- what a board of this many elements had measured when it refused a decision with this error
 pub record IsRefusedDecision (n : ℕ) (error : BoardError) : Type 0 where
   pub measured : Measured
   pub counted : elements measured ≡ n

@@ -1,3 +1,5 @@
+//! The lock around the board of a run. Every thread of the run calls the board through it.
+
 ghost use Rattle.std.specs.Prelude.{◌≡◌, ◌<◌, ◌≤◌, IfErr, IfSome};
 ghost use Rattle.lb_database.specs.Measuring.{elements};
 ghost use Rattle.sync_board.specs.Boards.{IsBoard};

@@ -1,3 +1,5 @@
+//! A type that names the size of a run's board and its strategy, so that each thread knows both.
+
 ghost use Rattle.std.specs.Prelude.{ℕ};
 ghost use Rattle.sync_board.specs.declared.strategy.Strategy.{Strategy};
 

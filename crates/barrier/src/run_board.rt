@@ -1,3 +1,5 @@
+//! The board of a run, of the size that its type names: what the lock of the barrier guards.
+
 ghost use Rattle.std.specs.Prelude.{◌≡◌, ℕ, ◌<◌, ◌≤◌, ◌↔◌, IfOk, IfErr, IfSome, IsTrue, IsFalse, IsSome, None, MatchResult, OnOk, OnErr};
 ghost use Rattle.std.specs.Option.{option_copied};
 ghost use Rattle.lb_database.specs.Measuring.{IsComplete, elements};

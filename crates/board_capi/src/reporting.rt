@@ -38,7 +38,7 @@ pub extern "C" fn tezgumi_board_report(
     status(handle.report(alloc, report))
 }
 
-/// Takes it that an element has finished. A second time changes nothing.
+/// Marks an element as finished. Idempotent.
 #[unsafe(no_mangle)]
 pub extern "C" fn tezgumi_board_finish(alloc: Global, handle: &mut BoardHandle, element: u32) -> i32
     ensures status { IsStatus ((handle.old.is_open ≡ true) × (element < elements handle.old.board.database))

@@ -80,7 +80,7 @@ RefusesDecision is b Worn = (is ≡ true) × IsComplete b.database × (b.databas
 RefusesDecision is b OutOfMemory = (is ≡ true) × HasNextRound b.database
 RefusesDecision is b _ = ⊥
 
--- lists of so many entries have room for the cuts and the names of a decision
+-- lists of this many entries have room for the cuts and the names of a decision
 abbrev pub HaveRoom : BoardView → ℕ → ℕ → Type 0
 HaveRoom b cuts names = (b.pes + 1 ≤ cuts) × (b.pes ≤ names)
 
@@ -102,7 +102,7 @@ RefusesDump is b round Undecided = (is ≡ true) × (kept_of b.rounds round ≡ 
 RefusesDump is b round OutOfMemory = (is ≡ true) × IsSome (kept_of b.rounds round)
 RefusesDump is b round _ = ⊥
 
--- lists of so many entries have room for what was reported of each element
+-- lists of this many entries have room for what was reported of each element
 abbrev pub HaveRoomForAll : BoardView → ℕ → ℕ → ℕ → Type 0
 HaveRoomForAll b loads bytes places = (elements b.database ≤ loads) × (elements b.database ≤ bytes) × (elements b.database ≤ places)
 

@@ -52,7 +52,7 @@ impl BoardHandle {
         taken
     }
 
-    /// Takes it that an element has finished. A second time changes nothing.
+    /// Marks an element as finished. Idempotent.
     ///
     /// # Errors
     ///

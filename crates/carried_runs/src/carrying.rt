@@ -62,7 +62,7 @@ pub fn carry_on<
     }
 }
 
-// The same, for the chares that `H` names.
+// Carries a run on. `H` is the type that names the chares with which the run opened.
 fn carry_on_as<
     C: Chare<A> + Send,
     H: Openings<C> + RunStrategy + Send + Sync,

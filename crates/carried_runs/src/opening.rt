@@ -41,7 +41,7 @@ pub(crate) fn opened_again<C: Chare<A>, H: Openings<C> + RunStrategy, A: Allocat
     Ok((opened, homes))
 }
 
-// The same, from the parts of an outcome.
+// What the next run begins with, made from the parts of an outcome.
 fn opened_from<C: Chare<A>, H: Openings<C> + RunStrategy, A: Allocator + Copy>(
     alloc: A,
     config: &Config,

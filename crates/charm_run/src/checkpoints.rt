@@ -155,7 +155,7 @@ fn open_checkpoint<R: Files + AllocGlobal, E: Write, W: Write>(
     }
 }
 
-// The same run on the number of PEs that is asked for, if one is. A command line has no other than a run may have.
+// Moves the run to the number of PEs that was asked for, if one was. The command line has already checked that number.
 fn on_asked_pes(
     alloc: Global,
     checkpoint: Checkpoint<Global>,

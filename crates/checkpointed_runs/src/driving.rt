@@ -90,7 +90,7 @@ fn rounds_left<A: Allocator>(decided: &[DecidedRound], workload: &Workload<A>) -
     workload.rounds - decided.len() as u32
 }
 
-// The same, of a run with these parts.
+// Runs the rest of a checkpointed run, whose parts are given one by one.
 fn run_rest<
     T: Threads + Wait + Sync,
     W: Write,

@@ -1,13 +1,15 @@
+//! The report on a dump, from the bytes of a reader or a file to the bytes of a writer.
+
 ghost use Rattle.std.specs.Prelude.{◌≡◌, ℕ, All, List, Option, Some, IfOk, IfErr};
 ghost use Rattle.dump_report.specs.Reports.{EndsReport, IsFoundFault, IsNumber, IsReport};
 ghost use Rattle.dump_format.specs.declared.error.DumpError.TheVariants.{Read};
-ghost use Rattle.lb_replay.specs.declared.ended.SimEnd.TheVariants.{Dump};
+ghost use Rattle.lb_replay.specs.declared.ended.Ended.TheVariants.{Dump};
 
 use crate::dump_text::dump_text;
 use chain_refinement::Tolerance;
 use dump_format::DumpError;
 use lb_dump::read_from;
-use lb_replay::SimEnd;
+use lb_replay::Ended;
 use load_report::Style;
 use std::alloc::Allocator;
 use std::io::{self, Read, Write};
@@ -27,15 +29,15 @@ pub fn report_dump<A: Allocator + Copy, R: Read, W: Write>(
     procs: &[u32],
     tolerance: Option<Tolerance>,
     style: Style,
-) -> SimEnd
+) -> Ended
     requires procs { All IsNumber procs.now }
     ensures ends { EndsReport A (R.remaining reader.old) (R.remaining reader.new) style name.now procs.now tolerance (W.contents writer.old) (W.contents writer.new) result }
     ensures one_text { (bytes text other : List ℕ) → IsReport A (Some bytes) style name.now procs.now tolerance text
         → IsReport A (Some bytes) style name.now procs.now tolerance other → text ≡ other }
 {
     match report_text(alloc, reader, name, procs, tolerance, style) {
-        Ok(text) if write_out(writer, &text) => SimEnd::Printed,
-        Ok(_) => SimEnd::WriteFailed,
+        Ok(text) if write_out(writer, &text) => Ended::Printed,
+        Ok(_) => Ended::WriteFailed,
         Err(fault) => fault,
     }
 }
@@ -50,7 +52,7 @@ pub fn report_file<A: Allocator + Copy, R: Read + Drop, W: Write>(
     procs: &[u32],
     tolerance: Option<Tolerance>,
     style: Style,
-) -> (SimEnd, Option<io::Error>)
+) -> (Ended, Option<io::Error>)
     requires procs { All IsNumber procs.now }
     ensures opened { IfOk file (λ file. (rest : Option (List ℕ))
         × EndsReport A (R.remaining file) rest style name.now procs.now tolerance (W.contents writer.old) (W.contents writer.new) result.0) }
@@ -63,7 +65,7 @@ pub fn report_file<A: Allocator + Copy, R: Read + Drop, W: Write>(
             let ended = report_dump(alloc, &mut noted, writer, name, procs, tolerance, style);
             (ended, noted.failure())
         }
-        Err(reason) => (SimEnd::Dump(DumpError::Read), Some(reason)),
+        Err(reason) => (Ended::Dump(DumpError::Read), Some(reason)),
     }
 }
 
@@ -75,7 +77,7 @@ fn report_text<A: Allocator + Copy, R: Read>(
     procs: &[u32],
     tolerance: Option<Tolerance>,
     style: Style,
-) -> Result<Vec<u8, A>, SimEnd>
+) -> Result<Vec<u8, A>, Ended>
     requires { All IsNumber procs.now }
     ensures text { IfOk result (λ text. IsReport A (R.remaining reader.old) style name.now procs.now tolerance text.items) }
     ensures fault { IfErr result (IsFoundFault A (R.remaining reader.old) (R.remaining reader.new)) }
@@ -86,6 +88,6 @@ fn report_text<A: Allocator + Copy, R: Read>(
             drop(dump);
             text
         }
-        Err(fault) => Err(SimEnd::Dump(fault)),
+        Err(fault) => Err(Ended::Dump(fault)),
     }
 }

@@ -1,3 +1,5 @@
+//! The arguments of `lb_sim`, and how they are read.
+
 ghost use Rattle.std.specs.Prelude.{◌≡◌, ◌≤◌, ◌↔◌, ℕ, IfOk, IsTrue, Some, codes, is_some, pos, true};
 ghost use Rattle.std.specs.Option.{ForSome};
 ghost use Rattle.clap.specs.Built.{FitsChain, TakesValue};
@@ -10,7 +12,7 @@ ghost use Rattle.lb_replay.specs.CommandLine.{AsksAnyOrder, AsksCheck, AsksKeepO
 ghost use Rattle.lb_replay.specs.CommandLine.{program, tolerance_in};
 
 use crate::help::{ABOUT, HOW_TO};
-use crate::request::{Clash, SimOptions};
+use crate::request::{Asked, Clash};
 use chare_index::Limits;
 use clap::builder::ValueParser;
 use clap::{Arg, ArgMatches, Command, Error, value_parser};
@@ -71,9 +73,9 @@ fn line_of(clash: Clash) -> &'static str
 /// The arguments are not `[--procs P] [--tolerance T] [--keep-order] [--any-order] [--check] FILE` with a P of 1 to 256
 /// (`Limits::PES`) and a T of 0 to 1,000 (`Tolerance::MOST`), help or the version is asked for, or memory ran out. The error has
 /// the text to print; [`words_status`] is the status for it. Arguments that ask for a check and also for another of these, for an
-/// order that is kept or any order and for no tolerance, or for both orders, are no error here: [`SimOptions::task`] returns the
+/// order that is kept or any order and for no tolerance, or for both orders, are no error here: [`Asked::task`] returns the
 /// [`Clash`].
-pub fn asked<'a>(alloc: Global, words: &'a [&'a str]) -> Result<SimOptions<'a>, Error>
+pub fn asked<'a>(alloc: Global, words: &'a [&'a str]) -> Result<Asked<'a>, Error>
     ensures faults { FailsBy (fault_of program (texts words.now)) result }
     ensures file { IfOk result (λ asked. file_in (texts words.now) ≡ Some asked.file.now) }
     ensures procs { IfOk result (λ asked. (n : ℕ) → (asked.procs ≡ Some n) ↔ Spells (procs_in (texts words.now)) n) }
@@ -177,7 +179,7 @@ fn number_of_pes<'a>() -> ValueParser<'a>
 }
 
 // What the arguments ask for.
-fn found<'a>(matches: &ArgMatches<'a>) -> SimOptions<'a>
+fn found<'a>(matches: &ArgMatches<'a>) -> Asked<'a>
     requires named { is_some (first_value (found_of matches.now) (codes "file")) ≡ true }
     ensures file { first_value (found_of matches.now) (codes "file") ≡ Some result.file.now }
     ensures procs { (n : ℕ) → (result.procs ≡ Some n) ↔ Spells (one_text (found_of matches.now) (codes "procs")) n }
@@ -188,7 +190,7 @@ fn found<'a>(matches: &ArgMatches<'a>) -> SimOptions<'a>
     ensures some_pe { ForSome result.procs (λ p. 1 ≤ p) }
     ensures few_pes { ForSome result.procs (λ p. p ≤ Limits.PES) }
 {
-    SimOptions {
+    Asked {
         file: matches.get_str("file").unwrap(),
         procs: number_in(matches),
         tolerance: tolerance_in(matches),

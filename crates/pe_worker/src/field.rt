@@ -1,4 +1,4 @@
-//! What the workers of a run share.
+//! The shared state of the workers of a run.
 
 ghost use Rattle.std.specs.Prelude.{◌≡◌, ◌≤◌, IfOk, length};
 ghost use Rattle.sync_board.specs.Boards.{IsBoard};
@@ -162,7 +162,7 @@ impl<C: Chare<A>, H: Openings<C> + RunStrategy, J: RunBeginning<C>, A: Allocator
         Round::new(round)
     }
 
-    /// Tells that so many more letters were executed.
+    /// Tells that this many more letters were executed.
     pub(crate) fn tell_executed(&self, letters: u64) {
         self.executed.fetch_add(letters, SeqCst);
     }

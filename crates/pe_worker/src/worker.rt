@@ -497,7 +497,7 @@ fn arriving<C: Chare<A>, H: Openings<C> + RunStrategy, A: Allocator>(
     Some(element.index())
 }
 
-// Reports so many notes, or as many as the board takes, and returns whether it took one. The agenda has room for them.
+// Reports this many notes, or as many as the board takes, and returns whether it took one. The agenda has room for them.
 fn report_all<C: Chare<A>, H: Openings<C> + RunStrategy, J: RunBeginning<C>, A: Allocator + Copy>(
     seated: &mut SeatedPe<C, H, J, A>,
     agenda: &mut Agenda<OfRun<C, H>, A>,

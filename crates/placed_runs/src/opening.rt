@@ -49,7 +49,7 @@ pub fn placed_outcome<C: Chare<A>, A: Allocator + Copy>(
     outcome_as::<C, Brand, A>(alloc, pes, strategy, chares, places)
 }
 
-// The same, for the chares that `H` names.
+// Makes the outcome. `H` is the type that names the chares with which the run opened.
 fn outcome_as<C: Chare<A>, H: Openings<C>, A: Allocator + Copy>(
     alloc: A,
     pes: Pes,

@@ -48,7 +48,7 @@ fn many_workers_divide_a_full_array(rt: HostRuntime) {
     }
 }
 
-// Whether each of so many workers that divide these loads for two PEs passes at least this often, with its own number.
+// Whether each of this many workers that divide these loads for two PEs passes at least this often, with its own number.
 fn pass_so<R: Threads + Sync + Abort + AllocGlobal>(
     rt: &R,
     loads: &Loads,
@@ -85,7 +85,7 @@ fn divides_in_halves<R: Threads + Sync + Abort + AllocGlobal>(rt: &R, gate: &Mee
     same(division.cuts.as_slice(), &[0, 32_768, 65_536])
 }
 
-// Whether so many workers at this gate find the plan of the example.
+// Whether this many workers at this gate find the plan of the example.
 fn plans_example<R: Threads + Sync + Abort + AllocGlobal, G: Gate + Sync>(
     rt: &R,
     workers: u32,

@@ -3,7 +3,7 @@
 use crate::fixtures::{assert_for, worked};
 use dump_format::{Dump, Recorded};
 use lb_dump::decode;
-use lb_replay::{SimEnd, Way, simulate};
+use lb_replay::{Ended, simulate};
 use lb_snapshot::Snapshot;
 use lb_strategy::check;
 use std::alloc::Global;
@@ -54,8 +54,8 @@ const REPLAYED: &str = "step 1 procs 2 elements 4\n\
 fn is_replayed(rt: &impl AllocGlobal, dump: &[u8]) -> bool {
     let mut reader = dump;
     let mut told = Vec::new(rt.alloc());
-    let ended = simulate(rt.alloc(), &mut reader, &mut told, None, Way::Least);
-    ended == SimEnd::Printed && told.as_slice() == REPLAYED.as_bytes()
+    let ended = simulate(rt.alloc(), &mut reader, &mut told, None);
+    ended == Ended::Printed && told.as_slice() == REPLAYED.as_bytes()
 }
 
 #[test]

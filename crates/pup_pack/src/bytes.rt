@@ -1,3 +1,5 @@
+//! A list of bytes that packs.
+
 ghost use Rattle.std.specs.Prelude.{◌≡◌, ◌+◌, ◌<◌, ◌≤◌, ◌++◌, Err, length, OnErr, OnOk, vec_capacity, vec_len};
 ghost use Rattle.pup_pack.specs.Lists.{IsCounted, pack_bytes};
 ghost use Rattle.pup_pack.specs.Packing.{PackAnswer};

@@ -28,7 +28,7 @@ fn fills_and_empties<R: Wait, A: Allocator>(
     put && full && taken && empty
 }
 
-// The same in single attempts, with no other thread in the way.
+// Whether single attempts put and take so, with no other thread in the way.
 fn tries_so<A: Allocator>(post: &Post<char, A>, seat: &mut Seat<char, A>) -> bool
     requires own { seat.old.post ≡ post.now }
     requires known { 0 < pes post.now }

@@ -58,7 +58,7 @@ all_open f a (suc m) = (refl, all_open f (a + 1) m)
 opening_of : (A : Type 0) (run : Run) (strategy : Strategy) → IsWorldOf {A = A} (opening_late run strategy) (opening_ranks run strategy)
 opening_of A run strategy = record { pes = all_open (λ (me : ℕ). opened run.pes run.n me) 0 run.pes; queues = refl; board = refl }
 
--- ---- a PE that owes more notes makes the same calls, but for that which says that a note is done
+-- ---- a PE that owes more notes makes the same calls, except for the one that says that a note is done
 
 pub split : (ns : List Note) → take 1 ns ++ drop 1 ns ≡ ns
 split [] = refl
@@ -72,7 +72,7 @@ module _ (run : Run) (h : PeView Stamp) (notes : List Note) (kept : Option ℕ) 
   abbrev pub pe_owing : PeView Stamp
   pe_owing = owing h notes kept
 
-  -- the same call, from what the handle has
+  -- a call that a PE with fewer notes makes too, from what the handle has
   pub record IsSameCall {A : Type 0} (p : ℕ) (b : BoardState A) (words : List ℕ) (queues next : List (List Parcel)) (call : Call Stamp) : Type 0 where
     pub is_ready : IsReady pe_owing call
     pub follows : Follows p pe_owing b words call

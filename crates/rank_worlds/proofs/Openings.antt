@@ -48,7 +48,7 @@ module _ (e : ℕ) (chare : Stamp) where
         (sym (others a (λ same. omega (arith, same, at))))
         ∙ ap (λ (v : List (PeView Stamp)). h a ∷ v) (edited (a + 1) m i (omega (arith, at)))
 
--- ---- a PE as it opens, once the first so many elements were asked after
+-- ---- a PE as it opens, once the first this many elements were asked after
 
 pub either : (P : PeView Stamp → Type 0) (b : Bool) (x y : PeView Stamp) → P x → P y → P (if b then x else y)
 either P true x y px py = px

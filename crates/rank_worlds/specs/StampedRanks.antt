@@ -22,7 +22,7 @@ pub record StampedRanks (A : Type 0) : Type 0 where
   pub known : ℕ → ℕ
   pub board : BoardState A
 
--- the same without rounds
+-- the ranks without the rounds that they know
 abbrev pub without_rounds : {A : Type 0} → StampedRanks A → Ranks A
 without_rounds s = record { ranks = s.ranks; queues = map (map (λ x. x.1)) s.queues; board = s.board }
 

@@ -3,7 +3,7 @@
 use crate::fixtures::same;
 use crate::rows::assert_for;
 use chain_refinement::Tolerance;
-use lb_replay::{Clash, SimOptions, asked, refuse_both};
+use lb_replay::{Asked, Clash, asked, refuse_both};
 use program_words::words_status;
 use std::alloc::Global;
 
@@ -19,7 +19,7 @@ type Asking = (
 );
 
 // Whether a row is what is asked for, which can be done or not.
-fn is_row(asked: &SimOptions<'_>, row: &Asking) -> bool {
+fn is_row(asked: &Asked<'_>, row: &Asking) -> bool {
     let &(_, file, procs, thousandths, flags, clash) = row;
     asked.file == file
         && asked.procs == procs

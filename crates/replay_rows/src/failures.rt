@@ -5,7 +5,7 @@ ghost use Rattle.lb_replay.specs.Requests.{MayRun};
 use crate::fixtures::{REPLAY, RIGHT, TEXT, ended, ends, has, is_end};
 use crate::rows::assert_for;
 use dump_format::DumpError;
-use lb_replay::{SimEnd, Task};
+use lb_replay::{Ended, Task};
 use row_fixtures::{EXAMPLE_DUMP, RECORDED_DUMP, Sink, Source};
 use std::io::{self, ErrorKind, Write};
 use std::process::Abort;
@@ -28,7 +28,7 @@ fn task(row: &Work) -> Task
 // what is written.
 fn ends_at_failure(rt: &impl AllocGlobal, row: &Work, bytes: usize) -> bool {
     let mut reader = Source::new(row.1, 1, Some((bytes, ErrorKind::Interrupted)));
-    let end = SimEnd::Dump(DumpError::Read);
+    let end = Ended::Dump(DumpError::Read);
     let found = ends(rt, task(row), &mut reader, "dump: read failed\n", end);
     found && reader.calls == bytes.saturating_add(1)
 }
@@ -54,7 +54,7 @@ fn ends_at_write(rt: &impl AllocGlobal, row: &Work, call: usize, error: Option<E
     let taken = row.3.saturating_mul(call);
     let held = has(&writer, call.saturating_add(1), row.2, taken);
     drop(writer);
-    held && ended == SimEnd::WriteFailed
+    held && ended == Ended::WriteFailed
 }
 
 // It has to end so at each call, at an error and where no byte is taken.
@@ -67,7 +67,7 @@ fn expect_end_at_write(rt: &(impl Abort + AllocGlobal), row: &Work) {
 }
 
 // Whether a writer that would fail after the last call has the whole text.
-fn writes_all(rt: &impl AllocGlobal, row: &Work, end: SimEnd) -> bool {
+fn writes_all(rt: &impl AllocGlobal, row: &Work, end: Ended) -> bool {
     let mut writer = Sink::new(rt, row.3, row.4, Some(ErrorKind::Interrupted));
     let mut reader = row.1;
     let ended = ended(rt.alloc(), task(row), &mut reader, &mut writer);
@@ -78,17 +78,17 @@ fn writes_all(rt: &impl AllocGlobal, row: &Work, end: SimEnd) -> bool {
 
 #[test]
 fn a_writer_that_fails_at_each_call(rt: HostRuntime) {
-    const ROWS: [(Work, SimEnd); 5] = [
-        ((false, &EXAMPLE_DUMP, TEXT, 8, 14), SimEnd::Printed),
-        ((false, &EXAMPLE_DUMP, TEXT, 1, 110), SimEnd::Printed),
-        ((true, &RECORDED_DUMP, RIGHT, 1, 10), SimEnd::Printed),
+    const ROWS: [(Work, Ended); 5] = [
+        ((false, &EXAMPLE_DUMP, TEXT, 8, 14), Ended::Printed),
+        ((false, &EXAMPLE_DUMP, TEXT, 1, 110), Ended::Printed),
+        ((true, &RECORDED_DUMP, RIGHT, 1, 10), Ended::Printed),
         (
             (false, b"LBD3", "dump: not LBD1 or LBD2\n", 1, 23),
-            SimEnd::Dump(DumpError::Magic),
+            Ended::Dump(DumpError::Magic),
         ),
         (
             (true, &EXAMPLE_DUMP, "check: no decision\n", 1, 19),
-            SimEnd::NoDecision,
+            Ended::NoDecision,
         ),
     ];
     for row in &ROWS {
@@ -132,7 +132,7 @@ impl Write for Held {
 }
 
 // Whether a replay of the example has this end, where such a writer passes this text on.
-fn gives(rt: &impl AllocGlobal, fails: bool, end: SimEnd, text: &str) -> bool {
+fn gives(rt: &impl AllocGlobal, fails: bool, end: Ended, text: &str) -> bool {
     let mut writer = Held::new(rt, fails);
     let mut reader = EXAMPLE_DUMP.as_slice();
     let ended = ended(rt.alloc(), REPLAY, &mut reader, &mut writer);
@@ -143,7 +143,7 @@ fn gives(rt: &impl AllocGlobal, fails: bool, end: SimEnd, text: &str) -> bool {
 
 #[test]
 fn what_was_written_is_flushed(rt: HostRuntime) {
-    assert_for(&rt, gives(&rt, false, SimEnd::Printed, TEXT), "flushed");
-    let fails = gives(&rt, true, SimEnd::WriteFailed, "");
+    assert_for(&rt, gives(&rt, false, Ended::Printed, TEXT), "flushed");
+    let fails = gives(&rt, true, Ended::WriteFailed, "");
     assert_for(&rt, fails, "the flush fails");
 }

@@ -2,7 +2,7 @@
 
 ghost use Rattle.lb_replay.specs.Requests.{MayRun};
 
-use lb_replay::{SimEnd, Task, Way, simulate, verify};
+use lb_replay::{Ended, Task, Way, simulate, verify};
 use row_fixtures::{Sink, Source};
 use std::alloc::Global;
 use std::io::{Read, Write};
@@ -40,7 +40,7 @@ pub(crate) fn ended<R: Read, W: Write>(
     task: Task,
     reader: &mut R,
     writer: &mut W,
-) -> SimEnd
+) -> Ended
     requires { MayRun task }
 {
     match task {
@@ -64,7 +64,7 @@ pub(crate) fn same(written: &[u8], text: &str) -> bool {
 }
 
 /// Whether a replay or a check, by how it ended and the bytes that it wrote, has this end and this text.
-pub(crate) fn is_end(found: SimEnd, written: &[u8], ended: SimEnd, text: &str) -> bool {
+pub(crate) fn is_end(found: Ended, written: &[u8], ended: Ended, text: &str) -> bool {
     found == ended && same(written, text)
 }
 
@@ -74,7 +74,7 @@ pub(crate) fn ends<R: Read>(
     task: Task,
     reader: &mut R,
     text: &str,
-    end: SimEnd,
+    end: Ended,
 ) -> bool
     requires { MayRun task }
 {
@@ -86,11 +86,11 @@ pub(crate) fn ends<R: Read>(
 }
 
 /// Whether a replay of these bytes, seven at a time, writes this text and has this end.
-pub(crate) fn replays(rt: &impl AllocGlobal, bytes: &[u8], text: &str, end: SimEnd) -> bool {
+pub(crate) fn replays(rt: &impl AllocGlobal, bytes: &[u8], text: &str, end: Ended) -> bool {
     ends(rt, REPLAY, &mut Source::new(bytes, 7, None), text, end)
 }
 
 /// Whether a check of these bytes, seven at a time, writes this line and has this end.
-pub(crate) fn checks(rt: &impl AllocGlobal, bytes: &[u8], line: &str, end: SimEnd) -> bool {
+pub(crate) fn checks(rt: &impl AllocGlobal, bytes: &[u8], line: &str, end: Ended) -> bool {
     ends(rt, Task::Check, &mut Source::new(bytes, 7, None), line, end)
 }

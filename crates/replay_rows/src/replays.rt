@@ -4,24 +4,24 @@ use crate::fixtures::{ON_ONE, RIGHT, TEXT, checks, ends, replays};
 use crate::rows::assert_for;
 use dump_format::DumpError;
 use lb_certificates::Flaw;
-use lb_replay::{SimEnd, Task};
+use lb_replay::{Ended, Task};
 use row_fixtures::{EXAMPLE_DUMP, RECORDED_DUMP};
 use std::alloc::{AllocError, Allocator};
 use std::process::Abort;
 
 #[test]
 fn the_example_and_its_decision(rt: HostRuntime) {
-    let printed = replays(&rt, &EXAMPLE_DUMP, TEXT, SimEnd::Printed);
+    let printed = replays(&rt, &EXAMPLE_DUMP, TEXT, Ended::Printed);
     assert_for(&rt, printed, TEXT);
-    let printed = replays(&rt, &RECORDED_DUMP, TEXT, SimEnd::Printed);
+    let printed = replays(&rt, &RECORDED_DUMP, TEXT, Ended::Printed);
     assert_for(&rt, printed, "a dump with a decision");
     assert_for(
         &rt,
-        checks(&rt, &RECORDED_DUMP, RIGHT, SimEnd::Printed),
+        checks(&rt, &RECORDED_DUMP, RIGHT, Ended::Printed),
         RIGHT,
     );
     let none = "check: no decision\n";
-    let checked = checks(&rt, &EXAMPLE_DUMP, none, SimEnd::NoDecision);
+    let checked = checks(&rt, &EXAMPLE_DUMP, none, Ended::NoDecision);
     assert_for(&rt, checked, none);
 }
 
@@ -31,10 +31,10 @@ fn no_elements_and_one_block(rt: HostRuntime) {
     let text = "step 0 procs 3 elements 0\nbottleneck 0\nfence zero\n\
         block 0 0..0 load 0 pe -\nblock 1 0..0 load 0 pe -\nblock 2 0..0 load 0 pe -\n\
         moved 0\n";
-    assert_for(&rt, replays(&rt, empty, text, SimEnd::Printed), text);
+    assert_for(&rt, replays(&rt, empty, text, Ended::Printed), text);
     let mut example = EXAMPLE_DUMP.as_slice();
     let task = Task::Replay(Some(1));
-    let printed = ends(&rt, task, &mut example, ON_ONE, SimEnd::Printed);
+    let printed = ends(&rt, task, &mut example, ON_ONE, Ended::Printed);
     assert_for(&rt, printed, ON_ONE);
 }
 
@@ -68,9 +68,9 @@ const ONE_OF_FOUR: &str = "step 1 procs 2 elements 4\n\
 
 #[test]
 fn the_first_of_two_namings_and_one_of_four_elements(rt: HostRuntime) {
-    let printed = replays(&rt, &TWO, FIRST_OF_TWO, SimEnd::Printed);
+    let printed = replays(&rt, &TWO, FIRST_OF_TWO, Ended::Printed);
     assert_for(&rt, printed, FIRST_OF_TWO);
-    let printed = replays(&rt, &FOUR, ONE_OF_FOUR, SimEnd::Printed);
+    let printed = replays(&rt, &FOUR, ONE_OF_FOUR, Ended::Printed);
     assert_for(&rt, printed, ONE_OF_FOUR);
 }
 
@@ -93,13 +93,13 @@ fn is_checked(
     rt: &(impl Abort + AllocGlobal),
     changed: Result<Vec<u8>, AllocError>,
     line: &str,
-    end: SimEnd,
+    end: Ended,
 ) -> bool {
     let dump = changed.expect(rt, "out of memory");
     let checked = checks(rt, &dump, line, end);
     let replayed = match end {
-        SimEnd::Dump(_) => replays(rt, &dump, line, end),
-        _ => replays(rt, &dump, TEXT, SimEnd::Printed),
+        Ended::Dump(_) => replays(rt, &dump, line, end),
+        _ => replays(rt, &dump, TEXT, Ended::Printed),
     };
     drop(dump);
     checked && replayed
@@ -110,7 +110,7 @@ type Forged = (Change, &'static str, Flaw);
 
 fn is_forged(rt: &(impl Abort + AllocGlobal), row: &Forged) -> bool {
     let changed = change(rt.alloc(), &RECORDED_DUMP, &row.0);
-    is_checked(rt, changed, row.1, SimEnd::Flawed(row.2))
+    is_checked(rt, changed, row.1, Ended::Flawed(row.2))
 }
 
 #[test]
@@ -161,7 +161,7 @@ type Faulty = (&'static [u8], Change, &'static str, DumpError);
 
 fn is_faulty(rt: &(impl Abort + AllocGlobal), row: &Faulty) -> bool {
     let changed = change(rt.alloc(), row.0, &row.1);
-    is_checked(rt, changed, row.2, SimEnd::Dump(row.3))
+    is_checked(rt, changed, row.2, Ended::Dump(row.3))
 }
 
 #[test]

@@ -6,7 +6,7 @@ use crate::fixtures::{ON_ONE, REPLAY, RIGHT, TEXT, same};
 use crate::rows::assert_for;
 use dump_format::DumpError;
 use lb_certificates::Flaw;
-use lb_replay::{SimEnd, Task, run};
+use lb_replay::{Ended, Task, run};
 use lb_strategy::PlanError;
 use row_fixtures::{EXAMPLE_DUMP, RECORDED_DUMP, Source};
 use std::io::{self, ErrorKind, Read};
@@ -17,7 +17,7 @@ fn runs<R: Read + Drop>(
     task: Task,
     file: io::Result<R>,
     text: &str,
-    expected: (SimEnd, Option<ErrorKind>),
+    expected: (Ended, Option<ErrorKind>),
 ) -> bool
     requires { MayRun task }
 {
@@ -37,7 +37,7 @@ fn kind(reason: Option<io::Error>) -> Option<ErrorKind> {
 fn prints(rt: &impl AllocGlobal, task: Task, bytes: &[u8], text: &str) -> bool
     requires { MayRun task }
 {
-    runs(rt, task, Ok(bytes), text, (SimEnd::Printed, None))
+    runs(rt, task, Ok(bytes), text, (Ended::Printed, None))
 }
 
 #[test]
@@ -53,7 +53,7 @@ fn tells_missing(rt: &impl AllocGlobal, task: Task) -> bool
     requires { MayRun task }
 {
     let missing: io::Result<&[u8]> = Err(io::Error::from(ErrorKind::NotFound));
-    let end = (SimEnd::Dump(DumpError::Read), Some(ErrorKind::NotFound));
+    let end = (Ended::Dump(DumpError::Read), Some(ErrorKind::NotFound));
     runs(rt, task, missing, "dump: read failed\n", end)
 }
 
@@ -62,7 +62,7 @@ fn tells_failed(rt: &impl AllocGlobal, task: Task, dump: &[u8]) -> bool
     requires { MayRun task }
 {
     let failing = Ok(Source::new(dump, 20, Some((1, ErrorKind::Interrupted))));
-    let end = (SimEnd::Dump(DumpError::Read), Some(ErrorKind::Interrupted));
+    let end = (Ended::Dump(DumpError::Read), Some(ErrorKind::Interrupted));
     runs(rt, task, failing, "dump: read failed\n", end)
 }
 
@@ -80,15 +80,15 @@ fn a_run_hands_the_reason_on(rt: HostRuntime) {
 
 #[test]
 fn statuses(rt: HostRuntime) {
-    const ENDS: [(SimEnd, u8); 8] = [
-        (SimEnd::Printed, 0),
-        (SimEnd::Dump(DumpError::Magic), 3),
-        (SimEnd::Dump(DumpError::Read), 3),
-        (SimEnd::Dump(DumpError::OutOfMemory), 5),
-        (SimEnd::Plan(PlanError::OutOfMemory), 5),
-        (SimEnd::Flawed(Flaw::CutCount), 4),
-        (SimEnd::NoDecision, 4),
-        (SimEnd::WriteFailed, 5),
+    const ENDS: [(Ended, u8); 8] = [
+        (Ended::Printed, 0),
+        (Ended::Dump(DumpError::Magic), 3),
+        (Ended::Dump(DumpError::Read), 3),
+        (Ended::Dump(DumpError::OutOfMemory), 5),
+        (Ended::Plan(PlanError::OutOfMemory), 5),
+        (Ended::Flawed(Flaw::CutCount), 4),
+        (Ended::NoDecision, 4),
+        (Ended::WriteFailed, 5),
     ];
     for row in &ENDS {
         assert_for(&rt, row.0.status() == row.1, row.0);

@@ -20,7 +20,7 @@ module _ {A : Type 0} (b : BoardState A) (e home : ℕ) where
   GoesRight reached least (Resumed round pe ∷ marks) =
       ((least ≤ round) × IsResumption b e home round pe) × GoesRight reached (round + 1) marks
 
-  -- the same of each list by itself
+  -- right marks in three parts: how they go on, when they resume, and of which rounds they are
   abbrev Parts : ℕ → ℕ → List Mark → Type 0
   Parts reached least marks = GoesOn b e reached marks × Resumes least marks × All (IsResumptionMark b e home) marks
 

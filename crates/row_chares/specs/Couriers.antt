@@ -44,7 +44,7 @@ courier_step c me n (Resumption round) = record { state = c; effect = record { u
 abbrev pub MaySend : CourierView → ℕ → Type 0
 MaySend c n = (c.to < n) × (length c.body ≤ BODY_BYTES)
 
--- any other is refused, on a PE that has posted so many letters, with the first of these reasons
+-- any other is refused, on a PE that has posted this many letters, with the first of these reasons
 abbrev pub RefusesSend : CourierView → ℕ → ℕ → SendError → Type 0
 RefusesSend c n count Stranger = n ≤ c.to
 RefusesSend c n count TooLong = (c.to < n) × (BODY_BYTES < length c.body)

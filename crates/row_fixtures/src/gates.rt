@@ -1,3 +1,5 @@
+//! Gates that show which workers pass, and that two of them do so at the same time.
+
 use chare_index::Gate;
 use std::sync::atomic::{AtomicU64, Ordering};
 
@@ -36,7 +38,7 @@ impl CountingGate {
         }
     }
 
-    /// Whether each of so many workers, 0 to 4, has passed with its own number, as often as any other and at least `least` times, and
+    /// Whether each of this many workers, 0 to 4, has passed with its own number, as often as any other and at least `least` times, and
     /// nobody else has.
     pub fn counts_each(&self, workers: u32, least: u64) -> bool {
         let often = self.first.load(Ordering::SeqCst);

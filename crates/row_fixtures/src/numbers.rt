@@ -1,3 +1,5 @@
+//! PEs and rounds by their numbers.
+
 ghost use Rattle.std.specs.Prelude.{◌≡◌, ◌<◌, ◌≤◌};
 
 use chare_index::{Pe, Round};

@@ -1,3 +1,5 @@
+//! Builds a dump row by row.
+
 ghost use Rattle.std.specs.Prelude.{◌≡◌, ◌++◌, OnErr, OnOk};
 ghost use Rattle.row_fixtures.specs.Rows.{row};
 

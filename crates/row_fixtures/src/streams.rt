@@ -1,3 +1,5 @@
+//! A reader and a writer that fail once, at a given call.
+
 ghost use Rattle.std.specs.Prelude.{◌≡◌, []};
 
 use std::io::{self, Error, ErrorKind, Read, Write};

@@ -1,3 +1,5 @@
+//! The worked example of three elements on two PEs, with its dumps.
+
 ghost use Rattle.std.specs.Prelude.{◌≡◌, ◌↔◌, IfOk, IsTrue};
 ghost use Rattle.row_fixtures.specs.Worked.{three_elements, three_sizes};
 

@@ -33,7 +33,7 @@ module _ {C : Type 0} (step : Step C) (pack : C → List ℕ) (F : ℕ → Eleme
     pub packs : (e : ℕ) (el : ElementView C) → F e el → K (packed pack el)
     pub unpacks : (p : PackedView) (chare : C) → K p → F p.index (unpacked p chare)
 
--- the same of a parcel, of all that a PE has, and of all that a world has
+-- what is to be kept of a parcel, of all that a PE has, and of all that a world has
 abbrev pub ParcelKept : (PackedView → Type 0) → Parcel → Type 0
 ParcelKept K (Letter l) = Unit {0}
 ParcelKept K (Element p) = K p

@@ -43,7 +43,7 @@ module _ {C A E : Type 0} (step : Step C) (fits : C → Type 0) (pack : C → Li
 
 module _ {C A : Type 0} (step : Step C) (fits : C → Type 0) (pack : C → List ℕ) (unpack : List ℕ → Result (C × ℕ) PupError)
     (opened : List C) (w w' : WorldView C A) (event : Event) (p : ℕ) where
-  -- the same of a step of one PE
+  -- the letters in places and journals add up to what was sent, after a step of one PE
   pub sent_at : {E : Type 0} (r : Result (List TraceEntry) E) → AreHistories step fits pack opened w → AreSent step opened w
       → IfOk r (λ reports. (w', reports) ≡ or_nothing w (enabled step pack unpack w event p)) → OnErr r (w' ≡ w) → AreSent step opened w'
   sent_at (Ok reports) are sent ok err =

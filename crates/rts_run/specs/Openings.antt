@@ -12,7 +12,7 @@ use Rattle.pe_state.specs.Pes.{Parcel}
 use Rattle.pe_worker.specs.Seated.{Beginning}
 use Rattle.run_account.specs.RunAccounts.{IsRunAccount, left_world}
 
--- A run of these chares on so many PEs begins so, whether it opens or is carried on: with PEs in order whose account holds, an empty
+-- A run of these chares on this many PEs begins so, whether it opens or is carried on: with PEs in order whose account holds, an empty
 -- queue for each of them, and all seats shared out among them.
 pub record IsBeginning {C : Type 0} (step : Step C) (count : ℕ) (chares : List C) (run : Beginning C) : Type 0 where
   pub account : IsRunAccount step chares (left_world run.starts [])

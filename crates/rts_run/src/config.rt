@@ -1,3 +1,5 @@
+//! The settings of a run.
+
 ghost use Rattle.std.specs.Prelude.{◌≡◌, ◌≤◌, IsTrue, ◌↔◌, MatchOption};
 ghost use Rattle.rts_run.specs.Configs.{IsFirstOutside, IsWithin, MayBegin};
 

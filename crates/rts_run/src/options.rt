@@ -1,3 +1,5 @@
+//! What a run may be asked for beside its numbers.
+
 ghost use Rattle.std.specs.Prelude.{◌≡◌};
 ghost use Rattle.rts_run.specs.Usual.{usual_options};
 

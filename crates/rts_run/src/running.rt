@@ -193,7 +193,7 @@ pub fn run_opened<
     run_named::<C, H, Brand, G, V, R, A>(rt, alloc, config, options, gate, watch, opened, homes)
 }
 
-// The same, under this name.
+// Runs what was opened. `J` is the type that names the beginning of the run.
 fn run_named<
     C: Chare<A> + Send,
     H: Openings<C> + RunStrategy + Send + Sync,

@@ -1,3 +1,5 @@
+//! The settings of a run on one thread.
+
 ghost use Rattle.std.specs.Prelude.{◌≡◌, MatchOption};
 ghost use Rattle.sync_board.specs.declared.strategy.Strategy.TheVariants.{Least};
 ghost use Rattle.rts_run.specs.declared.error.RunError.TheVariants.{Config};

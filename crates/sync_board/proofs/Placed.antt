@@ -43,7 +43,7 @@ refined_places loads sizes pes tolerance r decided =
       bounded = decided.bounded;
     }
 
--- the same of what was decided, where memory was not refused
+-- what was decided, where memory was not refused, places all elements
 pub all_placed : {A E : Type 0} (loads : List ℕ) (sizes : List (ℕ × ℕ)) (pes tolerance : ℕ) (r : Result (Refined A) E)
     → IfOk r (IsDecidedWithin loads sizes pes tolerance) → IfOk r (PlacesAll loads sizes pes)
 all_placed loads sizes pes tolerance (Ok r) decided = refined_places loads sizes pes tolerance r decided

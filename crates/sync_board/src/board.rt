@@ -342,7 +342,7 @@ fn decided<A: Allocator + Copy>(
     Ok((snapshot, decision))
 }
 
-// The same, decided by several workers.
+// Takes the snapshot of the present round, and decides it by several workers.
 #[tactic(auto, using(crate::proofs::Rounds::decided_by))]
 fn decided_with<R: Threads + Sync, G: Gate + Sync, A: Allocator + Copy>(
     rt: &R,

@@ -1,3 +1,5 @@
+//! Why a call of the board is refused.
+
 ghost use Rattle.std.specs.Prelude.{◌≡◌};
 ghost use Rattle.sync_board.specs.Refusals.{database_error_of};
 ghost use Rattle.sync_board.specs.declared.error.BoardError.TheVariants.{OutOfMemory};
@@ -41,7 +43,7 @@ impl From<AllocError> for BoardError {
     }
 }
 
-/// The same reason, with the same number.
+/// Keeps the reason and its number.
 impl From<DbError> for BoardError {
     ghost from_gives = { λ error e. database_error_of e ≡ error };
 

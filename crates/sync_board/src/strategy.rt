@@ -56,7 +56,7 @@ impl Strategy {
         }
     }
 
-    // The same, with the least division found by several workers.
+    // Decides as `decide` does. Several workers find the least division.
     pub(crate) fn decide_with<R: Threads + Sync, G: Gate + Sync, A: Allocator + Copy, B: Allocator>(
         self,
         rt: &R,
@@ -99,7 +99,7 @@ fn planned<A: Allocator + Copy, B: Allocator>(
     }
 }
 
-// The same, with the division found by several workers.
+// The plan of a snapshot. Several workers find the division.
 #[tactic(auto, using(crate::proofs::Placed::planned_places))]
 fn planned_with<R: Threads + Sync, G: Gate + Sync, A: Allocator + Copy, B: Allocator>(
     rt: &R,

@@ -1,3 +1,5 @@
+//! Runs a workload over threads, from the bytes of a reader to the text on a writer.
+
 ghost use Rattle.std.specs.Prelude.{◌≡◌, ◌≤◌, ◌⊎◌, ℕ, List, Option, None, Some, IfOk, IfErr};
 ghost use Rattle.workload.specs.Text.{IsWithin};
 ghost use Rattle.workload_run.specs.Driving.{EndsDrive, IsLeftBy, IsOfWorkload, ReportsUnread};

@@ -3,6 +3,7 @@
 //! - [`drive`]: from the bytes of a reader to the bytes of a writer; [`drive_file`]: the same from a file, observed by an
 //!   [`Onlooker`].
 //! - [`Driven`]: the result: how it [`RunEnd`], the status for that, and the rounds.
+//! - [`Workload`] and [`WorkError`], from `workload`, and [`Tally`], from `tally`: what is read and run.
 //! - [`write_round`]: the dump of a round, in a [`DumpFormat`]; [`write_dumps`]: that of each round, to a file of its own of
 //!   some [`DumpFiles`]; [`write_asked`]: the same where it is asked for, with the status of the whole; [`EarlyDumps`] and
 //!   [`finish_dumped`]: the same for dumps that are written as the run pauses after each round, by [`write_later`].
@@ -55,4 +56,6 @@ pub use finishing::{finish_dumped, write_asked};
 pub use onlooker::Onlooker;
 pub use round_dump::{DumpFormat, write_round};
 pub use tallies::tallies_of;
+pub use tally::Tally;
 pub use telling::{report_fault, report_memory, report_text, tell_outcome};
+pub use workload::{WorkError, Workload};

@@ -60,7 +60,7 @@ fn take_back<C: Chare<A>, A: Allocator>(
     Ok(())
 }
 
-// The address again: this PE where it names none of so many.
+// Keeps the address if it is one of the PEs of the run, and otherwise takes this PE.
 fn address_again(address: Option<Pe>, pes: u32, me: Pe) -> Option<Pe>
     ensures value { result ≡ address_again pes me address }
 {
