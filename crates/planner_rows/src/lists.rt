@@ -12,7 +12,7 @@ pub(crate) fn assert_for<R: Debug + Copy>(rt: &impl Abort, holds: bool, row: R)
     assert!(rt; holds, "{row:?}");
 }
 
-/// The same items in a list.
+/// A list of these items.
 pub(crate) fn list<T: Copy>(rt: &(impl Abort + AllocGlobal), items: &[T]) -> Vec<T> {
     Vec::from_slice(rt.alloc(), items).expect(rt, "out of memory")
 }

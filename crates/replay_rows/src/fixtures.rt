@@ -2,7 +2,7 @@
 
 ghost use Rattle.lb_replay.specs.Requests.{MayRun};
 
-use lb_replay::{Ended, Task, Way, simulate, verify};
+use lb_replay::{Ended, Task, Way, simulate, simulate_by, verify};
 use row_fixtures::{Sink, Source};
 use std::alloc::Global;
 use std::io::{Read, Write};
@@ -44,15 +44,15 @@ pub(crate) fn ended<R: Read, W: Write>(
     requires { MayRun task }
 {
     match task {
-        Task::Replay(procs) => simulate(alloc, reader, writer, procs, Way::Least),
+        Task::Replay(procs) => simulate(alloc, reader, writer, procs),
         Task::Refine(procs, tolerance) => {
-            simulate(alloc, reader, writer, procs, Way::Within(tolerance))
+            simulate_by(alloc, reader, writer, procs, Way::Within(tolerance))
         }
         Task::RefineInOrder(procs, tolerance) => {
-            simulate(alloc, reader, writer, procs, Way::InOrder(tolerance))
+            simulate_by(alloc, reader, writer, procs, Way::InOrder(tolerance))
         }
         Task::RefineInAnyOrder(procs, tolerance) => {
-            simulate(alloc, reader, writer, procs, Way::InAnyOrder(tolerance))
+            simulate_by(alloc, reader, writer, procs, Way::InAnyOrder(tolerance))
         }
         Task::Check => verify(alloc, reader, writer),
     }

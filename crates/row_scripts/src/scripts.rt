@@ -1,3 +1,5 @@
+//! The scripts of three tallies on three PEs.
+
 use crate::steps::Line;
 use crate::steps::ScriptEntry::{
     Decided, Departed, Executed, Forwarded, Installed, Posted, Resumed, Shelved, Synced,

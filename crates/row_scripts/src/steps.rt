@@ -1,3 +1,5 @@
+//! The events of a script and what is told of each, by their numbers.
+
 use chare_index::{Index, Pe, Round};
 use chares::{LetterId, TraceEntry};
 use pe_state::StepError;
