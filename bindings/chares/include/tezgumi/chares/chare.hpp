@@ -47,16 +47,23 @@ constexpr std::size_t longest_beside = std::size_t(1) << 30;
 constexpr std::uint64_t most_letters = std::uint64_t(1) << 20;
 using beside = std::shared_ptr<const pup::bytes>;
 
-// The number of a ticket, by which its body is kept.
+// The number of a ticket, by which its body is kept. Of a body that several letters name the number has this bit.
+constexpr std::uint64_t shared_bit = std::uint64_t(1) << 63;
 struct ticket {
     std::uint32_t pe = 0;
     std::uint64_t number = 0;
+    bool is_shared() const { return (number & shared_bit) != 0; }
     bool operator==(const ticket &other) const { return pe == other.pe && number == other.number; }
 };
 struct ticket_hash {
     std::size_t operator()(const ticket &t) const { return std::hash<std::uint64_t>()(t.number * 256 + t.pe); }
 };
-using besides = std::unordered_map<ticket, beside, ticket_hash>;
+// A long body, and how many letters here name it.
+struct kept_body {
+    beside bytes;
+    std::uint64_t letters = 0;
+};
+using besides = std::unordered_map<ticket, kept_body, ticket_hash>;
 
 inline ticket ticket_in(const std::uint8_t *body)
 {
@@ -103,25 +110,26 @@ public:
         shared.reset();
         if (body.size() <= longest_body) return;
         if (body.size() > longest_beside) throw run_fault(fault_kind::toolong, "a message has more than 2^30 bytes");
-        shared = std::make_shared<const pup::bytes>(body.begin() + 1, body.end());
-        body.resize(ticket_bytes);
-        body[0] = static_cast<std::uint8_t>(place | beside_bit);
-        pup::detail::write_word<std::uint32_t>(&body[1], pe);
+        put_beside();
     }
     // Sends what was packed.
     void post(std::uint32_t to)
     {
         if (to >= n) throw stranger("there is no element " + std::to_string(to) + " in an array of " + std::to_string(n));
-        if (letters == most_letters) throw run_fault(fault_kind::toolong, "a handler sends more than 2^20 letters");
         if (shared) {
-            const ticket made{pe, next_ticket};
-            pup::detail::write_word<std::uint64_t>(&body[5], next_ticket++);
-            tickets.push_back(made);
-            held->emplace(made, shared);
+            keep(0).letters = 1;
         }
-        receivers.push_back(to);
-        check(tezgumi_answer_send(&answer, to, body.data(), static_cast<std::uint32_t>(body.size())));
-        letters++;
+        add(to);
+    }
+    // Sends what was packed to all elements. A body that is long, for all together, is there once, and all these letters name it.
+    void post_all()
+    {
+        if (!shared && body.size() > copied_body && body.size() * n > copied_bodies) put_beside();
+        kept_body *const kept = shared ? &keep(shared_bit) : nullptr;
+        for (std::uint32_t to = 0; to < n; to++) {
+            add(to);
+            if (kept) kept->letters++;
+        }
     }
 
     const std::uint32_t pe, pes, n;
@@ -137,7 +145,34 @@ private:
     {
         if (status != TEZGUMI_PE_OK) throw std::bad_alloc();
     }
+    // The body that was packed goes beside its letters, which have a ticket in its place.
+    void put_beside()
+    {
+        shared = std::make_shared<const pup::bytes>(body.begin() + 1, body.end());
+        pup::bytes(body.begin(), body.begin() + 1).swap(body);
+        body.resize(ticket_bytes);
+        body[0] |= beside_bit;
+        pup::detail::write_word<std::uint32_t>(&body[1], pe);
+    }
+    // Gives it a ticket, which this handler made.
+    kept_body &keep(std::uint64_t bits)
+    {
+        const ticket made{pe, next_ticket | bits};
+        pup::detail::write_word<std::uint64_t>(&body[5], made.number);
+        tickets.push_back(made);
+        next_ticket++;
+        return held->emplace(made, kept_body{shared, 0}).first->second;
+    }
+    void add(std::uint32_t to)
+    {
+        if (letters == most_letters) throw run_fault(fault_kind::toolong, "a handler sends more than 2^20 letters");
+        receivers.push_back(to);
+        check(tezgumi_answer_send(&answer, to, body.data(), static_cast<std::uint32_t>(body.size())));
+        letters++;
+    }
 
+    // A broadcast copies bodies of so many bytes, and those that come to so many for all its letters.
+    static constexpr std::size_t copied_body = 64, copied_bodies = 64 * 1024;
     pup::bytes body;
     beside shared;
     std::vector<ticket> tickets;
@@ -211,7 +246,7 @@ public:
     template <class M> void send(const M &message) const
     {
         out_->pack(detail::place_of<M, typename C::messages>::value, message);
-        for (std::uint32_t i = 0; i < out_->n; i++) out_->post(i);
+        out_->post_all();
     }
 
     std::uint32_t me() const { return out_->me; } // the index of the element whose handler this is
