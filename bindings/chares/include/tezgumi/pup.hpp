@@ -322,7 +322,7 @@ template <class T> struct of<T, typename std::enable_if<std::is_enum<T>::value>:
 
 namespace detail {
 // Items that take no bytes: of so many the count alone may tell.
-constexpr std::size_t most_without_bytes = 65536;
+inline constexpr std::size_t most_without_bytes = 65536;
 
 inline void must_have_items(const er &p, std::size_t count)
 {

@@ -18,7 +18,7 @@ namespace detail {
 
 // An element keeps marks of its rounds, and takes them along. After so many rounds they would make its message too long, so
 // nothing moves any more.
-constexpr std::uint32_t last_balanced_round = 20000;
+inline constexpr std::uint32_t last_balanced_round = 20000;
 
 // The handle of a board, which is not copied. It keeps all rounds that it has decided, so it is opened anew after some of them.
 class board_handle {

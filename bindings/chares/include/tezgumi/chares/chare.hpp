@@ -72,11 +72,11 @@ template <class T, class... M> struct place_of<T, messages<M...>> {
 
 // A long body goes beside its letter, of which the body then is a ticket: this bit and the number of the message, the PE that
 // posted it, and a number of that PE.
-constexpr std::uint8_t beside_bit = 0x80;
-constexpr std::size_t ticket_bytes = 13, longest_body = TEZGUMI_PE_BODY_BYTES;
-constexpr std::size_t longest_beside = std::size_t(1) << 30;
+inline constexpr std::uint8_t beside_bit = 0x80;
+inline constexpr std::size_t ticket_bytes = 13, longest_body = TEZGUMI_PE_BODY_BYTES;
+inline constexpr std::size_t longest_beside = std::size_t(1) << 30;
 // So many letters an answer has at most.
-constexpr std::uint64_t most_letters = std::uint64_t(1) << 20;
+inline constexpr std::uint64_t most_letters = std::uint64_t(1) << 20;
 using beside = std::shared_ptr<const pup::bytes>;
 
 // The number of a ticket, by which its body is kept.
