@@ -483,15 +483,15 @@ private:
     // Runs what may throw, and throws on all ranks where one did.
     template <class F> void together(F &&run) const
     {
-        std::exception_ptr met;
+        std::exception_ptr thrown;
         try {
             run();
         } catch (...) {
-            met = std::current_exception();
+            thrown = std::current_exception();
         }
-        int good = met ? 0 : 1;
+        int good = thrown ? 0 : 1;
         MPI_Allreduce(MPI_IN_PLACE, &good, 1, MPI_INT, MPI_MIN, comm_);
-        if (met) std::rethrow_exception(met);
+        if (thrown) std::rethrow_exception(thrown);
         if (!good) throw std::runtime_error("another rank could not collect what its elements have");
     }
     // The bytes of all ranks, on rank 0. They go through a communicator of their own.
