@@ -50,11 +50,20 @@ public:
         return met.kind == fault_kind::dump ? 5 : 4;
     }
 
-    // What a function makes of each element, in the order of the indices.
+    // What a function makes of each element, in the order of the indices. After a fault some elements may be missing: collect_by_index says
+    // which are there.
     template <class F> auto collect(F &&of) const -> std::vector<typename std::decay<decltype(of(std::declval<const C &>()))>::type>
     {
         std::vector<typename std::decay<decltype(of(std::declval<const C &>()))>::type> all;
         for (const auto &one : elements) all.push_back(of(*one.second));
+        return all;
+    }
+    // The same, each with the index of its element.
+    template <class F>
+    auto collect_by_index(F &&of) const -> std::map<std::uint32_t, typename std::decay<decltype(of(std::declval<const C &>()))>::type>
+    {
+        std::map<std::uint32_t, typename std::decay<decltype(of(std::declval<const C &>()))>::type> all;
+        for (const auto &one : elements) all.emplace(one.first, of(*one.second));
         return all;
     }
 };
@@ -70,6 +79,7 @@ inline void must_fit(const settings &how, std::uint32_t pes, std::uint32_t n)
 {
     if (pes < 1 || pes > TEZGUMI_PE_PES) throw std::invalid_argument("there are 1 to " + std::to_string(TEZGUMI_PE_PES) + " PEs");
     if (n > TEZGUMI_PE_ELEMENTS) throw std::invalid_argument("there are at most " + std::to_string(TEZGUMI_PE_ELEMENTS) + " elements");
+    if (!how.within && how.tolerance != 0) throw std::invalid_argument("a tolerance is for rounds that are decided within it: set within");
     if (how.within && how.tolerance > TEZGUMI_BOARD_TOLERANCE) throw std::invalid_argument("a tolerance is at most 1000 thousandths");
     if (how.batch < 1 || how.batch > most_batch) throw std::invalid_argument("a batch has 1 to 2^30 bytes");
     if (how.window < 1 || how.window > most_window) throw std::invalid_argument("a window is 1 to 2^20 batches");

@@ -566,8 +566,20 @@ public:
     explicit outcome(MPI_Comm comm) : comm_(comm) {}
 
     // What a function makes of each element of all ranks, in the order of the indices; on rank 0, and nothing on others. All ranks call
-    // it. What the function makes is packed, so it has a pup. Where something throws on one rank it does so on all.
+    // it. What the function makes is packed, so it has a pup. Where something throws on one rank it does so on all. After a fault some
+    // elements may be missing: collect_by_index says which are there.
     template <class F> auto collect(F &&of) const -> std::vector<typename std::decay<decltype(of(std::declval<const C &>()))>::type>
+    {
+        std::vector<typename std::decay<decltype(of(std::declval<const C &>()))>::type> found;
+        auto by_index = collect_by_index(of);
+        together([&] {
+            for (auto &one : by_index) found.push_back(std::move(one.second));
+        });
+        return found;
+    }
+    // The same, each with the index of its element.
+    template <class F>
+    auto collect_by_index(F &&of) const -> std::map<std::uint32_t, typename std::decay<decltype(of(std::declval<const C &>()))>::type>
     {
         using value = typename std::decay<decltype(of(std::declval<const C &>()))>::type;
         std::vector<std::pair<std::uint32_t, value>> mine;
@@ -577,31 +589,29 @@ public:
             pup::pack(mine, bytes);
         });
         const std::vector<pup::bytes> all = gathered(bytes);
-        std::vector<value> found;
+        std::map<std::uint32_t, value> by_index;
         together([&] {
-            std::map<std::uint32_t, value> by_index;
             for (const pup::bytes &one : all) {
                 pup::unpack(mine, one.data(), one.size());
                 for (auto &item : mine) by_index.emplace(item.first, std::move(item.second));
             }
-            for (auto &one : by_index) found.push_back(std::move(one.second));
         });
-        return found;
+        return by_index;
     }
 
 private:
     // Runs what may throw, and throws on all ranks where one did.
     template <class F> void together(F &&run) const
     {
-        std::exception_ptr met;
+        std::exception_ptr thrown;
         try {
             run();
         } catch (...) {
-            met = std::current_exception();
+            thrown = std::current_exception();
         }
-        int good = met ? 0 : 1;
+        int good = thrown ? 0 : 1;
         MPI_Allreduce(MPI_IN_PLACE, &good, 1, MPI_INT, MPI_MIN, comm_);
-        if (met) std::rethrow_exception(met);
+        if (thrown) std::rethrow_exception(thrown);
         if (!good) throw std::runtime_error("another rank could not collect what its elements have");
     }
     // The bytes of all ranks, on rank 0. They go through a communicator of their own.

@@ -92,7 +92,7 @@ private:
 class board {
 public:
     board(const settings &how, std::uint32_t pes, std::uint32_t n)
-        : how_(how), pes_(pes), n_(n), handle_(how, pes, n), loads_(n), places_(n), reported_(n), finished_(n), given_(n)
+        : how_(how), pes_(pes), n_(n), handle_(how, pes, n), loads_(n), places_(n), reported_(n), finished_(n), given_(n), bytes_(n)
     {
         present_.cuts.resize(pes + 1);
         present_.names.resize(pes);
@@ -118,6 +118,7 @@ public:
         reported_count_++;
         loads_[of.index] = std::min(of.load, TEZGUMI_BOARD_LOAD);
         places_[of.index] = of.pe;
+        bytes_[of.index] = of.bytes;
         given_[of.index] = of.given;
     }
 
@@ -130,18 +131,22 @@ public:
     {
         decision next = present_;
         next.round = present_.round + 1;
-        next.result = contribution();
-        join(next.result);
+        next.results.clear();
+        join(next.results);
         report_ = round_report();
         report_.round = next.round;
-        report_.balanced = is_balanced();
+        report_.balanced = is_balanced() || how_.moves_all;
         report_.past_limit = how_.every != 0 && next.round >= last_balanced_round;
         weigh();
-        if (report_.balanced) balance(next);
+        if (how_.moves_all) {
+            move_all(next);
+        } else if (report_.balanced) {
+            balance(next);
+        }
         present_ = next;
         reported_count_ = 0;
         std::fill(reported_.begin(), reported_.end(), std::uint8_t(0));
-        std::fill(given_.begin(), given_.end(), contribution());
+        std::fill(given_.begin(), given_.end(), contributions());
         return present_;
     }
     // What is known of the round that was decided last.
@@ -199,18 +204,31 @@ private:
     bool is_balanced() const
     {
         const std::uint32_t round = present_.round + 1;
-        return how_.every != 0 && round % how_.every == 0 && round < last_balanced_round;
+        return !how_.moves_all && how_.every != 0 && round % how_.every == 0 && round < last_balanced_round;
     }
-    // Folds what the elements contributed, in the order of the indices.
-    void join(contribution &result) const
+    // Folds what the elements contributed, in the order of the indices. All contribute to a round as often, or it is a fault, which names
+    // one of each.
+    void join(contributions &results) const
     {
         for (std::uint32_t i = 0; i < n_; i++) {
-            try {
-                result.join(given_[i]);
-            } catch (const std::invalid_argument &met) {
-                throw run_fault(fault_kind::input, met.what(), i);
+            if (given_[i].size() != given_[0].size()) throw run_fault(fault_kind::input, uneven(i), i);
+            if (i == 0) results.resize(given_[0].size());
+            for (std::size_t k = 0; k < results.size(); k++) {
+                try {
+                    results[k].join(given_[i][k]);
+                } catch (const std::invalid_argument &met) {
+                    throw run_fault(fault_kind::input, met.what(), i);
+                }
             }
         }
+    }
+    std::string uneven(std::uint32_t i) const
+    {
+        const auto gave = [this](std::uint32_t of) {
+            const std::size_t count = given_[of].size();
+            return "element " + std::to_string(of) + " contributes " + (count == 0 ? "nothing" : count == 1 ? "a value" : std::to_string(count) + " values");
+        };
+        return gave(0) + " to round " + std::to_string(present_.round + 1) + ", and " + gave(i);
     }
     void weigh()
     {
@@ -221,6 +239,12 @@ private:
             report_.greatest = std::max(report_.greatest, load);
         }
         report_.bottleneck = report_.greatest;
+    }
+    // For tests: each block goes to the PE behind the one that it is on.
+    void move_all(decision &next)
+    {
+        for (std::uint32_t &pe : next.names) pe = (pe + 1) % pes_;
+        for (std::uint64_t bytes : bytes_) report_.moved += pes_ > 1 ? bytes : 0;
     }
     void balance(decision &next)
     {
@@ -244,7 +268,8 @@ private:
     std::vector<std::uint64_t> loads_;
     std::vector<std::uint32_t> places_;
     std::vector<std::uint8_t> reported_, finished_;
-    std::vector<contribution> given_;
+    std::vector<contributions> given_;
+    std::vector<std::uint64_t> bytes_; // that each element packs into
     std::uint32_t reported_count_ = 0;
     decision present_;
     round_report report_;

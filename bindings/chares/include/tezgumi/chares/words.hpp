@@ -50,7 +50,10 @@ struct settings {
     // Where a PE cannot get rid of so many bytes, 0 to 2^40, elements that go on adding to those for a slow PE are held back.
     std::size_t backlog = 16 * 1024 * 1024;
     std::uint32_t quiet = 20; // after so many milliseconds without anything to do it is asked whether all PEs have nothing
+    bool moves_all = false; // for tests: in each round every element goes to the next PE, and on one PE it is packed and unpacked anew
     std::function<void(const round_report &)> on_round; // after each round, on the PE or the rank that decides
+    // A handler ended by an exception, and its element was restored: which element, and the text of the exception. On the PE's own thread.
+    std::function<void(std::uint32_t element, const std::string &what)> on_failed;
     std::function<void(std::uint32_t pe)> on_turn; // before each turn of a PE, on its own thread; for tests
 };
 
@@ -124,7 +127,7 @@ public:
     contribution() = default;
     template <class T> contribution(fold how, const T *values, std::size_t count) : how_(how), kind_(kind_of<T>()), bits_(count)
     {
-        for (std::size_t i = 0; i < count; i++) bits_[i] = pup::detail::bits_of(wide(values[i]));
+        for (std::size_t i = 0; i < count; i++) bits_[i] = pup::detail::bits_of(static_cast<wide<T>>(values[i]));
     }
 
     bool is_there() const { return how_ != fold::none; }
@@ -144,10 +147,10 @@ public:
         for (std::size_t i = 0; i < bits_.size(); i++) bits_[i] = joined(bits_[i], other.bits_[i]);
     }
 
-    // The values, which are of this type. A sum of int or unsigned may be past that type: ask for 64 bits then.
+    // The values, as this type. A sum of int or unsigned may be past that type: ask for 64 bits then.
     template <class T> std::vector<T> values() const
     {
-        using wide_type = decltype(wide(T()));
+        using wide_type = wide<T>;
         if (!is_there() || kind_ != kind_of<T>()) throw std::logic_error("no contribution of this type came");
         std::vector<T> found(bits_.size());
         for (std::size_t i = 0; i < bits_.size(); i++) {
@@ -162,16 +165,13 @@ public:
     }
 
 private:
-    static double wide(double x) { return x; }
-    static std::int64_t wide(std::int64_t x) { return x; }
-    static std::uint64_t wide(std::uint64_t x) { return x; }
-    static std::int64_t wide(int x) { return x; }
-    static std::uint64_t wide(unsigned x) { return x; }
+    // Numbers are folded as a double, or in 64 bits.
+    template <class T>
+    using wide = typename std::conditional<std::is_floating_point<T>::value, double,
+        typename std::conditional<std::is_signed<T>::value, std::int64_t, std::uint64_t>::type>::type;
     template <class T> static constexpr kind kind_of()
     {
-        static_assert(std::is_same<T, double>::value || std::is_same<T, int>::value || std::is_same<T, unsigned>::value ||
-                          std::is_same<T, std::int64_t>::value || std::is_same<T, std::uint64_t>::value,
-            "contributions are of double, int, unsigned, std::int64_t or std::uint64_t");
+        static_assert(std::is_arithmetic<T>::value && sizeof(T) <= 8, "contributions are numbers of up to 64 bits: whole ones, float or double");
         if (std::is_floating_point<T>::value) return kind::f64;
         return std::is_signed<T>::value ? kind::i64 : kind::u64;
     }
@@ -214,6 +214,9 @@ private:
     std::vector<std::uint64_t> bits_;
 };
 
+// What an element contributes to a round, in order.
+using contributions = std::vector<contribution>;
+
 template <class T> contribution sum(T value) { return contribution(contribution::fold::sum, &value, 1); }
 template <class T> contribution least(T value) { return contribution(contribution::fold::least, &value, 1); }
 template <class T> contribution greatest(T value) { return contribution(contribution::fold::greatest, &value, 1); }
@@ -229,8 +232,8 @@ namespace detail {
 // A fault on its way to the end of a run.
 class run_fault : public std::runtime_error {
 public:
-    run_fault(fault_kind kind, const std::string &what, std::uint32_t element = fault::no_element)
-        : std::runtime_error(what), kind(kind), element(element)
+    run_fault(fault_kind of, const std::string &what, std::uint32_t met_by = fault::no_element)
+        : std::runtime_error(what), kind(of), element(met_by)
     {
     }
     fault_kind kind;
@@ -238,11 +241,11 @@ public:
 };
 
 // Tells a function of the program. What that throws is a fault of the run.
-template <class T> void tell(const std::function<void(T)> &of, const typename std::decay<T>::type &what)
+template <class... T> void tell(const std::function<void(T...)> &of, const typename std::decay<T>::type &...what)
 {
     if (!of) return;
     try {
-        of(what);
+        of(what...);
     } catch (const std::exception &met) {
         throw run_fault(fault_kind::handler, met.what());
     } catch (...) {
@@ -255,7 +258,7 @@ struct note {
     bool finished = false;
     std::uint32_t index = 0, round = 0, pe = 0;
     std::uint64_t load = 0, bytes = 0;
-    contribution given;
+    contributions given;
 
     void pup(pup::er &p) { p(finished, index, round, pe, load, bytes, given); }
 };
@@ -264,9 +267,9 @@ struct note {
 struct decision {
     std::uint32_t round = 0;
     std::vector<std::uint32_t> cuts, names;
-    contribution result;
+    contributions results;
 
-    void pup(pup::er &p) { p(round, cuts, names, result); }
+    void pup(pup::er &p) { p(round, cuts, names, results); }
 };
 
 } // namespace detail

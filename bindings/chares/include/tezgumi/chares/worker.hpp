@@ -20,7 +20,7 @@ public:
     {
         own_.from = me_;
         out_.held = &bodies_.all();
-        out_.result = &nothing_;
+        out_.results = &nothing_;
         for (std::uint32_t i = 0; i < n_; i++) places_[i] = opening_place(i);
     }
 
@@ -75,7 +75,7 @@ private:
         std::uint32_t round = 0, waits_for = 0;
         std::uint32_t adds_to = nobody; // the PE to which it went on adding letters, where those were over the limit
         std::uint64_t bytes = 0;
-        contribution given;
+        contributions given;
     };
 
     static constexpr int steps_a_turn = 64;
@@ -445,10 +445,10 @@ private:
     // ---- Handlers ----
 
     // Runs a handler, which makes its answer. Where it ends by an exception, the element is as it was, if it asks for that by `restores`,
-    // and the answer is empty; otherwise that is a fault.
+    // and the answer is empty; otherwise that is a fault. Want of memory is a fault in any case.
     template <class F> void handle(std::uint32_t index, slot &at, std::size_t kind, F &&handler)
     {
-        objects_.said_by(index) = said();
+        objects_.said_by(index).begin();
         if (objects_.restores()) {
             copy_.clear();
             pup::er p(copy_);
@@ -458,14 +458,16 @@ private:
         clock_.start(kind);
         try {
             guarded(index, handler);
-        } catch (const run_fault &) {
-            if (!objects_.restores()) throw;
+        } catch (const run_fault &met) {
+            if (!objects_.restores() || met.kind == fault_kind::memory) throw;
             pup::er p(copy_.data(), copy_.size());
             guarded(index, [&] { objects_.unpack(index, p); });
             out_.begin(index);
             failed_++;
+            tell(how_.on_failed, index, std::string(met.what()));
         }
-        const said &so = objects_.said_by(index);
+        said &so = objects_.said_by(index);
+        so.end(at.waits);
         const std::uint64_t measured = clock_.end(so.named), units = so.named ? so.units : measured;
         if (so.at_sync && !at.waits) guarded(index, [&] { at.bytes = objects_.size(index); });
         out_.end(units, so.at_sync, so.finished, at.bytes);
@@ -474,7 +476,7 @@ private:
     // The answer was taken: what the element said holds.
     void handled(std::uint32_t index, slot &at)
     {
-        const said &so = objects_.said_by(index);
+        said &so = objects_.said_by(index);
         out_.taken();
         posted_ += out_.letters;
         inside_ += out_.letters;
@@ -485,7 +487,8 @@ private:
         } else if (so.at_sync && !at.waits && !at.finished) {
             at.waits = true;
             at.waits_for = at.round + 1;
-            at.given = so.given;
+            at.given = std::move(so.given);
+            so.given.clear();
             waiting_.push_back(index);
         }
     }
@@ -524,7 +527,7 @@ private:
 
     void resume(std::uint32_t index, slot &at)
     {
-        out_.result = round_ == 0 ? &nothing_ : &result_;
+        out_.results = round_ == 0 ? &nothing_ : &results_;
         at.waits = false;
         at.round = round_;
         handle(index, at, work_clock::resumption, [&] { objects_.resume(index, round_); });
@@ -532,7 +535,7 @@ private:
         if (log_ && round_ == 0) log_->start(index);
         if (log_ && round_ != 0) log_->resume(index, round_);
         handled(index, at);
-        out_.result = &nothing_;
+        out_.results = &nothing_;
     }
 
     // ---- Rounds ----
@@ -546,7 +549,7 @@ private:
             for (std::uint32_t i = next.cuts[b]; i < next.cuts[b + 1]; i++) places_[i] = next.names[b];
         }
         round_ = next.round;
-        result_ = next.result;
+        results_ = next.results;
         std::sort(waiting_.begin(), waiting_.end());
         // Those that leave go first, and letters of the others then follow them.
         std::size_t staying = 0;
@@ -578,12 +581,22 @@ private:
                 due_.push_back(index);
                 continue;
             } else {
+                if (how_.moves_all && pes_ == 1 && round_ > 0) make_anew(index);
                 resume(index, at);
             }
             did = true;
             empty_outbox();
         }
         return did;
+    }
+    // Packs an element and unpacks it where it is, as a move to another PE would.
+    void make_anew(std::uint32_t index)
+    {
+        copy_.clear();
+        pup::er packer(copy_);
+        guarded(index, [&] { objects_.pack(index, packer); });
+        pup::er unpacker(copy_.data(), copy_.size());
+        guarded(index, [&] { objects_.unpack(index, unpacker); });
     }
     void depart(std::uint32_t index, slot &at)
     {
@@ -630,7 +643,7 @@ private:
         while (pe_->next_note(owed)) {
             owed.pe = me_;
             owed.bytes = 0;
-            owed.given = contribution();
+            owed.given.clear();
             if (!owed.finished) {
                 slot &at = here(owed.index);
                 if (owed.round != at.waits_for) throw run_fault(fault_kind::mismatch, "a note of another round", owed.index);
@@ -747,7 +760,7 @@ private:
     // Rounds: where each element is, by the last decision, and those that start, go on or wait.
     std::vector<std::uint32_t> places_;
     std::uint32_t round_ = 0;
-    contribution result_, nothing_;
+    contributions results_, nothing_;
     std::deque<std::uint32_t> due_;
     std::vector<std::uint32_t> waiting_;
     std::vector<note> notes_;
