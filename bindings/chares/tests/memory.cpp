@@ -192,6 +192,79 @@ void flood(std::uint32_t pes)
     tests::expect("the memory of a flood, " + std::to_string(pes) + " PEs", good);
 }
 
+// The first element sends to all, in each of some rounds, a message of 8 MiB.
+struct herald : tezgumi::chare {
+    using messages = tezgumi::messages<std::string>;
+    static constexpr std::size_t bytes = 8u << 20;
+    static constexpr std::uint32_t rounds = 2;
+    std::uint32_t heard = 0;
+    void pup(pup::er &p) { p(heard); }
+    void resume(tezgumi::round r, tezgumi::array<herald> &all)
+    {
+        if (r == rounds) return finish();
+        if (all.me() == 0) all.send(std::string(bytes, static_cast<char>('a' + r)));
+    }
+    void receive(const std::string &text)
+    {
+        if (text.size() == bytes && text[0] == text[bytes - 1]) heard++;
+        at_sync();
+    }
+};
+
+// Beside the bodies stand the letters, which are short.
+void broadcast(std::uint32_t pes, std::uint32_t n)
+{
+    most = live.load();
+    const long before = live.load();
+    tezgumi::settings how = usual(pes);
+    how.batch = 64 * 1024;
+    how.every = 0;
+    const auto end = launch::run<herald>(how, n, [](std::uint32_t) { return herald(); });
+    const long taken = most - before, bodies = launch::are_ranks ? 3 : 3l * pes;
+    const bool is_small = taken < bodies * static_cast<long>(herald::bytes) + 2000l * n;
+    bool good = end.is_good() && end.letters.executed == std::uint64_t(n) * herald::rounds;
+    for (std::uint32_t heard : end.collect([](const herald &one) { return one.heard; })) good = good && heard == herald::rounds;
+    std::cerr << "a broadcast of 8 MiB to " << n << " elements took " << taken / 1000 << " kB" << std::endl;
+    tests::expect("the memory of a broadcast to " + std::to_string(n) + ", " + std::to_string(pes) + " PEs", good && is_small);
+}
+
+#ifdef WITH_MPI
+// Two ranks go on sending to each other, while all others, which have messages of them to take, are in a long handler.
+struct talker : tezgumi::chare {
+    using messages = tezgumi::messages<std::string, std::vector<double>>;
+    static constexpr std::uint32_t turns = 1000;
+    void pup(pup::er &) {}
+    void resume(tezgumi::round, tezgumi::array<talker> &all)
+    {
+        std::this_thread::sleep_for(std::chrono::milliseconds(all.me() > 1 ? 3000 : 300));
+        if (all.me() > 1) return finish();
+        for (std::uint32_t to = 2; to < all.size(); to++) {
+            for (int i = 0; i < 4; i++) all[to].send(std::vector<double>(2500));
+        }
+        if (all.me() == 0) all[1].send(std::string(20000, 't'));
+    }
+    void receive(const std::vector<double> &) {}
+    void receive(const std::string &text, tezgumi::array<talker> &all)
+    {
+        if (++got == turns) finish();
+        if (got < turns || all.me() == 1) all[1 - all.me()].send(text);
+    }
+    std::uint32_t got = 0;
+};
+
+void talk(std::uint32_t pes)
+{
+    most = live.load();
+    const long before = live.load();
+    tezgumi::settings how = usual(pes);
+    how.batch = 20000;
+    const auto end = launch::run<talker>(how, pes, [](std::uint32_t) { return talker(); });
+    const long taken = most - before;
+    std::cerr << "messages of " << 20000l * talker::turns / 1000 << " kB beside slow ranks took " << taken / 1000 << " kB" << std::endl;
+    tests::expect("the memory of sends beside slow ranks, " + std::to_string(pes) + " PEs", end.is_good() && taken < 3000000);
+}
+#endif
+
 } // namespace
 
 int main(int argc, char **argv)
@@ -204,11 +277,15 @@ int main(int argc, char **argv)
     me = static_cast<std::uint32_t>(rank);
     if (argc == 1) refusals(program.pes(1), me);
     if (program.pes(1) > 1) flood(program.pes(1));
+    for (std::uint32_t n : {40u, 1024u}) broadcast(program.pes(1), n);
+    if (program.pes(1) > 4) talk(program.pes(1));
 #else
     for (std::uint32_t pes : {1u, 3u}) {
         if (argc == 1) refusals(pes, me);
     }
     flood(4);
+    for (std::uint32_t n : {40u, 1024u}) broadcast(2, n);
+    broadcast(5, 200);
 #endif
     return tests::failed != 0;
 }
