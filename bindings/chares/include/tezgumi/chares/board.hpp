@@ -16,8 +16,8 @@
 namespace tezgumi {
 namespace detail {
 
-// An element keeps marks of its rounds, and takes them along. After so many rounds they would make its message too long, so
-// nothing moves any more.
+// An element keeps marks of its rounds, and takes them along. From this round on they would make its message too long, so nothing moves
+// any more.
 inline constexpr std::uint32_t last_balanced_round = 20000;
 
 // The handle of a board, which is not copied. It keeps all rounds that it has decided, so it is opened anew after some of them.
@@ -136,6 +136,7 @@ public:
         report_ = round_report();
         report_.round = next.round;
         report_.balanced = is_balanced() || how_.moves_all;
+        report_.past_limit = how_.every != 0 && next.round >= last_balanced_round;
         weigh();
         if (how_.moves_all) {
             move_all(next);
@@ -150,8 +151,55 @@ public:
     }
     // What is known of the round that was decided last.
     const round_report &report() const { return report_; }
+    // Writes the dump of that round, where there is to be one, by its number in the run.
+    void write()
+    {
+        if (dump_.empty()) return;
+        const std::string path = how_.dumps + "." + std::to_string(report_.round);
+        std::FILE *file = std::fopen(path.c_str(), "wb");
+        bool good = file != nullptr;
+        if (file) good = std::fwrite(dump_.data(), 1, dump_.size(), file) == dump_.size();
+        if (file) good = std::fclose(file) == 0 && good;
+        dump_.clear();
+        if (!good) throw run_fault(fault_kind::dump, "the dump " + path + " was not written");
+    }
+
+    // Nothing is left to do. Makes that a fault, which says how many elements have not finished, and of the first what they wait for.
+    void tell_quiet(fault &met) const noexcept
+    {
+        met.kind = fault_kind::quiet;
+        for (std::uint32_t i = n_; i-- > 0;) {
+            if (!finished_[i]) met.element = i;
+        }
+        if (met.element == fault::no_element) return;
+        for (std::uint32_t b = 0; b < pes_; b++) {
+            if (present_.cuts[b] <= met.element && met.element < present_.cuts[b + 1]) met.pe = present_.names[b];
+        }
+        try {
+            met.what = waiting_text();
+        } catch (const std::bad_alloc &) {
+            met.what.clear(); // there is no memory for words
+        }
+    }
 
 private:
+    std::string waiting_text() const
+    {
+        constexpr std::uint32_t told = 8;
+        std::uint32_t count = 0, at_sync = 0;
+        std::string first;
+        for (std::uint32_t i = 0; i < n_; i++) {
+            if (finished_[i]) continue;
+            at_sync += reported_[i];
+            if (count++ >= told) continue;
+            first += (count == 1 ? ": element " : ", element ") + std::to_string(i);
+            first += reported_[i] ? " waits for round " + std::to_string(present_.round + 1) : std::string(" waits for a message");
+        }
+        std::string text = std::to_string(count) + " of " + std::to_string(n_) + " elements have not finished" + first;
+        if (count > told) text += ", and " + std::to_string(count - told) + " more";
+        if (at_sync != 0 && count != n_) text += "; no round is decided without an element that has finished";
+        return text;
+    }
     // Whether the round that is under way is one in which elements may move.
     bool is_balanced() const
     {
@@ -201,24 +249,17 @@ private:
     void balance(decision &next)
     {
         handle_.decide(next, report_);
-        if (!how_.dumps.empty()) write(next.round);
+        if (!how_.dumps.empty()) take_dump(next.round);
         if (!handle_.go_on()) return;
         for (std::uint32_t i = 0; i < n_; i++) {
             if (finished_[i]) handle_.finish(i);
         }
     }
-    // Writes the dump of the round, by its number in the run.
-    void write(std::uint32_t round)
+    void take_dump(std::uint32_t round)
     {
         constexpr std::size_t step_at = 4;
-        pup::bytes text = handle_.dump();
-        if (text.size() >= step_at + 4) pup::detail::write_word<std::uint32_t>(&text[step_at], round);
-        const std::string path = how_.dumps + "." + std::to_string(round);
-        std::FILE *file = std::fopen(path.c_str(), "wb");
-        bool good = file != nullptr;
-        if (file) good = std::fwrite(text.data(), 1, text.size(), file) == text.size();
-        if (file) good = std::fclose(file) == 0 && good;
-        if (!good) throw run_fault(fault_kind::dump, "the dump " + path + " was not written");
+        dump_ = handle_.dump();
+        if (dump_.size() >= step_at + 4) pup::detail::write_word<std::uint32_t>(&dump_[step_at], round);
     }
 
     const settings how_;
@@ -232,6 +273,7 @@ private:
     std::uint32_t reported_count_ = 0;
     decision present_;
     round_report report_;
+    pup::bytes dump_; // of the round that was decided last, until it is written
 };
 
 // Whether all PEs have nothing to do: each is asked by a number, and answers once it has nothing to do, with how many messages it has

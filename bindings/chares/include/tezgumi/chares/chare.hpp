@@ -79,16 +79,23 @@ inline constexpr std::size_t longest_beside = std::size_t(1) << 30;
 inline constexpr std::uint64_t most_letters = std::uint64_t(1) << 20;
 using beside = std::shared_ptr<const pup::bytes>;
 
-// The number of a ticket, by which its body is kept.
+// The number of a ticket, by which its body is kept. Of a body that several letters name the number has this bit.
+inline constexpr std::uint64_t shared_bit = std::uint64_t(1) << 63;
 struct ticket {
     std::uint32_t pe = 0;
     std::uint64_t number = 0;
+    bool is_shared() const { return (number & shared_bit) != 0; }
     bool operator==(const ticket &other) const { return pe == other.pe && number == other.number; }
 };
 struct ticket_hash {
     std::size_t operator()(const ticket &t) const { return std::hash<std::uint64_t>()(t.number * 256 + t.pe); }
 };
-using besides = std::unordered_map<ticket, beside, ticket_hash>;
+// A long body, and how many letters here name it.
+struct kept_body {
+    beside bytes;
+    std::uint64_t letters = 0;
+};
+using besides = std::unordered_map<ticket, kept_body, ticket_hash>;
 
 inline ticket ticket_in(const std::uint8_t *body)
 {
@@ -138,43 +145,34 @@ public:
         if (size >= longest_beside) throw run_fault(fault_kind::toolong, "a message has more than 2^30 bytes");
         auto packed = std::make_shared<pup::bytes>();
         pup::pack(message, *packed);
-        body.resize(ticket_bytes);
-        body[0] = static_cast<std::uint8_t>(place | beside_bit);
-        pup::detail::write_word<std::uint32_t>(&body[1], pe);
-        shared = std::move(packed);
+        put_beside(std::move(packed));
     }
     // Sends what was packed. Where it throws, the letters of the answer are those that it had.
     void post(std::uint32_t to)
     {
         must_be_there(to);
-        if (letters == most_letters) throw run_fault(fault_kind::toolong, "a handler sends more than 2^20 letters");
-        reserve_one(receivers);
-        if (shared) {
-            reserve_one(tickets);
-            const ticket made{pe, next_ticket};
-            pup::detail::write_word<std::uint64_t>(&body[5], next_ticket++);
-            const auto kept = held->emplace(made, shared).first;
-            if (add(to) != TEZGUMI_PE_OK) {
-                held->erase(kept);
-                throw std::bad_alloc();
-            }
-            tickets.push_back(made);
-        } else {
-            check(add(to));
+        if (!shared) return add(to);
+        const ticket made = keep(0, 1);
+        try {
+            add(to);
+        } catch (...) {
+            let_go(made);
+            throw;
         }
-        receivers.push_back(to);
-        letters++;
     }
-    // Sends it to all, or to none where that throws.
+    // Sends it to all, or to none where that throws. A body that is long, for all together, is there once, and all these letters name it.
     void post_to_all()
     {
-        const std::size_t len = answer.len, tickets_before = tickets.size();
+        const std::size_t len = answer.len;
         const std::uint64_t before = letters;
+        if (!shared && body.size() > copied_body && body.size() * n > copied_bodies) {
+            put_beside(std::make_shared<const pup::bytes>(body.begin() + 1, body.end()));
+        }
+        const ticket made = shared ? keep(shared_bit, n) : ticket();
         try {
-            for (std::uint32_t i = 0; i < n; i++) post(i);
+            for (std::uint32_t i = 0; i < n; i++) add(i);
         } catch (...) {
-            for (std::size_t k = tickets_before; k < tickets.size(); k++) held->erase(tickets[k]);
-            tickets.resize(tickets_before);
+            if (shared) let_go(made);
             receivers.resize(static_cast<std::size_t>(before));
             letters = before;
             answer.len = len;
@@ -203,12 +201,45 @@ private:
     {
         if (status != TEZGUMI_PE_OK) throw std::bad_alloc();
     }
-    std::int32_t add(std::uint32_t to) { return tezgumi_answer_send(&answer, to, body.data(), static_cast<std::uint32_t>(body.size())); }
+    // The body that was packed goes beside its letters, which have a ticket in its place.
+    void put_beside(beside packed)
+    {
+        body.resize(ticket_bytes);
+        body[0] |= beside_bit;
+        pup::detail::write_word<std::uint32_t>(&body[1], pe);
+        shared = std::move(packed);
+    }
+    // Gives it a ticket, which this handler made, for so many letters; or takes that back.
+    ticket keep(std::uint64_t bits, std::uint64_t count)
+    {
+        reserve_one(tickets);
+        const ticket made{pe, next_ticket | bits};
+        held->emplace(made, kept_body{shared, count});
+        pup::detail::write_word<std::uint64_t>(&body[5], made.number);
+        tickets.push_back(made);
+        next_ticket++;
+        return made;
+    }
+    void let_go(const ticket &made)
+    {
+        held->erase(made);
+        tickets.pop_back();
+    }
+    void add(std::uint32_t to)
+    {
+        if (letters == most_letters) throw run_fault(fault_kind::toolong, "a handler sends more than 2^20 letters");
+        reserve_one(receivers);
+        check(tezgumi_answer_send(&answer, to, body.data(), static_cast<std::uint32_t>(body.size())));
+        receivers.push_back(to);
+        letters++;
+    }
     template <class T> static void reserve_one(std::vector<T> &list)
     {
         if (list.size() == list.capacity()) list.reserve(2 * list.size() + 16);
     }
 
+    // A broadcast copies bodies of so many bytes, and those that come to so many for all its letters.
+    static constexpr std::size_t copied_body = 64, copied_bodies = 64 * 1024;
     pup::bytes body;
     beside shared;
     std::vector<ticket> tickets;

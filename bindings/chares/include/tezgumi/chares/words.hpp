@@ -19,8 +19,8 @@ using round = std::uint32_t;
 
 // By what the load of a handler is measured that does not name its work.
 enum class clock_kind {
-    cpu, // nanoseconds of processor time of its thread
-    wall, // nanoseconds
+    cpu, // nanoseconds of processor time of its thread, which takes two calls of the system
+    wall, // nanoseconds of time, also of that in which its thread waited for a processor
     none // nothing: a handler that names no work has none
 };
 
@@ -28,6 +28,7 @@ enum class clock_kind {
 struct round_report {
     tezgumi::round round = 0;
     bool balanced = true; // false: all stayed where they were
+    bool past_limit = false; // true: as in all rounds that come, since the run has had as many rounds as elements may move in
     std::uint64_t greatest = 0; // the greatest load of a PE in the round
     std::uint64_t total = 0; // the load of all
     std::uint64_t bottleneck = 0; // the greatest load of a PE as it was decided, for the same loads
@@ -37,15 +38,17 @@ struct round_report {
 // How a run goes. All PEs are given the same.
 struct settings {
     std::uint32_t pes = 1; // on how many PEs, each with a thread; under MPI there is one on each rank
-    clock_kind clock = clock_kind::cpu;
+    clock_kind clock = clock_kind::wall;
     std::uint32_t every = 1; // each so many rounds the elements are balanced, or never where it is 0
     bool within = false; // true: the fewest bytes move within the tolerance; false: the least greatest load
     std::uint32_t tolerance = 0; // in thousandths of the least greatest load
     std::string dumps; // where it is not empty: each round that is balanced is dumped to this name, a dot and the round
     std::string events; // where it is not empty: each PE writes its events to this name, a dot and its number
-    std::size_t batch = 64 * 1024; // a message between PEs is sent once it has so many bytes, or nothing else is to do
-    std::uint32_t window = 4; // so many messages a PE sends to another before that one has used one up
-    std::size_t backlog = 16 * 1024 * 1024; // a PE that cannot get rid of so many bytes runs no handler until it can
+    // A message between PEs is sent once it has so many bytes, 1 to 2^30, or nothing else is to do, or a handler took long.
+    std::size_t batch = 64 * 1024;
+    std::uint32_t window = 4; // so many messages, 1 to 2^20, a PE sends to another before that one has used one up
+    // Where a PE cannot get rid of so many bytes, 0 to 2^40, elements that go on adding to those for a slow PE are held back.
+    std::size_t backlog = 16 * 1024 * 1024;
     std::uint32_t quiet = 20; // after so many milliseconds without anything to do it is asked whether all PEs have nothing
     bool moves_all = false; // for tests: in each round every element goes to the next PE, and on one PE it is packed and unpacked anew
     std::function<void(const round_report &)> on_round; // after each round, on the PE or the rank that decides
