@@ -130,35 +130,45 @@ struct keeper : tezgumi::chare {
     }
 };
 
-// What an element says while it waits: with at_sync it is passed over, and alone it counts for the next round.
+// What an element says while it waits: with at_sync it is passed over, and alone it counts for the next round, also where the element moves
+// before that. The first element is at sync once the others have got their letters.
 struct early : tezgumi::chare {
     using messages = tezgumi::messages<int, char>;
     int kind = 0;
+    std::uint32_t got = 0;
     std::vector<int> sums;
-    void pup(pup::er &p) { p(kind, sums); }
+    void pup(pup::er &p) { p(kind, got, sums); }
     void resume(tezgumi::round r, tezgumi::array<early> &all)
     {
-        // The first elements have the work, so that others move.
-        work(all.me() < 2 && r == 0 ? 1000 : 1);
+        work(all.me() == 0 && r == 0 ? 1000 : 1);
         if (r > 0) sums.push_back(all.result<int>());
         if (r == 2) return finish();
-        if (r == 0) {
-            contribute(tezgumi::sum(1));
+        if (r == 1) {
+            if (all.me() == 0) contribute(tezgumi::sum(10));
+            return at_sync();
+        }
+        if (all.me() == 0) return;
+        contribute(tezgumi::sum(1));
+        at_sync();
+        all.self().send(1);
+        all.self().send(char(2));
+    }
+    void receive(int which, tezgumi::array<early> &all)
+    {
+        if (which == 1) {
+            contribute(tezgumi::sum(1000));
             at_sync();
-            all.self().send(1);
-            all.self().send(char(2));
-        } else {
-            // The letters came before this, so what they gave stands here.
+            all[0].send(2);
+        } else if (++got == 2 * (all.size() - 1)) {
+            contribute(tezgumi::sum(1));
             at_sync();
         }
     }
-    // The first round is not over before the elements have got their letters, since the last element waits for its own.
-    void receive(int)
+    void receive(char, tezgumi::array<early> &all)
     {
-        contribute(tezgumi::sum(1000));
-        at_sync();
+        contribute(tezgumi::sum(10));
+        all[0].send(2);
     }
-    void receive(char) { contribute(tezgumi::sum(10)); }
 };
 
 // Elements that contribute, and others that do not.
@@ -199,11 +209,9 @@ void contributions()
 
 void early_contributions()
 {
-    // One PE runs the letters of an element to itself before it ends a round, since these come first.
-    if (pes != 1) return;
-    const auto end = run_all<early>(usual(), 4);
+    const auto end = run_all<early>(usual(), 8);
     bool good = end.is_good();
-    for (const auto &sums : end.collect([](const early &of) { return of.sums; })) good = good && sums == std::vector<int>{4, 40};
+    for (const auto &sums : end.collect([](const early &of) { return of.sums; })) good = good && sums == std::vector<int>{8, 80};
     expect(at("what is contributed while an element waits"), good);
 }
 

@@ -265,6 +265,90 @@ void talk(std::uint32_t pes)
 }
 #endif
 
+// A handler that is refused memory as it sends, and goes on: what it sent before and after comes, and no more.
+struct catcher : tezgumi::chare {
+    using messages = tezgumi::messages<std::uint32_t, std::string>;
+    std::uint32_t got = 0, sent = 0, failures = 0, refusal = 0;
+    void pup(pup::er &p) { p(got, sent, failures, refusal); }
+    void resume(tezgumi::round r, tezgumi::array<catcher> &all)
+    {
+        if (r == 1) return finish();
+        if (all.me() == 0) {
+            const std::string text(3000, 'c');
+            for (std::uint32_t i = 0; i < 200; i++) {
+                requests = 0;
+                refused_at = i % 10 == 5 ? refusal : 0;
+                try {
+                    if (i % 20 == 15) {
+                        all.send(text);
+                        sent += all.size();
+                    } else {
+                        all[i % all.size()].send(i);
+                        sent++;
+                    }
+                } catch (const std::bad_alloc &) {
+                    failures++;
+                }
+                refused_at = 0;
+            }
+        }
+        at_sync();
+    }
+    void receive(std::uint32_t) { got++; }
+    void receive(const std::string &) { got++; }
+};
+
+void caught()
+{
+    std::uint32_t failures = 0;
+    bool good = true;
+    for (std::uint32_t refusal = 1; refusal <= 8; refusal++) {
+        const auto end = launch::run<catcher>(usual(1), 5, [refusal](std::uint32_t) {
+            catcher one;
+            one.refusal = refusal;
+            return one;
+        });
+        std::uint32_t got = 0, sent = 0;
+        for (const auto &one : end.elements) {
+            got += one.second->got;
+            sent += one.second->sent;
+            failures += one.second->failures;
+        }
+        good = good && end.is_good() && end.letters.posted == sent && got == end.letters.executed && end.letters.executed + end.letters.held == sent;
+        if (!end.is_good()) std::cerr << end.met.text() << std::endl;
+    }
+    tests::expect("a handler that is refused memory as it sends, and goes on", good && failures > 8);
+}
+
+// A message of many bytes from an element to another one on its PE.
+struct long_sender : tezgumi::chare {
+    using messages = tezgumi::messages<std::vector<double>>;
+    static constexpr std::size_t count = 4 << 20;
+    double sum = 0;
+    void pup(pup::er &p) { p(sum); }
+    void resume(tezgumi::round, tezgumi::array<long_sender> &all)
+    {
+        if (all.me() != 0) return;
+        all[1].send(std::vector<double>(count, 1.5));
+        finish();
+    }
+    void receive(std::vector<double> &&numbers)
+    {
+        sum = numbers.at(0) + numbers.at(count - 1);
+        finish();
+    }
+};
+
+void long_message()
+{
+    most = live.load();
+    const long before = live.load(), bytes = 8l * long_sender::count;
+    const auto end = launch::run<long_sender>(usual(1), 2, [](std::uint32_t) { return long_sender(); });
+    const long taken = most - before;
+    std::cerr << "a message of " << bytes / 1000 << " kB took " << taken / 1000 << " kB" << std::endl;
+    tests::expect("a long message on one PE takes twice its bytes", end.is_good() && end.elements.at(1)->sum == 3 && taken < 2 * bytes + 1000000);
+}
+
 } // namespace
 
 int main(int argc, char **argv)
@@ -286,6 +370,8 @@ int main(int argc, char **argv)
     flood(4);
     for (std::uint32_t n : {40u, 1024u}) broadcast(2, n);
     broadcast(5, 200);
+    caught();
+    long_message();
 #endif
     return tests::failed != 0;
 }

@@ -127,6 +127,7 @@ public:
     contribution() = default;
     template <class T> contribution(fold how, const T *values, std::size_t count) : how_(how), kind_(kind_of<T>()), bits_(count)
     {
+        must_be_number<T>();
         for (std::size_t i = 0; i < count; i++) bits_[i] = pup::detail::bits_of(static_cast<wide<T>>(values[i]));
     }
 
@@ -150,15 +151,16 @@ public:
     // The values, as this type. A sum of int or unsigned may be past that type: ask for 64 bits then.
     template <class T> std::vector<T> values() const
     {
-        using wide_type = wide<T>;
+        must_be_number<T>();
         if (!is_there() || kind_ != kind_of<T>()) throw std::logic_error("no contribution of this type came");
         std::vector<T> found(bits_.size());
-        for (std::size_t i = 0; i < bits_.size(); i++) {
-            wide_type number;
-            std::memcpy(&number, &bits_[i], sizeof number);
-            found[i] = static_cast<T>(number);
-            if constexpr (std::is_integral<T>::value) {
-                if (static_cast<wide_type>(found[i]) != number) throw std::range_error("a contribution is past the type that is asked for");
+        if constexpr (std::is_arithmetic<T>::value) {
+            for (std::size_t i = 0; i < bits_.size(); i++) {
+                const auto number = as<wide<T>>(bits_[i]);
+                found[i] = static_cast<T>(number);
+                if (std::is_integral<T>::value && static_cast<wide<T>>(found[i]) != number) {
+                    throw std::range_error("a contribution is past the type that is asked for");
+                }
             }
         }
         return found;
@@ -169,9 +171,12 @@ private:
     template <class T>
     using wide = typename std::conditional<std::is_floating_point<T>::value, double,
         typename std::conditional<std::is_signed<T>::value, std::int64_t, std::uint64_t>::type>::type;
-    template <class T> static constexpr kind kind_of()
+    template <class T> static constexpr void must_be_number()
     {
         static_assert(std::is_arithmetic<T>::value && sizeof(T) <= 8, "contributions are numbers of up to 64 bits: whole ones, float or double");
+    }
+    template <class T> static constexpr kind kind_of()
+    {
         if (std::is_floating_point<T>::value) return kind::f64;
         return std::is_signed<T>::value ? kind::i64 : kind::u64;
     }
