@@ -1,6 +1,6 @@
 // Memory: each of many requests refused in turn, on one rank or in the whole process; and how much a flood takes. The requests of
 // MPI are its own.
-#include "harness.hpp"
+#include "page.hpp"
 
 #include <atomic>
 #include <malloc.h>
@@ -232,21 +232,29 @@ void broadcast(std::uint32_t pes, std::uint32_t n)
 // Two ranks go on sending to each other, while all others, which have messages of them to take, are in a long handler.
 struct talker : tezgumi::chare {
     using messages = tezgumi::messages<std::string, std::vector<double>>;
-    static constexpr std::uint32_t turns = 1000;
+    static constexpr std::uint32_t turns = 200;
+    static constexpr std::size_t bytes = 50000;
     void pup(pup::er &) {}
     void resume(tezgumi::round, tezgumi::array<talker> &all)
     {
-        std::this_thread::sleep_for(std::chrono::milliseconds(all.me() > 1 ? 3000 : 300));
-        if (all.me() > 1) return finish();
+        if (all.me() > 1) {
+            tests::word(0)++;
+            tests::waits_for([] { return tests::word(1) == 2; }, 100);
+            return finish();
+        }
+        tests::waits_for([&] { return tests::word(0) + 2 == all.size(); });
         for (std::uint32_t to = 2; to < all.size(); to++) {
             for (int i = 0; i < 4; i++) all[to].send(std::vector<double>(2500));
         }
-        if (all.me() == 0) all[1].send(std::string(20000, 't'));
+        if (all.me() == 0) all[1].send(std::string(bytes, 't'));
     }
     void receive(const std::vector<double> &) {}
     void receive(const std::string &text, tezgumi::array<talker> &all)
     {
-        if (++got == turns) finish();
+        if (++got == turns) {
+            tests::word(1)++;
+            finish();
+        }
         if (got < turns || all.me() == 1) all[1 - all.me()].send(text);
     }
     std::uint32_t got = 0;
@@ -254,14 +262,15 @@ struct talker : tezgumi::chare {
 
 void talk(std::uint32_t pes)
 {
+    tests::clear_page();
     most = live.load();
     const long before = live.load();
     tezgumi::settings how = usual(pes);
     how.batch = 20000;
     const auto end = launch::run<talker>(how, pes, [](std::uint32_t) { return talker(); });
     const long taken = most - before;
-    std::cerr << "messages of " << 20000l * talker::turns / 1000 << " kB beside slow ranks took " << taken / 1000 << " kB" << std::endl;
-    tests::expect("the memory of sends beside slow ranks, " + std::to_string(pes) + " PEs", end.is_good() && taken < 3000000);
+    std::cerr << "messages of " << talker::bytes * talker::turns / 1000 << " kB beside slow ranks took " << taken / 1000 << " kB" << std::endl;
+    tests::expect("the memory of sends beside slow ranks, " + std::to_string(pes) + " PEs", end.is_good() && taken < 2000000);
 }
 #endif
 
