@@ -125,8 +125,8 @@ private:
         empty_outbox();
         busy = report() || busy;
         busy = flush(!busy) || busy;
+        give_way(busy);
         if (busy) return wake();
-        give_way();
         rest(has_nothing());
     }
     bool is_long() const { return clock_.now() - turn_began_ >= long_turn; }
@@ -143,15 +143,24 @@ private:
         all = all || is_long() || clock_.now() - oldest_ >= long_turn;
         if (!outbound_.flush(link_, round_, all)) return false;
         if (all) oldest_ = clock_.now();
-        is_stalled_ = false;
         return true;
     }
     // PEs that hold back letters for each other would wait for ever. So after a while a PE that does nothing, and holds back letters of
-    // others, runs some of these.
-    void give_way()
+    // others, runs some of these; and one that goes on with its own runs one now and then.
+    void give_way(bool busy)
     {
+        if (busy) is_stalled_ = false;
+        if (held_others_.is_empty()) is_kept_ = false;
         if (held_others_.is_empty()) return;
         const auto now = clock_.look();
+        if (!is_kept_) kept_since_ = now;
+        is_kept_ = true;
+        if (busy) {
+            if (now - kept_since_ <= std::chrono::milliseconds(100)) return;
+            grace_ = 1;
+            is_kept_ = false;
+            return;
+        }
         if (is_stalled_ && now - stalled_since_ > std::chrono::milliseconds(1)) grace_ = steps_a_turn;
         if (!is_stalled_) stalled_since_ = now;
         is_stalled_ = grace_ == 0;
@@ -190,7 +199,11 @@ private:
             grace_--;
             if (fetch_held(held_others_, 0)) return true;
         }
-        return fetch_held(held_others_, 2) || fetch_held(held_own_, 1);
+        if (fetch_held(held_others_, 2)) {
+            is_kept_ = false;
+            return true;
+        }
+        return fetch_held(held_own_, 1);
     }
     // One of the letters that were held back, for elements of which a PE gets what it may. With 0 times the limit there is none.
     bool fetch_held(held_letters &from, std::size_t times)
@@ -324,6 +337,7 @@ private:
             pe_->receive(next.message, next.len);
             inside_++;
             hand_letter_ = next; // it stays in its batch until the next parcel is fetched
+            hand_letter_.attached.reset();
         }
         has_hand_ = true;
     }
@@ -744,8 +758,8 @@ private:
     std::deque<arrival> revived_;
     arrival spent_;
     work_clock clock_;
-    work_clock::point turn_began_{}, oldest_{}, stalled_since_{};
-    bool is_stalled_ = false;
+    work_clock::point turn_began_{}, oldest_{}, stalled_since_{}, kept_since_{};
+    bool is_stalled_ = false, is_kept_ = false;
     int grace_ = 0;
     // What goes beside parcels: the objects of elements that leave, and long bodies.
     std::map<std::uint32_t, beside> leaving_;
