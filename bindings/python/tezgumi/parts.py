@@ -81,8 +81,8 @@ class Division(NamedTuple):
     elements from each of the stops to the next, both included, weigh as much as it at least; there are none where it is 0."""
 
     bottleneck: int
-    cuts: NDArray[np.uint32]
-    stops: NDArray[np.uint32]
+    cuts: NDArray[np.int64]
+    stops: NDArray[np.int64]
 
 
 class Weights(NamedTuple):
@@ -184,7 +184,7 @@ def divide(runs: Sequence[Runs], pes: int) -> Division:
     bottleneck, count = ctypes.c_uint64(), ctypes.c_size_t()
     _hold(library().tezgumi_divide(
         *lists(weights), pes, ctypes.addressof(bottleneck), *lists(cuts, stops), ctypes.addressof(count)), weights)
-    firsts = np.concatenate([np.zeros(1, np.uint32), behind])
+    firsts = np.concatenate([np.zeros(1, np.int64), behind])
     return Division(bottleneck.value, _done(firsts[cuts]), _done(firsts[stops[:count.value]]))
 
 

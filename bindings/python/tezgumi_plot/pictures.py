@@ -8,6 +8,7 @@ from matplotlib.figure import Figure
 from matplotlib.ticker import FixedLocator, FuncFormatter, NullLocator, ScalarFormatter
 
 import tezgumi
+from tezgumi.figures import imbalance
 
 from .bars import PAIRS, draw_bars, draw_limits, of_each
 from .chain import DENSE, MARKS, draw_cuts, draw_fence, draw_loads, draw_moves, draw_places, draw_present, every, marked_cuts
@@ -123,7 +124,9 @@ def _draw_loads_of_pes(sheet, run, made, palette, figures):
 
 def _write_figures(sheet, made, figures, checked):
     rows = [
-        ("imbalance", f"{figures.imbalance_before:.3f} → {figures.imbalance_after:.3f}"),
+        ("imbalance", " → ".join((
+            imbalance(figures.greatest_before, figures.procs, figures.total_load),
+            imbalance(figures.greatest_after, figures.pes, figures.total_load)))),
         ("greatest load", f"{few_letters(figures.greatest_before)} → {few_letters(figures.greatest_after)}"),
         ("average load", few_letters(figures.average_after)),
         ("PEs", f"{figures.procs} → {figures.pes}" if figures.procs != figures.pes else f"{figures.pes}"),
