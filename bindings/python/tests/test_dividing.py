@@ -65,10 +65,11 @@ class Divided(TimedTest):
 
 
     def test_no_pass_of_its_own(self):
-        loads = np.arange(MILLION)
-        with mock.patch.object(lists, "_refuse_outside", side_effect=AssertionError):
-            self.assertEqual(len(tezgumi.divide(loads, 64)), 65)
-            self.assertEqual(len(tezgumi.divide(loads.astype(np.uint64), 64)), 65)
+        before, looked_at = lists._refuse_outside, []
+        with mock.patch.object(lists, "_refuse_outside", lambda array, *how: looked_at.append(array.size) or before(array, *how)):
+            for loads in (np.arange(MILLION), np.arange(MILLION, dtype=np.uint64), array.array("q", range(1000))):
+                self.assertEqual(len(tezgumi.divide(loads, 64)), 65)
+        self.assertEqual(set(looked_at), {65})
 
 
 class Refused(TimedTest):

@@ -177,9 +177,9 @@ class FiguresOfPlans(TimedTest):
         self.assertEqual((figures.excess_before, figures.excess_after), (50.0, 0.0))
         self.assertEqual((figures.bound_before, figures.bound_after), (2, 2))
         self.assertEqual(str(figures), "\n".join((
-            "                before   after", "PEs                  2       2", "greatest load        3       2",
-            "average load      2.00    2.00", "imbalance        1.500   1.000", "moved elements       1    of 3",
-            "moved bytes         10   of 27")))
+            "                before  after", "PEs                  2      2", "greatest load        3      2",
+            "average load      2.00   2.00", "imbalance        1.500  1.000", "moved elements       1   of 3",
+            "moved bytes         10  of 27")))
 
     def test_uneven_loads(self):
         run = tezgumi.Run(3, [1, 2, 4], [1, 1, 1], [0, 1, 2])
