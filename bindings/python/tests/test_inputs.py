@@ -10,7 +10,7 @@ import numpy as np
 
 import tezgumi
 from support import THREE, TimedTest, front, most_bytes
-from tezgumi import runs
+from tezgumi import planning, runs
 
 
 class Taken(TimedTest):
@@ -130,6 +130,15 @@ class Taken(TimedTest):
                 arrays = [value for value in vars(again).values() if isinstance(value, np.ndarray)]
                 self.assertGreater(len(arrays), 2)
                 self.assertFalse(any(array.flags.writeable for array in arrays))
+        frozen = np.array([1, 2])
+        frozen.setflags(write=False)
+        divided = planning.Divided(frozen, frozen)
+        divided.unit = 0.5
+        for given in (divided, tezgumi.Scaled(frozen, 0.5), tezgumi.parts.Division(2, frozen, frozen), tezgumi.parts.Weights(frozen, frozen)):
+            for again in (pickle.loads(pickle.dumps(given)), copy.deepcopy(given)):
+                self.assertIs(type(again), type(given))
+                self.assertEqual(repr(again), repr(given))
+                self.assertFalse(any(part.flags.writeable for part in again if isinstance(part, np.ndarray)))
 
     def test_differences_of_cuts(self):
         decision = tezgumi.Decision(2, [1, 1, 0], 2, 10, [0, 2, 3], [0, 1, 2], [1, 0], [10, 1], [-1, 0], [(0, 0, 1)])

@@ -2,9 +2,10 @@
 buffer, as array.array and memoryview), tested, and kept as arrays that nobody writes to."""
 from __future__ import annotations
 
+import copyreg
 import operator
 from collections import abc
-from typing import Any, Callable, Iterable, Iterator, Type, TypeVar
+from typing import Any, Callable, Iterable, Iterator, Tuple, Type, TypeVar
 
 import numpy as np
 from numpy.typing import ArrayLike, NDArray
@@ -127,6 +128,23 @@ def shown(array: NDArray[Any], ends: int = 3) -> str:
         return "[" + " ".join(map(str, array.tolist())) + "]"
     first, last = (" ".join(map(str, part.tolist())) for part in (array[:ends], array[-ends:]))
     return f"[{first} .. {last}]"
+
+
+def stay_frozen(*kinds: Type[Any]) -> None:
+    """Makes tuples of these kinds such that nobody can write to their arrays after they were pickled, or copied as deep, either."""
+    for kind in kinds:
+        copyreg.pickle(kind, _reduced)
+
+
+def _reduced(it: Any) -> Tuple[Any, ...]:
+    return _made_again, (type(it), *it), getattr(it, "__dict__", None) or None
+
+
+def _made_again(kind: Type[Any], *fields: Any) -> Any:
+    for field in fields:
+        if isinstance(field, np.ndarray):
+            field.setflags(write=False)
+    return kind(*fields)
 
 
 def same_fields(one: object, other: object, fields: Iterable[str]) -> bool:

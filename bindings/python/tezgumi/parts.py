@@ -34,7 +34,7 @@ from numpy.typing import ArrayLike, NDArray
 from .checking import Flaw, Verdict, flaw_of
 from .errors import InputError, LoadError, TezgumiError
 from .library import library, lists
-from .lists import frozen, total, whole_number
+from .lists import frozen, stay_frozen, total, whole_number
 from .runs import DIVISION_PES, ELEMENTS, PES, TOTAL_BYTES, TOTAL_LOAD
 from .statuses import BAD_LOAD, hold
 
@@ -99,6 +99,9 @@ class Naming(NamedTuple):
     block_prices: NDArray[np.int64]
     pe_prices: NDArray[np.int64]
     moved: int
+
+
+stay_frozen(Walks, Ends, Runs, Division, Weights, Naming)
 
 
 def bounds(total: int, greatest: int, pes: int) -> Bounds:

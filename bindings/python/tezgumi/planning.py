@@ -10,7 +10,7 @@ from numpy.typing import ArrayLike, NDArray
 from .checking import Flaw, Verdict, flaw_of, numbers_of
 from .errors import InputError
 from .library import library, lists
-from .lists import are_floats, as_they_lie, frozen, refuse_no_list, shown, slices, truth, whole_number
+from .lists import are_floats, as_they_lie, frozen, refuse_no_list, shown, slices, stay_frozen, truth, whole_number
 from .refining import check_near, decide_within, plan_within
 from .reordering import check_reordered, decide_in_any_order, plan_in_any_order
 from .runs import DIVISION_PES, ELEMENTS, MOVE, PES, TOLERANCE, TOTAL_LOAD, Decision, NearDecision, Plan, ReorderedDecision, Run
@@ -86,6 +86,9 @@ class Divided(_Pair):
     def __repr__(self) -> str:
         unit = "" if self.unit is None else f", unit={self.unit!r}, least within {self.within:.3g}"
         return f"Divided(cuts={shown(self.cuts)}, stops={shown(self.stops)}{unit})"
+
+
+stay_frozen(Divided)
 
 
 @overload

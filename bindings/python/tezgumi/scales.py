@@ -10,7 +10,7 @@ from numpy.typing import ArrayLike, NDArray
 
 from .errors import InputError, LoadError
 from .library import library, lists
-from .lists import refuse_no_list, refuse_times
+from .lists import refuse_no_list, refuse_times, stay_frozen
 from .statuses import hold
 
 _WRONG = {-4: "which is not a number", -5: "which is negative", -6: "which is infinite"}
@@ -27,6 +27,9 @@ class Scaled(NamedTuple):
         """A unit for each load. Each was rounded down by less than one. So the heaviest block of a division of the counts that is
         least is above that of any other division by no more than this, in what was measured."""
         return len(self.counts) * self.unit
+
+
+stay_frozen(Scaled)
 
 
 def scaled(loads: ArrayLike, most: int = 2**32 - 1) -> Scaled:
