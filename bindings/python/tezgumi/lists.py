@@ -170,8 +170,12 @@ def _array(values: ArrayLike, name: str) -> NDArray[Any]:
 
 
 def _refuser(name: str, least: int, most: int) -> _Refuser:
-    return lambda index, value: InputError(
-        f"{name}[{index}] is {value!r}; it has to be a whole number from {least} to {most}")
+    def refusal(index: int, value: Any) -> InputError:
+        is_load = name == "loads" or name.startswith("parts[")
+        hint = "; tezgumi.scaled counts floats" if is_load and isinstance(value, float) else ""
+        return InputError(f"{name}[{index}] is {value!r}; it has to be a whole number from {least} to {most}{hint}")
+
+    return refusal
 
 
 def _one_by_one(values: Any, array: NDArray[Any], least: int, most: int, refuse: _Refuser) -> NDArray[Any]:
