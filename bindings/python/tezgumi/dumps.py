@@ -225,7 +225,7 @@ def _decision_bytes(run: Run, decision: Decision) -> bytes:
     _refuse_unspelled(run, d)
     parts = [struct.pack(">IQ", d.pes, d.bottleneck), d.cuts.astype(">u4").tobytes()]
     parts.append(struct.pack(">I", 1 if d.stops.size else 0))
-    parts += [numbers.astype(">u4").tobytes() for numbers in (d.stops, d.names)]
+    parts += [d.stops.astype(">u4").tobytes(), d.names.astype(">u4").tobytes()]
     parts += [prices.astype(">i8").tobytes() for prices in (d.block_prices, d.pe_prices)]
     parts += [struct.pack(">QI", d.moved, len(d.moves)), d.moves.astype(_MOVE_ROW).tobytes()]
     return b"".join(parts)

@@ -136,7 +136,7 @@ def stay_frozen(*kinds: Type[Any]) -> None:
         copyreg.pickle(kind, _reduced)
 
 
-def _reduced(it: Any) -> Tuple[Any, ...]:
+def _reduced(it: Any) -> Tuple[Callable[..., Any], Tuple[Any, ...], Any]:
     return _made_again, (type(it), *it), getattr(it, "__dict__", None) or None
 
 

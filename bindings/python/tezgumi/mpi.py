@@ -322,7 +322,7 @@ def _words(pointer: int, count: int) -> NDArray[np.uint32]:
 def _layout_of(comm: MPI.Intracomm, division: Division) -> Tuple[_Layout, NDArray[np.uint32]]:
     """The layout before the move, and the numbers that it is in, which it does not own."""
     d, ranks = division, comm.Get_size()
-    lists = [d.firsts, d.counts, d.cuts, d.names]
+    lists: List[NDArray[Any]] = [d.firsts, d.counts, d.cuts, d.names]
     if [len(numbers) for numbers in lists] != [ranks, ranks, ranks + 1, ranks]:
         raise InputError(f"the division is for {len(d.names)} ranks, or its lists do not fit each other; there are {ranks}")
     zeros = np.zeros(ranks, np.uint32)

@@ -234,7 +234,7 @@ def _spread(count: int) -> List[int]:
 
 def _named_places(count: int, decision: Decision) -> NDArray[np.uint32]:
     """The place of each element by the name of its block; none where the cuts do not divide the elements."""
-    cuts = decision.cuts.astype(np.int64)
+    cuts = decision.cuts
     lengths = np.diff(cuts)
     if cuts.size != len(decision.names) + 1 or cuts[0] != 0 or cuts[-1] != count or (lengths < 0).any():
         return np.zeros(0, np.uint32)

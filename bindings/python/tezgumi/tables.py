@@ -31,7 +31,7 @@ def read_table(path: Path, procs: int | None = None, step: int = 0) -> Run:
 def table_of(data: bytes, procs: int | None = None, step: int = 0, spread_over: int | None = None) -> Run:
     """The run of a table that these bytes are. One without places may be spread over a number of PEs."""
     columns = _npy_columns(data) if data.startswith(_NPY) else _csv_columns(data)
-    loads, sizes, places = (columns.get(name) for name in COLUMNS)
+    loads, sizes, places = columns["load"], columns.get("bytes"), columns.get("place")
     if procs is None and places is None:
         procs = spread_over
     if procs is None:

@@ -53,7 +53,7 @@ def _palette(run, made, scale):
 
 def _refuse_undrawable(run, made):
     run.refuse_other_places(made.places)
-    cuts = made.cuts.astype(np.int64)
+    cuts = made.cuts
     if len(cuts) != made.pes + 1 or cuts[0] != 0 or cuts[-1] != len(run) or (np.diff(cuts) < 0).any():
         raise tezgumi.InputError(f"the cuts do not divide {len(run)} elements into {made.pes} blocks")
     if len(made.names) != made.pes or (made.names >= made.pes).any():
