@@ -3,8 +3,7 @@
 ghost use Rattle.std.specs.Prelude.{IfOk, None};
 ghost use Rattle.run_checkpoint.specs.Text.{IsWithin};
 
-use crate::{ADVICE, TURNS, history_of};
-use at_sync::Strategy;
+use crate::{ADVICE, TURNS, options_of};
 use chare_index::Pes;
 use checkpointed_runs::{
     CheckpointFiles, Checkpoints, drive_from, finish_kept, on_pes, opening_of, read_checkpoint,
@@ -70,14 +69,14 @@ pub(crate) fn run_kept<
     let every = asked.every.unwrap_or(1);
     let files = SystemFiles(rt);
     let mut checkpoints = Checkpoints::new(rt.alloc(), files, asked.checkpoint, every);
+    let options = options_of(asked);
     let driven = drive_from(
         rt,
         rt.alloc(),
         from,
         writer,
         TURNS,
-        Strategy::within(asked.tolerance),
-        history_of(asked),
+        &options,
         &progress,
         &mut checkpoints,
     );
@@ -155,7 +154,7 @@ fn open_checkpoint<R: Files + AllocGlobal, E: Write, W: Write>(
     }
 }
 
-// The same run on the number of PEs that is asked for, if one is. A command line has no other than a run may have.
+// Moves the run to the number of PEs that was asked for, if one was. The command line has already checked that number.
 fn on_asked_pes(
     alloc: Global,
     checkpoint: Checkpoint<Global>,

@@ -1,16 +1,18 @@
+//! The report on a dump, from the bytes of a reader or a file to the bytes of a writer.
+
 ghost use Rattle.std.specs.Prelude.{◌≡◌, ℕ, All, List, Option, Some, IfOk, IfErr};
 ghost use Rattle.dump_report.specs.Reports.{EndsReport, IsFoundFault, IsNumber, IsReport};
 ghost use Rattle.dump_format.specs.declared.error.DumpError.TheVariants.{Read};
 ghost use Rattle.lb_dump.specs.Reading.{ReaderHasFailed};
 ghost use Rattle.lb_replay.specs.Ended.{HasUnread, HasUnwritten};
-ghost use Rattle.lb_replay.specs.declared.ended.SimEnd.TheVariants.{Dump};
+ghost use Rattle.lb_replay.specs.declared.ended.Ended.TheVariants.{Dump};
 ghost use Rattle.streams.specs.Logs.{HasRefused};
 
 use crate::dump_text::dump_text;
 use chain_refinement::Tolerance;
 use dump_format::DumpError;
 use lb_dump::read_from_logged;
-use lb_replay::SimEnd;
+use lb_replay::Ended;
 use load_report::Style;
 use std::alloc::Allocator;
 use std::io::{self, Read, Write};
@@ -30,7 +32,7 @@ pub fn report_dump<A: Allocator + Copy, R: Read, W: Write>(
     procs: &[u32],
     tolerance: Option<Tolerance>,
     style: Style,
-) -> SimEnd
+) -> Ended
     requires procs { All IsNumber procs.now }
     ensures ends { EndsReport A (R.remaining reader.old) (R.remaining reader.new) style name.now procs.now tolerance (W.contents writer.old) (W.contents writer.new) result }
     ensures one_text { (bytes text other : List ℕ) → IsReport A (Some bytes) style name.now procs.now tolerance text
@@ -64,15 +66,15 @@ pub fn report_dump_logged<A: Allocator + Copy, R: Read, W: Write>(
     style: Style,
     read: &mut CallLog,
     written: &mut CallLog,
-) -> SimEnd
+) -> Ended
     requires procs { All IsNumber procs.now }
     ensures ends { EndsReport A (R.remaining reader.old) (R.remaining reader.new) style name.now procs.now tolerance (W.contents writer.old) (W.contents writer.new) result }
     ensures failed { HasUnread result → ReaderHasFailed read.new }
     ensures unwritten { HasUnwritten result → HasRefused written.new }
 {
     match report_text(alloc, reader, name, procs, tolerance, style, read) {
-        Ok(text) if write_out_logged(writer, &text, written) => SimEnd::Printed,
-        Ok(_) => SimEnd::WriteFailed,
+        Ok(text) if write_out_logged(writer, &text, written) => Ended::Printed,
+        Ok(_) => Ended::WriteFailed,
         Err(fault) => fault,
     }
 }
@@ -87,7 +89,7 @@ pub fn report_file<A: Allocator + Copy, R: Read + Drop, W: Write>(
     procs: &[u32],
     tolerance: Option<Tolerance>,
     style: Style,
-) -> (SimEnd, Option<io::Error>)
+) -> (Ended, Option<io::Error>)
     requires procs { All IsNumber procs.now }
     ensures opened { IfOk file (λ file. (rest : Option (List ℕ))
         × EndsReport A (R.remaining file) rest style name.now procs.now tolerance (W.contents writer.old) (W.contents writer.new) result.0) }
@@ -111,7 +113,7 @@ pub fn report_file<A: Allocator + Copy, R: Read + Drop, W: Write>(
             );
             (ended, read.failure())
         }
-        Err(reason) => (SimEnd::Dump(DumpError::Read), Some(reason)),
+        Err(reason) => (Ended::Dump(DumpError::Read), Some(reason)),
     }
 }
 
@@ -124,7 +126,7 @@ fn report_text<A: Allocator + Copy, R: Read>(
     tolerance: Option<Tolerance>,
     style: Style,
     log: &mut CallLog,
-) -> Result<Vec<u8, A>, SimEnd>
+) -> Result<Vec<u8, A>, Ended>
     requires { All IsNumber procs.now }
     ensures text { IfOk result (λ text. IsReport A (R.remaining reader.old) style name.now procs.now tolerance text.items) }
     ensures fault { IfErr result (IsFoundFault A (R.remaining reader.old) (R.remaining reader.new)) }
@@ -136,6 +138,6 @@ fn report_text<A: Allocator + Copy, R: Read>(
             drop(dump);
             text
         }
-        Err(fault) => Err(SimEnd::Dump(fault)),
+        Err(fault) => Err(Ended::Dump(fault)),
     }
 }

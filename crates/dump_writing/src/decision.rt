@@ -1,3 +1,5 @@
+//! Writes the decision that follows the elements in LBD2.
+
 ghost use Rattle.std.specs.Prelude.{◌^◌, ◌<◌, List, ℕ, length, OnErr};
 ghost use Rattle.dump_format.specs.Text.{floor_text, plan_text, ending_text};
 ghost use Rattle.dump_writing.specs.Parts.{division_text, naming_text};

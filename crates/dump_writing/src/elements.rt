@@ -1,3 +1,5 @@
+//! Writes the head and the elements of a snapshot in LBD2.
+
 ghost use Rattle.std.specs.Prelude.{◌≡◌, ◌++◌, ℕ, List, length, slice_index, slice_index_or, OnErr};
 ghost use Rattle.std.specs.Int.{w64};
 ghost use Rattle.dump_format.specs.Text.{word, long, element_text, elements_text};

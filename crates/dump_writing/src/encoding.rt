@@ -1,3 +1,5 @@
+//! The text of a dump or a snapshot as a vector of bytes.
+
 ghost use Rattle.std.specs.Prelude.{IfOk, IfErr};
 ghost use Rattle.dump_format.specs.Text.{IsLbd1, IsLbd2};
 ghost use Rattle.dump_writing.specs.Narrow.{RefusesLbd1};

@@ -1,3 +1,5 @@
+//! Writes a snapshot in LBD1, if none of its loads needs more than 32 bits.
+
 ghost use Rattle.std.specs.Prelude.{◌≡◌, ◌^◌, ◌<◌, ℕ, All, List, length, slice_index, slice_index_or, OnOk, OnErr, IfOk, IfErr};
 ghost use Rattle.std.specs.Int.{w32};
 ghost use Rattle.dump_format.specs.Text.{word, element_text, elements_text, lbd1_text};

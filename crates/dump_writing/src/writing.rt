@@ -1,3 +1,5 @@
+//! Writes the text of a dump or a snapshot to a writer, without taking memory.
+
 ghost use Rattle.std.specs.Prelude.{◌≡◌, List, ℕ, IsErrOf, OnErr};
 ghost use Rattle.dump_format.specs.Text.{IsLbd2};
 ghost use Rattle.dump_format.specs.declared.error.DumpError.{DumpError};

@@ -1,3 +1,5 @@
+//! The decision: cuts and names that move the fewest bytes of all, or the decision in the present order.
+
 ghost use Rattle.std.specs.Prelude.{◌≡◌};
 ghost use Rattle.lb_any_order.specs.Reorderings.{reordering_cuts, reordering_division, reordering_moved, reordering_moves, reordering_names};
 

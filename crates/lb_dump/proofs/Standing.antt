@@ -157,7 +157,7 @@ module _ (A : Type 0) where
   all_found h loads sizes r all list begun at none = front_judged (Some h) loads sizes (Made r all) list begun begun at
       ∙ no_move_left h.count all (length list) begun none (at.no_bytes none)
 
--- The same, where what the reader holds is given by equations.
+-- These facts where equations say what the reader holds.
 module _ (A : Type 0) where
   pub found_head : (head : Option Head) (loads : List ℕ) (sizes : List (ℕ × ℕ)) (plan : DecisionPart A) (list : List (ℕ × ℕ × ℕ)) (begun : List ℕ)
       → IsAt head loads sizes plan list begun → head ≡ None

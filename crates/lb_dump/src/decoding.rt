@@ -1,3 +1,5 @@
+//! Reads a whole dump, from bytes or from a reader.
+
 ghost use Rattle.std.specs.Prelude.{◌≡◌, ◌⊎◌, List, [], ℕ, length, IfErr, IfSome, IsErrOf, MatchResult, OnOk, Ok, Err};
 ghost use Rattle.std.specs.Io.KnownBytes.{Consumes, IsAtEnd};
 ghost use Rattle.lb_dump.specs.Reading.{IsAnswer, ReaderHasFailed};
@@ -92,7 +94,7 @@ fn feed_all<R: Read, A: Allocator + Copy>(
     feed_from(dump, reader, &mut piece, log)
 }
 
-// Does so with `piece` as the buffer of each call.
+// Feeds all bytes of the reader. `piece` is the buffer of each call.
 fn feed_from<R: Read, A: Allocator + Copy>(
     dump: &mut DumpReader<A>,
     reader: &mut R,

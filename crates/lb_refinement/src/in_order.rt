@@ -1,3 +1,5 @@
+//! A decision within a tolerance that keeps the order of the PEs.
+
 ghost use Rattle.std.specs.Prelude.{◌≡◌};
 ghost use Rattle.lb_strategy.specs.Moves.{planned_pe, HasPlace};
 ghost use Rattle.lb_refinement.specs.InOrder.{ordered_bottleneck, ordered_cuts, ordered_least, ordered_moved, ordered_moves, ordered_names};

@@ -1,3 +1,5 @@
+//! Decides within a tolerance, and keeps the order of the PEs.
+
 ghost use Rattle.std.specs.Prelude.{◌≡◌, ◌<◌, ◌≤◌, ℕ, List, length, IfOk};
 ghost use Rattle.chain_partition.specs.Chosen.{IsChosen};
 ghost use Rattle.lb_certificates.specs.Certificate.{IsCertified};
@@ -86,7 +88,7 @@ fn keep_in_order<A: Allocator + Copy, B: Allocator>(
     with_moves(alloc, snapshot.sizes(), refinement, bottleneck)
 }
 
-// The same with the elements that move, where the order has the names of the blocks.
+// Completes the decision with the elements that move. The order has the names of the blocks.
 fn with_moves<A: Allocator, B: Allocator>(
     alloc: A,
     sizes: &Sizes<B>,

@@ -1,3 +1,5 @@
+//! A decision within a tolerance: cuts near the present ones, or the plan.
+
 ghost use Rattle.std.specs.Prelude.{◌≡◌};
 ghost use Rattle.lb_strategy.specs.Moves.{planned_pe, HasPlace};
 ghost use Rattle.lb_refinement.specs.Refined.{refined_bottleneck, refined_cuts, refined_least, refined_moved, refined_moves, refined_names, refined_prices};

@@ -1,3 +1,5 @@
+//! Decides within a tolerance, by the cheapest names of the blocks.
+
 ghost use Rattle.std.specs.Prelude.{◌≡◌, ◌≤◌, IfOk};
 ghost use Rattle.chain_partition.specs.Chosen.{IsChosen};
 ghost use Rattle.lb_certificates.specs.Certificate.{IsCertified};
@@ -84,7 +86,7 @@ pub(crate) fn planned<A: Allocator + Copy, B: Allocator>(
     }
 }
 
-// The same, with the division found by several workers.
+// The decision of the plan. Several workers find its division.
 fn planned_with<R: Threads + Sync, G: Gate + Sync, A: Allocator + Copy, B: Allocator>(
     rt: &R,
     alloc: A,
@@ -161,7 +163,7 @@ fn keep<A: Allocator + Copy, B: Allocator>(
     with_names(alloc, sizes, refinement, bottleneck)
 }
 
-// The same with the names of its blocks.
+// Completes the decision with the names of its blocks.
 fn with_names<A: Allocator + Copy, B: Allocator>(
     alloc: A,
     sizes: &Sizes<B>,

@@ -1,3 +1,4 @@
+pub mod CommandLine
 pub mod Ended
 pub mod Internal
 pub mod Requests

@@ -93,7 +93,7 @@ abbrev pub refined_text : {A : Type 0} → Taken → ℕ → ℕ → Refined A �
 refined_text s pes tolerance r =
     text_within s pes tolerance (refined_least r) (refined_cuts r) (refined_names r) (refined_moved r)
 
--- the same of a decision that keeps the order of the PEs
+-- the whole text of a decision that keeps the order of the PEs
 abbrev pub ordered_text : {A : Type 0} → Taken → ℕ → ℕ → RefinedInOrder A → List ℕ
 ordered_text s pes tolerance r =
     text_within s pes tolerance (ordered_least r) (ordered_cuts r) (ordered_names r) (ordered_moved r)

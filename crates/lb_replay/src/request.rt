@@ -1,9 +1,11 @@
+//! The options of `lb_sim`, and the task that they ask for.
+
 ghost use Rattle.std.specs.Option.{ForSome};
 ghost use Rattle.std.specs.Prelude.{◌≡◌, ◌≤◌, ℕ, List, Option, Some, IfOk, IfErr, IfSome};
 ghost use Rattle.lb_replay.specs.Requests.{EndsTask, MayRun, check_of, task_of};
 ghost use Rattle.lb_replay.specs.Simulation.{ReportsUnread};
 
-use crate::ended::SimEnd;
+use crate::ended::Ended;
 use crate::simulation::replay_file;
 use crate::verifying::verify_file;
 use crate::way::Way;
@@ -14,7 +16,7 @@ use std::io::{self, Read, Write};
 
 /// What a run is asked to do.
 #[derive(Clone, Copy, Debug, PartialEq, Eq)]
-pub struct SimOptions<'a> {
+pub struct Asked<'a> {
     /// The file with the dump.
     pub file: &'a str,
     /// The number of blocks, 1 to 256 (`Limits::PES`), if one is given.
@@ -34,11 +36,11 @@ pub struct SimOptions<'a> {
 pub enum Task {
     /// It is replayed, for this number of PEs, 1 to 256 (`Limits::PES`), or for that of the dump.
     Replay(Option<u32>),
-    /// The same, within this tolerance.
+    /// It is replayed within this tolerance.
     Refine(Option<u32>, Tolerance),
-    /// The same, and the PEs keep their order.
+    /// It is replayed within this tolerance, and the PEs keep their order.
     RefineInOrder(Option<u32>, Tolerance),
-    /// Within this tolerance, where the PEs may change their order.
+    /// It is replayed within this tolerance, and the PEs may change their order.
     RefineInAnyOrder(Option<u32>, Tolerance),
     /// Its decision is checked.
     Check,
@@ -63,7 +65,7 @@ pub enum Clash {
     KeepOrderAndAnyOrder,
 }
 
-impl SimOptions<'_> {
+impl Asked<'_> {
     /// What is to be done.
     ///
     /// # Errors
@@ -115,7 +117,7 @@ pub fn run<A: Allocator + Copy, R: Read + Drop, W: Write>(
     task: Task,
     file: io::Result<R>,
     writer: &mut W,
-) -> (SimEnd, Option<io::Error>)
+) -> (Ended, Option<io::Error>)
     requires { MayRun task }
     ensures opened { IfOk file (λ file. (rest : Option (List ℕ)) × EndsTask A (R.remaining file) rest task (W.contents writer.old) (W.contents writer.new) result.0) }
     ensures unopened { IfErr file (λ _. ReportsUnread (W.contents writer.old) (W.contents writer.new) result.0) }

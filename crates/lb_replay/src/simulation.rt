@@ -1,16 +1,19 @@
+//! Replays a dump: reads it, decides, and writes the text of the decision.
+
 ghost use Rattle.std.specs.Prelude.{◌≡◌, ◌≤◌, ◌⊎◌, ℕ, List, Option, Some, IfOk, IfErr};
 ghost use Rattle.std.specs.Option.{ForSome};
 ghost use Rattle.std.specs.String.{string_bytes};
 ghost use Rattle.lb_strategy.specs.declared.error.PlanError.TheVariants.{OutOfMemory};
 ghost use Rattle.lb_replay.specs.Text.{fault_line};
 ghost use Rattle.lb_replay.specs.declared.fault.Fault.TheVariants.{Plan};
+ghost use Rattle.lb_replay.specs.declared.way.Way.TheVariants.{Least};
 ghost use Rattle.lb_dump.specs.Reading.{ReaderHasFailed};
 ghost use Rattle.lb_replay.specs.Internal.{IsUnread, without_memory};
 ghost use Rattle.lb_replay.specs.Ended.{HasUnread, HasUnwritten};
 ghost use Rattle.streams.specs.Logs.{HasRefused};
 ghost use Rattle.lb_replay.specs.Simulation.{EndsReplay, HasOneText, IsDecided, IsInAnyOrder, IsInOrder, IsPlanned, IsReplay, IsReplayFault, IsWithin, ReportsFault, ReportsUnread};
 
-use crate::ended::SimEnd;
+use crate::ended::Ended;
 use crate::fault::{Fault, NO_MEMORY, fault_line};
 use crate::text::{decision_text, ordered_text, refined_text, reordering_text};
 use crate::way::Way;
@@ -27,21 +30,38 @@ use std::io::{self, Read, Write};
 use streams::{CallLog, write_out_logged};
 
 /// Replays a dump offline: reads it, decides its balancing step for `procs` PEs (1 to 256), or for the number of PEs of the
-/// dump, and writes the text of the decision, or the one line of a fault, and nothing else. The way says which decision that is: the
-/// least one, that of [`plan`], or the one within a tolerance, that of [`refine`], of [`refine_keeping_order`] or of
-/// [`refine_in_any_order`]. A decision in the dump is read, and ignored.
+/// dump, and writes the text of the decision, or the one line of a fault, and nothing else. The decision is the least one, that of
+/// [`plan`]. A decision in the dump is read, and ignored.
 ///
 /// Out of memory is a fault of the dump while that is read, and a fault of the plan after that. The line is the same.
 ///
-/// What is printed is a function of the bytes read, the number of PEs and the way: the clause `one_text`. Only in any order of the PEs
-/// that is not proved: several decisions may move the fewest bytes.
+/// What is printed is a function of the bytes read and the number of PEs: the clause `one_text`.
 pub fn simulate<A: Allocator + Copy, R: Read, W: Write>(
     alloc: A,
     reader: &mut R,
     writer: &mut W,
     procs: Option<u32>,
+) -> Ended
+    requires some_pe { ForSome procs (λ p. 1 ≤ p) }
+    requires few_pes { ForSome procs (λ p. p ≤ Limits.PES) }
+    ensures ends { EndsReplay A (R.remaining reader.old) (R.remaining reader.new) procs Least (W.contents writer.old) (W.contents writer.new) result }
+    ensures one_text { (bytes text other : List ℕ) → IsReplay A (Some bytes) procs Least text → IsReplay A (Some bytes) procs Least other → text ≡ other }
+{
+    simulate_by(alloc, reader, writer, procs, Way::Least)
+}
+
+/// Replays a dump as [`simulate`] does. The way says which decision that is: the least one, or the one within a tolerance, that of
+/// [`refine`], of [`refine_keeping_order`] or of [`refine_in_any_order`].
+///
+/// What is printed is a function of the bytes read, the number of PEs and the way: the clause `one_text`. Only in any order of the PEs
+/// that is not proved: several decisions may move the fewest bytes.
+pub fn simulate_by<A: Allocator + Copy, R: Read, W: Write>(
+    alloc: A,
+    reader: &mut R,
+    writer: &mut W,
+    procs: Option<u32>,
     way: Way,
-) -> SimEnd
+) -> Ended
     requires some_pe { ForSome procs (λ p. 1 ≤ p) }
     requires few_pes { ForSome procs (λ p. p ≤ Limits.PES) }
     ensures ends { EndsReplay A (R.remaining reader.old) (R.remaining reader.new) procs way (W.contents writer.old) (W.contents writer.new) result }
@@ -53,7 +73,7 @@ pub fn simulate<A: Allocator + Copy, R: Read, W: Write>(
     simulate_logged(alloc, reader, writer, procs, way, &mut read, &mut written)
 }
 
-/// Replays a dump as [`simulate`] does, with the calls of the reader and those of the writer in logs. Where the end is that the dump
+/// Replays a dump as [`simulate_by`] does, with the calls of the reader and those of the writer in logs. Where the end is that the dump
 /// was not read, the log of the reader has an error, or 16,777,216 calls; where it is that the writer failed, the log of the writer has
 /// an error, or that nothing was taken.
 pub fn simulate_logged<A: Allocator + Copy, R: Read, W: Write>(
@@ -64,7 +84,7 @@ pub fn simulate_logged<A: Allocator + Copy, R: Read, W: Write>(
     way: Way,
     read: &mut CallLog,
     written: &mut CallLog,
-) -> SimEnd
+) -> Ended
     requires some_pe { ForSome procs (λ p. 1 ≤ p) }
     requires few_pes { ForSome procs (λ p. p ≤ Limits.PES) }
     ensures ends { EndsReplay A (R.remaining reader.old) (R.remaining reader.new) procs way (W.contents writer.old) (W.contents writer.new) result }
@@ -72,13 +92,13 @@ pub fn simulate_logged<A: Allocator + Copy, R: Read, W: Write>(
     ensures unwritten { HasUnwritten result → HasRefused written.new }
 {
     match replay(alloc, reader, procs, way, read) {
-        Ok(text) if write_out_logged(writer, text.as_bytes(), written) => SimEnd::Printed,
-        Ok(_) => SimEnd::WriteFailed,
+        Ok(text) if write_out_logged(writer, text.as_bytes(), written) => Ended::Printed,
+        Ok(_) => Ended::WriteFailed,
         Err(fault) => report(alloc, writer, fault, written),
     }
 }
 
-/// Replays the dump in a file as [`simulate`] does, and returns also the system's reason where a read failed. A file
+/// Replays the dump in a file as [`simulate_by`] does, and returns also the system's reason where a read failed. A file
 /// that could not be opened is reported as a dump that was not read.
 pub fn replay_file<A: Allocator + Copy, R: Read + Drop, W: Write>(
     alloc: A,
@@ -86,7 +106,7 @@ pub fn replay_file<A: Allocator + Copy, R: Read + Drop, W: Write>(
     writer: &mut W,
     procs: Option<u32>,
     way: Way,
-) -> (SimEnd, Option<io::Error>)
+) -> (Ended, Option<io::Error>)
     requires some_pe { ForSome procs (λ p. 1 ≤ p) }
     requires few_pes { ForSome procs (λ p. p ≤ Limits.PES) }
     ensures opened { IfOk file (λ file. (rest : Option (List ℕ))
@@ -231,7 +251,7 @@ pub(crate) fn report<A: Allocator, W: Write>(
     writer: &mut W,
     fault: Fault,
     log: &mut CallLog,
-) -> SimEnd
+) -> Ended
     ensures reported { ReportsFault (W.contents writer.old) (W.contents writer.new) fault result
         ⊎ ReportsFault (W.contents writer.old) (W.contents writer.new) (without_memory fault) result }
     ensures unwritten { HasUnwritten result → HasRefused log.new }
@@ -242,14 +262,14 @@ pub(crate) fn report<A: Allocator, W: Write>(
     report_line(writer, fault, line.as_bytes(), log)
 }
 
-fn report_line<W: Write>(writer: &mut W, fault: Fault, line: &[u8], log: &mut CallLog) -> SimEnd
+fn report_line<W: Write>(writer: &mut W, fault: Fault, line: &[u8], log: &mut CallLog) -> Ended
     requires { line.now ≡ fault_line fault }
     ensures reported { ReportsFault (W.contents writer.old) (W.contents writer.new) fault result }
     ensures unwritten { HasUnwritten result → HasRefused log.new }
 {
     if write_out_logged(writer, line, log) {
-        SimEnd::at(fault)
+        Ended::at(fault)
     } else {
-        SimEnd::WriteFailed
+        Ended::WriteFailed
     }
 }

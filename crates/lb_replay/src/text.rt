@@ -113,7 +113,7 @@ fn push_refined<A: Allocator, B: Allocator, C: Allocator>(
     push_moved(text, decision.moved())
 }
 
-/// The same text of a decision that keeps the order of the PEs.
+/// The text of a decision within a tolerance that keeps the order of the PEs.
 ///
 /// # Errors
 ///

@@ -1,14 +1,16 @@
+//! Checks the decision that a dump records.
+
 ghost use Rattle.std.specs.Prelude.{◌≡◌, ◌⊎◌, List, ℕ, Option, IfOk, IfErr, IfSome, MatchResult, Some};
 ghost use Rattle.lb_dump.specs.Reading.{ReaderHasFailed};
 ghost use Rattle.lb_replay.specs.Ended.{HasUnread, HasUnwritten};
 ghost use Rattle.lb_replay.specs.Internal.{IsUnread, ended_at};
 ghost use Rattle.lb_replay.specs.Simulation.{ReportsUnread};
 ghost use Rattle.lb_replay.specs.Verifying.{EndsCheck, Finds, IsEnd, IsFailure, IsJudged};
-ghost use Rattle.lb_replay.specs.declared.ended.SimEnd.{SimEnd};
-ghost use Rattle.lb_replay.specs.declared.ended.SimEnd.TheVariants.{Printed};
+ghost use Rattle.lb_replay.specs.declared.ended.Ended.{Ended};
+ghost use Rattle.lb_replay.specs.declared.ended.Ended.TheVariants.{Printed};
 ghost use Rattle.streams.specs.Logs.{HasRefused};
 
-use crate::ended::SimEnd;
+use crate::ended::Ended;
 use crate::fault::Fault;
 use crate::simulation::report;
 use dump_format::{Dump, DumpError};
@@ -32,10 +34,10 @@ pub fn verify<A: Allocator + Copy, R: Read, W: Write>(
     alloc: A,
     reader: &mut R,
     writer: &mut W,
-) -> SimEnd
+) -> Ended
     ensures ends { EndsCheck A (R.remaining reader.old) (R.remaining reader.new) (W.contents writer.old) (W.contents writer.new) result }
-    ensures exact { IfSome (R.remaining reader.old) (λ bytes. (ended : SimEnd) → IsEnd A bytes ended → (result ≡ ended) ⊎ IsFailure result) }
-    ensures one_end { (bytes : List ℕ) (one other : SimEnd) → IsEnd A bytes one → IsEnd A bytes other → one ≡ other }
+    ensures exact { IfSome (R.remaining reader.old) (λ bytes. (ended : Ended) → IsEnd A bytes ended → (result ≡ ended) ⊎ IsFailure result) }
+    ensures one_end { (bytes : List ℕ) (one other : Ended) → IsEnd A bytes one → IsEnd A bytes other → one ≡ other }
 {
     let mut read = CallLog::new();
     verify_logged(alloc, reader, writer, &mut read, &mut CallLog::new())
@@ -50,14 +52,14 @@ pub fn verify_logged<A: Allocator + Copy, R: Read, W: Write>(
     writer: &mut W,
     read: &mut CallLog,
     written: &mut CallLog,
-) -> SimEnd
+) -> Ended
     ensures ends { EndsCheck A (R.remaining reader.old) (R.remaining reader.new) (W.contents writer.old) (W.contents writer.new) result }
     ensures failed { HasUnread result → ReaderHasFailed read.new }
     ensures unwritten { HasUnwritten result → HasRefused written.new }
 {
     match judged(alloc, reader, read) {
-        Ok(()) if write_out_logged(writer, RIGHT.as_bytes(), written) => SimEnd::Printed,
-        Ok(()) => SimEnd::WriteFailed,
+        Ok(()) if write_out_logged(writer, RIGHT.as_bytes(), written) => Ended::Printed,
+        Ok(()) => Ended::WriteFailed,
         Err(fault) => report(alloc, writer, fault, written),
     }
 }
@@ -68,7 +70,7 @@ pub fn verify_file<A: Allocator + Copy, R: Read + Drop, W: Write>(
     alloc: A,
     file: io::Result<R>,
     writer: &mut W,
-) -> (SimEnd, Option<io::Error>)
+) -> (Ended, Option<io::Error>)
     ensures opened { IfOk file (λ file. (rest : Option (List ℕ)) × EndsCheck A (R.remaining file) rest (W.contents writer.old) (W.contents writer.new) result.0) }
     ensures unopened { IfErr file (λ _. ReportsUnread (W.contents writer.old) (W.contents writer.new) result.0) }
     ensures reason { IfErr file (λ reason. result.1 ≡ Some reason) }

@@ -1,3 +1,5 @@
+//! A reader or writer that remembers its last error.
+
 ghost use Rattle.std.specs.Prelude.{◌≡◌, false, None};
 
 use crate::log::CallLog;

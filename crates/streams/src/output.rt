@@ -1,3 +1,5 @@
+//! Writes bytes and flushes.
+
 ghost use Rattle.std.specs.Prelude.{IsFalse, IsTrue, MatchBool};
 ghost use Rattle.std.specs.Io.KnownBytes.{Appends};
 ghost use Rattle.streams.specs.Logs.{HasRefused, HasSucceeded};

@@ -1,7 +1,7 @@
 use Rattle.std.proofs.Common.{subst}
 use Rattle.std.specs.Io.KnownBytes.{Appends}
 use Rattle.streams.specs.Writing.{WritesPrefix}
-use Rattle.lb_replay.specs.declared.ended.SimEnd.TheVariants.{Printed}
+use Rattle.lb_replay.specs.declared.ended.Ended.TheVariants.{Printed}
 use Rattle.lb_replay.proofs.Endings.{ends_check, read_reported}
 use Rattle.lb_replay.proofs.verifying.verify_logged.Goals as goal
 
