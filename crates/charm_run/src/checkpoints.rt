@@ -3,7 +3,7 @@
 ghost use Rattle.std.specs.Prelude.{IfOk, None};
 ghost use Rattle.run_checkpoint.specs.Text.{IsWithin};
 
-use crate::{ADVICE, TURNS, history_of};
+use crate::{ADVICE, TURNS, options_of};
 use chare_index::Pes;
 use checkpointed_runs::{
     CheckpointFiles, Checkpoints, drive_from, finish_kept, on_pes, opening_of, read_checkpoint,
@@ -20,7 +20,6 @@ use std::sync::Wait;
 use std::thread::Threads;
 use std::time::Clock;
 use streams::Advice;
-use sync_board::Strategy;
 use workload_run::report_memory;
 
 /// What to do about a checkpoint with a fault.
@@ -70,14 +69,14 @@ pub(crate) fn run_kept<
     let every = asked.every.unwrap_or(1);
     let files = SystemFiles(rt);
     let mut checkpoints = Checkpoints::new(rt.alloc(), files, asked.checkpoint, every);
+    let options = options_of(asked);
     let driven = drive_from(
         rt,
         rt.alloc(),
         from,
         writer,
         TURNS,
-        Strategy::within(asked.tolerance),
-        history_of(asked),
+        &options,
         &progress,
         &mut checkpoints,
     );

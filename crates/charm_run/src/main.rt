@@ -26,7 +26,7 @@ use crate::one_thread::{run_by_list, run_by_seed, run_by_seeds};
 use crate::traces::{Onlookers, keep_recorded, lose_trace};
 use program_words::{BAD_FILE, on_words, refused};
 use progress_line::ShownProgress;
-use rts_run::History;
+use rts_run::{History, Options};
 use run_command_line::{CharmRunOptions, Task, asked, refuse};
 use run_trace::Tracing;
 use std::fs::{File, Files};
@@ -98,7 +98,7 @@ fn run_watched<R: Threads + Wait + Sync + Files + Clock + Print + Eprint + Alloc
     onlookers: Onlookers<'_, R>,
     errors: &mut E,
 ) -> u8 {
-    let strategy = Strategy::within(asked.tolerance);
+    let options = options_of(asked);
     let file = File::open(rt, asked.file);
     let mut writer = io::writer(rt);
     let mut dumps = early_dumps(rt, asked);
@@ -108,8 +108,7 @@ fn run_watched<R: Threads + Wait + Sync + Files + Clock + Print + Eprint + Alloc
         file,
         &mut writer,
         TURNS,
-        strategy,
-        history_of(asked),
+        &options,
         &onlookers,
         &mut dumps,
     );
@@ -126,10 +125,16 @@ fn run_watched<R: Threads + Wait + Sync + Files + Clock + Print + Eprint + Alloc
     status_beside(status, is_lost)
 }
 
-/// Whether elements keep what they have handled.
-pub(crate) fn history_of(asked: &CharmRunOptions<'_>) -> History {
-    if asked.no_journal {
-        return History::Dropped;
+/// How rounds are decided, and whether elements keep what they have handled.
+pub(crate) fn options_of(asked: &CharmRunOptions<'_>) -> Options {
+    let history = if asked.no_journal {
+        History::Dropped
+    } else {
+        History::Kept
+    };
+    Options {
+        strategy: Strategy::within(asked.tolerance),
+        history,
+        ..Options::usual()
     }
-    History::Kept
 }
