@@ -1,10 +1,10 @@
 -- What a program asks of a board behind a handle: when a call is refused, and for which reason, the first that applies.
 use Rattle.std.specs.Prelude.{◌≡◌, ◌⊎◌, ℕ, ◌+◌, ◌<◌, ◌≤◌, Bool, true, false, Option, None, Some, IfSome, IsSome}
-use Rattle.at_sync.specs.Boards.{decision_of, kept_of, place_in}
-use Rattle.at_sync.specs.declared.error.BoardError.{BoardError}
-use Rattle.at_sync.specs.declared.error.BoardError.TheVariants as Board
-use Rattle.at_sync.specs.declared.strategy.Strategy.{Strategy}
-use Rattle.at_sync.specs.declared.strategy.Strategy.TheVariants.{Least, Refine}
+use Rattle.sync_board.specs.Boards.{decision_of, kept_of, place_in}
+use Rattle.sync_board.specs.declared.error.BoardError.{BoardError}
+use Rattle.sync_board.specs.declared.error.BoardError.TheVariants as Board
+use Rattle.sync_board.specs.declared.strategy.Strategy.{Strategy}
+use Rattle.sync_board.specs.declared.strategy.Strategy.TheVariants.{Least, Refine}
 use Rattle.chare_index.specs.declared.limits.TheConstants.Limits.{ELEMENTS, PES, ROUND}
 use Rattle.lb_database.specs.Measuring.{IsComplete, elements}
 use Rattle.lb_database.specs.Refusals.{HasNextRound, IsReport}

@@ -10,13 +10,15 @@
 //! - `workload_run::drive_file`: the run of a workload, from a file to its text; `write_asked`: the dumps of its rounds, and
 //!   the status; `write_beside`: the list of events, where it is asked for and there was a run.
 //! - `one_thread`: the runs on one thread, by the crate `schedule_run`. `traces`: the trace of a run, by `run_trace::keep_trace`.
-//!   `files`: the files of the system. `checkpoints`: the runs that keep checkpoints or go on from one, by the crate `checkpointed_runs`.
+//!   `files`: the files of the system. `checkpoints`: the runs that keep checkpoints or go on from one, by the crate `checkpointed_runs`;
+//!   `kept_files`: how a new checkpoint takes the place of the one before.
 //! - `progress_line::ShownProgress`: what is written to the standard error meanwhile; `streams::Advice`: what is printed about a
 //!   file with a fault.
 #![tactic(auto)]
 
 mod checkpoints;
 mod files;
+mod kept_files;
 mod one_thread;
 mod traces;
 
@@ -24,10 +26,9 @@ use crate::checkpoints::{has_checkpoints, run_kept};
 use crate::files::{early_dumps, finish_dumps, write_dumps};
 use crate::one_thread::{run_by_list, run_by_seed, run_by_seeds};
 use crate::traces::{Onlookers, keep_recorded, lose_trace};
-use at_sync::Strategy;
 use program_words::{BAD_FILE, on_words, refused};
 use progress_line::ShownProgress;
-use rts_run::History;
+use rts_run::{History, Options};
 use run_command_line::{CharmRunOptions, Task, asked, refuse};
 use run_trace::Tracing;
 use std::fs::{File, Files};
@@ -37,6 +38,7 @@ use std::sync::Wait;
 use std::thread::Threads;
 use std::time::Clock;
 use streams::Advice;
+use sync_board::Strategy;
 use workload_run::{drive_file, status_beside};
 
 /// The number of idle turns in a row after which a worker gives up.
@@ -98,7 +100,7 @@ fn run_watched<R: Threads + Wait + Sync + Files + Clock + Print + Eprint + Alloc
     onlookers: Onlookers<'_, R>,
     errors: &mut E,
 ) -> u8 {
-    let strategy = Strategy::within(asked.tolerance);
+    let options = options_of(asked);
     let file = File::open(rt, asked.file);
     let mut writer = io::writer(rt);
     let mut dumps = early_dumps(rt, asked);
@@ -108,8 +110,7 @@ fn run_watched<R: Threads + Wait + Sync + Files + Clock + Print + Eprint + Alloc
         file,
         &mut writer,
         TURNS,
-        strategy,
-        history_of(asked),
+        &options,
         &onlookers,
         &mut dumps,
     );
@@ -126,10 +127,16 @@ fn run_watched<R: Threads + Wait + Sync + Files + Clock + Print + Eprint + Alloc
     status_beside(status, is_lost)
 }
 
-/// Whether elements keep what they have handled.
-pub(crate) fn history_of(asked: &CharmRunOptions<'_>) -> History {
-    if asked.no_journal {
-        return History::Dropped;
+/// How rounds are decided, and whether elements keep what they have handled.
+pub(crate) fn options_of(asked: &CharmRunOptions<'_>) -> Options {
+    let history = if asked.no_journal {
+        History::Dropped
+    } else {
+        History::Kept
+    };
+    Options {
+        strategy: Strategy::within(asked.tolerance),
+        history,
+        ..Options::usual()
     }
-    History::Kept
 }

@@ -2,7 +2,7 @@
 use Rattle.std.specs.Prelude.{◌≡◌, ℕ, ◌+◌, ◌<◌, ◌≤◌, List, [], ◌++◌, length, map, Option, None, Some, Result, Ok, Err, ⊤}
 use Rattle.std.specs.List.{range_with_len}
 use Rattle.std.specs.Option.{option_map_or}
-use Rattle.at_sync.specs.Boards.{BoardState, Kept, decision_of}
+use Rattle.sync_board.specs.Boards.{BoardState, Kept, decision_of}
 use Rattle.checkpointed_runs.specs.Keeping.{FileRequest, Keeps}
 use Rattle.lb_database.specs.Measuring.{elements}
 use Rattle.lb_refinement.specs.Refined.{refined_bottleneck, refined_cuts, refined_moved, refined_names}

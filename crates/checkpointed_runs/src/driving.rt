@@ -12,11 +12,10 @@ ghost use Rattle.workload_run.specs.declared.ended.RunEnd.TheVariants.{OutOfMemo
 use crate::checkpoints::Checkpoints;
 use crate::files::CheckpointFiles;
 use crate::whole::whole_text;
-use at_sync::Strategy;
 use chare_index::{Limits, NoGate, Pe};
 use placed_runs::run_placed;
 use pup_pack::Pup;
-use rts_run::{BodyLimit, Config, History, Outcome};
+use rts_run::{Config, Options, Outcome};
 use run_checkpoint::{Checkpoint, DecidedRound, tallies_after};
 use std::alloc::{AllocError, Allocator};
 use std::io::Write;
@@ -34,8 +33,8 @@ const PROBE_WORKERS: u32 = 4;
 
 /// Runs what is left of a workload from where a checkpoint has it, writes checkpoints meanwhile, where they are wanted, and then the text of
 /// the whole run, or the line for refused memory. A worker gives up after this number of idle turns in a row, of 1 to
-/// [`Limits::IDLE_TURNS`], and rounds are decided by `strategy`. Elements keep or drop what they have handled, as `history` says; the
-/// text is the same. The watch is told of the rounds that are left, which it counts from 1 on.
+/// [`Limits::IDLE_TURNS`], and rounds are decided as the options say. Where elements drop what they have handled the text is the same.
+/// The watch is told of the rounds that are left, which it counts from 1 on.
 ///
 /// The workload is dropped before the run, unless checkpoints are written. One that is not kept changes nothing of the text:
 /// [`Checkpoints::failed`] has it.
@@ -51,15 +50,14 @@ pub fn drive_from<
     from: Checkpoint<A>,
     writer: &mut W,
     turns: u64,
-    strategy: Strategy,
-    history: History,
+    options: &Options,
     watch: &V,
     checkpoints: &mut Checkpoints<'_, F, A>,
 ) -> Driven<A>
     requires some_turn { 1 ≤ turns }
     requires few_turns { turns ≤ Limits.IDLE_TURNS }
     requires within { IsWithin from }
-    ensures ends { EndsFrom ⟦<Tally<A> as Pup<A>>⟧.fits strategy from (W.contents writer.old) (W.contents writer.new) result.outcome result.ended }
+    ensures ends { EndsFrom ⟦<Tally<A> as Pup<A>>⟧.fits options.now.strategy from (W.contents writer.old) (W.contents writer.new) result.outcome result.ended }
 {
     let Checkpoint {
         decided,
@@ -75,8 +73,7 @@ pub fn drive_from<
         workload,
         writer,
         turns,
-        strategy,
-        history,
+        options,
         watch,
         checkpoints,
     )
@@ -105,15 +102,14 @@ fn run_rest<
     workload: Workload<A>,
     writer: &mut W,
     turns: u64,
-    strategy: Strategy,
-    history: History,
+    options: &Options,
     watch: &V,
     checkpoints: &mut Checkpoints<'_, F, A>,
 ) -> Driven<A>
     requires some_turn { 1 ≤ turns }
     requires few_turns { turns ≤ Limits.IDLE_TURNS }
     requires within { IsWithin (record { decided = decided.items; places = places.items; workload = workload }) }
-    ensures ends { EndsFrom ⟦<Tally<A> as Pup<A>>⟧.fits strategy (record { decided = decided.items; places = places.items; workload = workload })
+    ensures ends { EndsFrom ⟦<Tally<A> as Pup<A>>⟧.fits options.now.strategy (record { decided = decided.items; places = places.items; workload = workload })
         (W.contents writer.old) (W.contents writer.new) result.outcome result.ended }
 {
     let chares = workload.chares as usize;
@@ -127,8 +123,7 @@ fn run_rest<
         places,
         workload,
         turns,
-        strategy,
-        history,
+        options,
         watch,
         checkpoints,
     ) {
@@ -167,24 +162,20 @@ fn outcome_from<
     places: Vec<Pe, A>,
     workload: Workload<A>,
     turns: u64,
-    strategy: Strategy,
-    history: History,
+    options: &Options,
     watch: &V,
     checkpoints: &mut Checkpoints<'_, F, A>,
 ) -> Result<Outcome<Tally<A>, A>, AllocError>
     requires some_turn { 1 ≤ turns }
     requires few_turns { turns ≤ Limits.IDLE_TURNS }
     requires within { IsWithin (record { decided = decided.items; places = places.items; workload = workload }) }
-    ensures left { IfOk result (IsLeftFrom ⟦<Tally<A> as Pup<A>>⟧.fits (record { decided = decided.items; places = places.items; workload = workload }) strategy) }
+    ensures left { IfOk result (IsLeftFrom ⟦<Tally<A> as Pup<A>>⟧.fits (record { decided = decided.items; places = places.items; workload = workload }) options.now.strategy) }
 {
     let config = Config {
         pes: workload.pes,
         capacity: CAPACITY,
         turns,
         probe_workers: PROBE_WORKERS,
-        longest: BodyLimit::usual(),
-        strategy,
-        history,
     };
     let chares = tallies_after(alloc, &workload, decided.len() as u32)?;
     checkpoints.begin(&places, decided, workload);
@@ -192,6 +183,7 @@ fn outcome_from<
         rt,
         alloc,
         &config,
+        options,
         &NoGate,
         watch,
         checkpoints,

@@ -10,8 +10,8 @@ use Rattle.lb_certificates.specs.Naming.{IsLeastNaming}
 use Rattle.lb_refinement.specs.Refined.{IsRefined}
 use Rattle.lb_refinement.specs.declared.refined.Refined.{Refined}
 use Rattle.lb_replay.specs.Simulation.{IsReadFault}
-use Rattle.lb_replay.specs.declared.ended.SimEnd.{SimEnd}
-use Rattle.lb_replay.specs.declared.ended.SimEnd.TheVariants.{Printed, WriteFailed}
+use Rattle.lb_replay.specs.declared.ended.Ended.{Ended}
+use Rattle.lb_replay.specs.declared.ended.Ended.TheVariants.{Printed, WriteFailed}
 use Rattle.lb_snapshot.specs.Measured.{Taken}
 use Rattle.lb_strategy.specs.Decisions.{IsRight}
 use Rattle.lb_strategy.specs.declared.decision.Decision.{Decision}
@@ -80,21 +80,21 @@ pub record IsReport (A : Type 0) (bytes : Option (List ℕ)) (style : Style) (na
   pub said : IsSaid style name procs tolerance dump text
 
 -- the fault in place of a report: one of the dump; and once the bytes were read, and are a dump, only out of memory
-abbrev pub IsFoundFault : (A : Type 0) → Option (List ℕ) → Option (List ℕ) → SimEnd → Type 0
-IsFoundFault A bytes rest (SimEnd.Dump e) = IsReadFault bytes rest e
-IsFoundFault A bytes rest (SimEnd.Plan e) =
+abbrev pub IsFoundFault : (A : Type 0) → Option (List ℕ) → Option (List ℕ) → Ended → Type 0
+IsFoundFault A bytes rest (Ended.Dump e) = IsReadFault bytes rest e
+IsFoundFault A bytes rest (Ended.Plan e) =
     (e ≡ PlanError.OutOfMemory) × IsAtEnd rest × ((d : Dumped A) × IfSome bytes (IsText d))
 IsFoundFault A bytes rest _ = ⊥
 
 -- What the writer has after each end: the whole report, or nothing of it where there is a fault, or a prefix where the writer
 -- failed. The reader had `bytes` before, and has `rest` after.
-abbrev pub EndsReport : (A : Type 0) → Option (List ℕ) → Option (List ℕ) → Style → List ℕ → List ℕ → Option ℕ → Option (List ℕ) → Option (List ℕ) → SimEnd → Type 0
+abbrev pub EndsReport : (A : Type 0) → Option (List ℕ) → Option (List ℕ) → Style → List ℕ → List ℕ → Option ℕ → Option (List ℕ) → Option (List ℕ) → Ended → Type 0
 EndsReport A bytes rest style name procs tolerance old new Printed =
     (text : List ℕ) × IsReport A bytes style name procs tolerance text × Appends old new text
-EndsReport A bytes rest style name procs tolerance old new (SimEnd.Dump e) =
-    IsFoundFault A bytes rest (SimEnd.Dump e) × (new ≡ old)
-EndsReport A bytes rest style name procs tolerance old new (SimEnd.Plan e) =
-    IsFoundFault A bytes rest (SimEnd.Plan e) × (new ≡ old)
+EndsReport A bytes rest style name procs tolerance old new (Ended.Dump e) =
+    IsFoundFault A bytes rest (Ended.Dump e) × (new ≡ old)
+EndsReport A bytes rest style name procs tolerance old new (Ended.Plan e) =
+    IsFoundFault A bytes rest (Ended.Plan e) × (new ≡ old)
 EndsReport A bytes rest style name procs tolerance old new WriteFailed =
     (text : List ℕ) × IsReport A bytes style name procs tolerance text × WritesPrefix old new text
 EndsReport A bytes rest style name procs tolerance old new _ = ⊥

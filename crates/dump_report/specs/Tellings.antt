@@ -5,8 +5,8 @@ use Rattle.dump_format.specs.declared.error.DumpError.{DumpError}
 use Rattle.dump_format.specs.declared.error.DumpError.TheVariants.{Count, Flag, Floor, Load, Magic, Move, MoveCount, OutOfMemory, Place, Procs, Read, Short, Size, Target, Trailing, Wide, Write}
 use Rattle.streams.specs.Telling.{Tells, fault_line}
 use Rattle.lb_replay.specs.Text.{dump_advice}
-use Rattle.lb_replay.specs.declared.ended.SimEnd.{SimEnd}
-use Rattle.lb_replay.specs.declared.ended.SimEnd.TheVariants.{WriteFailed}
+use Rattle.lb_replay.specs.declared.ended.Ended.{Ended}
+use Rattle.lb_replay.specs.declared.ended.Ended.TheVariants.{WriteFailed}
 
 -- what is wrong with a dump, in words
 abbrev pub fault_words : DumpError → List ℕ
@@ -50,10 +50,10 @@ output_words (Some reason) = reason
 
 -- What is printed at the end of a report on a file of this name, with the system's reason in these words, if there is one: for
 -- a fault of the dump, where memory ran out, and where the output failed. At any other end nothing is printed.
-abbrev pub IsTold : List ℕ → SimEnd → Option (List ℕ) → Option (List ℕ) → Option (List ℕ) → Bool → Type 0
-IsTold name (SimEnd.Dump e) reason old new told =
+abbrev pub IsTold : List ℕ → Ended → Option (List ℕ) → Option (List ℕ) → Option (List ℕ) → Bool → Type 0
+IsTold name (Ended.Dump e) reason old new told =
     Tells (line_about name (fault_said e reason) (advice e)) old new told
-IsTold name (SimEnd.Plan e) reason old new told =
+IsTold name (Ended.Plan e) reason old new told =
     Tells (line_about name (codes "out of memory") (codes "report on fewer numbers of PEs at a time")) old new told
 IsTold name WriteFailed reason old new told =
     Tells (line_about (codes "standard output") (output_words reason) (codes "give it a place that takes all of the report")) old new told

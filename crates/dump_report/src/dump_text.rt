@@ -2,14 +2,14 @@
 
 ghost use Rattle.std.specs.Prelude.{◌≡◌, ◌++◌, All, List, ℕ, Some, OnOk, IfOk, IfErr};
 ghost use Rattle.dump_report.specs.Reports.{ArePlans, IsBeside, IsDecided, IsNumber, IsPast, IsPlan, IsSaid, IsWithin, numbers_of};
-ghost use Rattle.lb_replay.specs.declared.ended.SimEnd.TheVariants.{Plan};
+ghost use Rattle.lb_replay.specs.declared.ended.Ended.TheVariants.{Plan};
 ghost use Rattle.lb_strategy.specs.declared.error.PlanError.TheVariants.{OutOfMemory};
 
 use chain_refinement::Tolerance;
 use chare_index::Pes;
 use dump_format::Dump;
 use lb_refinement::refine;
-use lb_replay::SimEnd;
+use lb_replay::Ended;
 use lb_snapshot::Snapshot;
 use lb_strategy::{PlanError, plan};
 use load_report::{Style, push_planned, push_present, push_recorded, push_refined};
@@ -27,14 +27,14 @@ pub(crate) fn dump_text<A: Allocator + Copy>(
     procs: &[u32],
     tolerance: Option<Tolerance>,
     style: Style,
-) -> Result<Vec<u8, A>, SimEnd>
+) -> Result<Vec<u8, A>, Ended>
     requires procs { All IsNumber procs.now }
     ensures text { IfOk result (λ text. IsSaid style name.now procs.now tolerance dump.now text.items) }
     ensures fault { IfErr result (λ fault. fault ≡ Plan OutOfMemory) }
 {
     match said_of(alloc, dump, name, procs, tolerance, style) {
         Ok(text) => Ok(text),
-        Err(fault) => Err(SimEnd::Plan(fault)),
+        Err(fault) => Err(Ended::Plan(fault)),
     }
 }
 

@@ -5,7 +5,7 @@ ghost use Rattle.dump_report.specs.Tellings.{IsTold, advice, fault_said, fault_w
 ghost use Rattle.streams.specs.Telling.{Tells};
 
 use dump_format::DumpError;
-use lb_replay::{SimEnd, dump_advice};
+use lb_replay::{Ended, dump_advice};
 use std::alloc::Allocator;
 use std::fmt::{self, Display, Formatter};
 use std::io;
@@ -23,7 +23,7 @@ pub fn tell<A: Allocator + Copy, W: io::Write>(
     alloc: A,
     writer: &mut W,
     name: &str,
-    ended: SimEnd,
+    ended: Ended,
     reason: Option<io::Error>,
 ) -> bool
     ensures reason { IfSome reason (λ _. (shown : List ℕ) × IsTold name.now ended (Some shown) (W.contents writer.old) (W.contents writer.new) result) }
@@ -40,17 +40,17 @@ fn tell_end<A: Allocator + Copy, W: io::Write>(
     alloc: A,
     writer: &mut W,
     name: &str,
-    ended: SimEnd,
+    ended: Ended,
 ) -> bool
     ensures { IsTold name.now ended None (W.contents writer.old) (W.contents writer.new) result }
 {
     match ended {
-        SimEnd::Dump(fault) => tell_dump(alloc, writer, name, fault),
-        SimEnd::Plan(_) => tell_memory(alloc, writer, name),
-        SimEnd::WriteFailed => {
+        Ended::Dump(fault) => tell_dump(alloc, writer, name, fault),
+        Ended::Plan(_) => tell_memory(alloc, writer, name),
+        Ended::WriteFailed => {
             tell_line(alloc, writer, "standard output", "it takes nothing", PLACE)
         }
-        SimEnd::Printed | SimEnd::Flawed(_) | SimEnd::NoDecision => true,
+        Ended::Printed | Ended::Flawed(_) | Ended::NoDecision => true,
     }
 }
 
@@ -59,7 +59,7 @@ fn tell_because<A: Allocator + Copy, W: io::Write>(
     alloc: A,
     writer: &mut W,
     name: &str,
-    ended: SimEnd,
+    ended: Ended,
     reason: io::Error,
 ) -> bool
     ensures { (shown : List ℕ) × IsTold name.now ended (Some shown) (W.contents writer.old) (W.contents writer.new) result }
@@ -68,10 +68,10 @@ fn tell_because<A: Allocator + Copy, W: io::Write>(
         return false;
     };
     match ended {
-        SimEnd::Dump(fault) => tell_read(alloc, writer, name, fault, &shown),
-        SimEnd::Plan(_) => tell_memory(alloc, writer, name),
-        SimEnd::WriteFailed => tell_line(alloc, writer, "standard output", &shown, PLACE),
-        SimEnd::Printed | SimEnd::Flawed(_) | SimEnd::NoDecision => true,
+        Ended::Dump(fault) => tell_read(alloc, writer, name, fault, &shown),
+        Ended::Plan(_) => tell_memory(alloc, writer, name),
+        Ended::WriteFailed => tell_line(alloc, writer, "standard output", &shown, PLACE),
+        Ended::Printed | Ended::Flawed(_) | Ended::NoDecision => true,
     }
 }
 

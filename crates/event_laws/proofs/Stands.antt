@@ -11,7 +11,7 @@ use Rattle.chares.specs.Elements.{ElementView, ran}
 use Rattle.chares.specs.Letters.{Done}
 use Rattle.chares.specs.Posting.{posts_of}
 use Rattle.chares.specs.Steps.{Step}
-use Rattle.at_sync.specs.Boards.{BoardState, place_in}
+use Rattle.sync_board.specs.Boards.{BoardState, place_in}
 use Rattle.pe_state.specs.Pes.{PeView, resumed}
 use Rattle.pe_state.specs.Rooms.{found, ran_in}
 use Rattle.rts_core.specs.Accounts.{times}

@@ -5,7 +5,7 @@ use Rattle.std.proofs.lemmas.Bool.{cases_lt, le-leb, lt-leb}
 use Rattle.std.proofs.lemmas.List.{append-nil}
 use Rattle.std.specs.Int.{Width, w8}
 use Rattle.dump_format.specs.Faults.{IsGood}
-use Rattle.dump_format.specs.Fields.{dump, element, elements, move, moves}
+use Rattle.dump_format.specs.Fields.{dump, elements, moves}
 use Rattle.dump_format.specs.Layout.{Layout, End, Whole, Unfinished, judge}
 use Rattle.dump_format.specs.Text.{word}
 use Rattle.dump_format.proofs.Judging.{field_short}

@@ -4,7 +4,7 @@ use Rattle.std.specs.Option.{ForSome}
 use Rattle.chare_index.specs.declared.limits.TheConstants.Limits.{PES}
 use Rattle.lb_replay.specs.Simulation.{EndsReplay}
 use Rattle.lb_replay.specs.Verifying.{EndsCheck}
-use Rattle.lb_replay.specs.declared.ended.SimEnd.{SimEnd}
+use Rattle.lb_replay.specs.declared.ended.Ended.{Ended}
 use Rattle.lb_replay.specs.declared.request.Clash.{Clash}
 use Rattle.lb_replay.specs.declared.request.Clash.TheVariants.{ProcsAndCheck, ToleranceAndCheck, KeepOrderAndCheck, KeepOrderAlone, AnyOrderAndCheck, AnyOrderAlone, KeepOrderAndAnyOrder}
 use Rattle.lb_replay.specs.declared.request.Task.{Task}
@@ -44,7 +44,7 @@ MayRun (RefineInAnyOrder procs tolerance) = ForSome procs (λ p. 1 ≤ p) × For
 MayRun Check = Unit {0}
 
 -- how each task ends
-abbrev pub EndsTask : (A : Type 0) → Option (List ℕ) → Option (List ℕ) → Task → Option (List ℕ) → Option (List ℕ) → SimEnd → Type 0
+abbrev pub EndsTask : (A : Type 0) → Option (List ℕ) → Option (List ℕ) → Task → Option (List ℕ) → Option (List ℕ) → Ended → Type 0
 EndsTask A bytes rest (Replay procs) old new ended = EndsReplay A bytes rest procs Least old new ended
 EndsTask A bytes rest (Refine procs tolerance) old new ended =
     EndsReplay A bytes rest procs (Within tolerance) old new ended

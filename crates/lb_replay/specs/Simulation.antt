@@ -20,8 +20,8 @@ use Rattle.lb_strategy.specs.declared.decision.Decision.{Decision}
 use Rattle.lb_strategy.specs.declared.error.PlanError.{PlanError}
 use Rattle.streams.specs.Writing.{WritesPrefix}
 use Rattle.lb_replay.specs.Text.{decision_text, fault_line, ordered_text, refined_text, reordering_text}
-use Rattle.lb_replay.specs.declared.ended.SimEnd.{SimEnd}
-use Rattle.lb_replay.specs.declared.ended.SimEnd.TheVariants.{Printed, WriteFailed}
+use Rattle.lb_replay.specs.declared.ended.Ended.{Ended}
+use Rattle.lb_replay.specs.declared.ended.Ended.TheVariants.{Printed, WriteFailed}
 use Rattle.lb_replay.specs.declared.fault.Fault.{Fault}
 use Rattle.lb_replay.specs.declared.fault.Fault.TheVariants.{Dump, Plan, Flawed, NoDecision}
 use Rattle.lb_replay.specs.declared.way.Way.{Way}
@@ -96,27 +96,27 @@ IsReplayFault A bytes rest (Plan e) =
 IsReplayFault A bytes rest _ = ⊥
 
 -- the line of a fault was written, or a prefix of it
-abbrev pub ReportsFault : Option (List ℕ) → Option (List ℕ) → Fault → SimEnd → Type 0
+abbrev pub ReportsFault : Option (List ℕ) → Option (List ℕ) → Fault → Ended → Type 0
 ReportsFault old new fault Printed = ⊥
-ReportsFault old new fault (SimEnd.Dump e) = (fault ≡ Dump e) × Appends old new (fault_line fault)
-ReportsFault old new fault (SimEnd.Plan e) = (fault ≡ Plan e) × Appends old new (fault_line fault)
-ReportsFault old new fault (SimEnd.Flawed flaw) = (fault ≡ Flawed flaw) × Appends old new (fault_line fault)
-ReportsFault old new fault SimEnd.NoDecision = (fault ≡ NoDecision) × Appends old new (fault_line fault)
+ReportsFault old new fault (Ended.Dump e) = (fault ≡ Dump e) × Appends old new (fault_line fault)
+ReportsFault old new fault (Ended.Plan e) = (fault ≡ Plan e) × Appends old new (fault_line fault)
+ReportsFault old new fault (Ended.Flawed flaw) = (fault ≡ Flawed flaw) × Appends old new (fault_line fault)
+ReportsFault old new fault Ended.NoDecision = (fault ≡ NoDecision) × Appends old new (fault_line fault)
 ReportsFault old new fault WriteFailed = WritesPrefix old new (fault_line fault)
 
 -- What the writer has after each end: the whole text, the line of the fault, or a prefix of one of these. The reader had
 -- `bytes` before, and has `rest` after.
-abbrev pub EndsReplay : (A : Type 0) → Option (List ℕ) → Option (List ℕ) → Option ℕ → Way → Option (List ℕ) → Option (List ℕ) → SimEnd → Type 0
+abbrev pub EndsReplay : (A : Type 0) → Option (List ℕ) → Option (List ℕ) → Option ℕ → Way → Option (List ℕ) → Option (List ℕ) → Ended → Type 0
 EndsReplay A bytes rest procs way old new Printed = (text : List ℕ) × IsReplay A bytes procs way text × Appends old new text
-EndsReplay A bytes rest procs way old new (SimEnd.Dump e) =
+EndsReplay A bytes rest procs way old new (Ended.Dump e) =
     IsReplayFault A bytes rest (Dump e) × Appends old new (fault_line (Dump e))
-EndsReplay A bytes rest procs way old new (SimEnd.Plan e) =
+EndsReplay A bytes rest procs way old new (Ended.Plan e) =
     IsReplayFault A bytes rest (Plan e) × Appends old new (fault_line (Plan e))
 EndsReplay A bytes rest procs way old new WriteFailed =
     (text : List ℕ) × (IsReplay A bytes procs way text ⊎ ((fault : Fault) × IsReplayFault A bytes rest fault × (text ≡ fault_line fault))) × WritesPrefix old new text
 EndsReplay A bytes rest procs way old new _ = ⊥
 
 -- the line for a dump that was not read was written, or in its place the one for out of memory, or a prefix of one
-abbrev pub ReportsUnread : Option (List ℕ) → Option (List ℕ) → SimEnd → Type 0
+abbrev pub ReportsUnread : Option (List ℕ) → Option (List ℕ) → Ended → Type 0
 ReportsUnread old new ended =
     ReportsFault old new (Dump Read) ended ⊎ ReportsFault old new (Dump DumpError.OutOfMemory) ended

@@ -11,7 +11,7 @@ use lb_strategy::PlanError;
 
 /// How a replay or a check ended.
 #[derive(Clone, Copy, Debug, PartialEq, Eq)]
-pub enum SimEnd {
+pub enum Ended {
     /// The text of the decision was written whole, or the line that the recorded decision is right.
     Printed,
     /// The line of this fault was written: the dump's first fault, a failure of its reader, or out of memory.
@@ -26,31 +26,31 @@ pub enum SimEnd {
     WriteFailed,
 }
 
-impl SimEnd {
+impl Ended {
     /// The status that a program exits with: 0 where the text was printed or the decision is right, 3 for a fault of the dump,
     /// 4 for a flaw of its decision or where it has none, and 5 where memory was refused or the output failed.
     pub fn status(self) -> u8
         ensures value { result ≡ status_of self }
     {
         match self {
-            SimEnd::Printed => 0,
-            SimEnd::Dump(DumpError::OutOfMemory)
-            | SimEnd::Plan(PlanError::OutOfMemory)
-            | SimEnd::WriteFailed => 5,
-            SimEnd::Dump(_) => 3,
-            SimEnd::Flawed(_) | SimEnd::NoDecision => 4,
+            Ended::Printed => 0,
+            Ended::Dump(DumpError::OutOfMemory)
+            | Ended::Plan(PlanError::OutOfMemory)
+            | Ended::WriteFailed => 5,
+            Ended::Dump(_) => 3,
+            Ended::Flawed(_) | Ended::NoDecision => 4,
         }
     }
 
     /// The end of a replay or a check that reported this fault.
-    pub(crate) fn at(fault: Fault) -> SimEnd
+    pub(crate) fn at(fault: Fault) -> Ended
         ensures value { result ≡ ended_at fault }
     {
         match fault {
-            Fault::Dump(fault) => SimEnd::Dump(fault),
-            Fault::Plan(fault) => SimEnd::Plan(fault),
-            Fault::Flawed(flaw) => SimEnd::Flawed(flaw),
-            Fault::NoDecision => SimEnd::NoDecision,
+            Fault::Dump(fault) => Ended::Dump(fault),
+            Fault::Plan(fault) => Ended::Plan(fault),
+            Fault::Flawed(flaw) => Ended::Flawed(flaw),
+            Fault::NoDecision => Ended::NoDecision,
         }
     }
 }

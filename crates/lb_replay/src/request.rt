@@ -5,7 +5,7 @@ ghost use Rattle.std.specs.Prelude.{◌≡◌, ◌≤◌, ℕ, List, Option, Som
 ghost use Rattle.lb_replay.specs.Requests.{EndsTask, MayRun, check_of, task_of};
 ghost use Rattle.lb_replay.specs.Simulation.{ReportsUnread};
 
-use crate::ended::SimEnd;
+use crate::ended::Ended;
 use crate::simulation::replay_file;
 use crate::verifying::verify_file;
 use crate::way::Way;
@@ -16,7 +16,7 @@ use std::io::{self, Read, Write};
 
 /// What a run is asked to do.
 #[derive(Clone, Copy, Debug, PartialEq, Eq)]
-pub struct SimOptions<'a> {
+pub struct Asked<'a> {
     /// The file with the dump.
     pub file: &'a str,
     /// The number of blocks, 1 to 256 (`Limits::PES`), if one is given.
@@ -65,7 +65,7 @@ pub enum Clash {
     KeepOrderAndAnyOrder,
 }
 
-impl SimOptions<'_> {
+impl Asked<'_> {
     /// What is to be done.
     ///
     /// # Errors
@@ -117,7 +117,7 @@ pub fn run<A: Allocator + Copy, R: Read + Drop, W: Write>(
     task: Task,
     file: io::Result<R>,
     writer: &mut W,
-) -> (SimEnd, Option<io::Error>)
+) -> (Ended, Option<io::Error>)
     requires { MayRun task }
     ensures opened { IfOk file (λ file. (rest : Option (List ℕ)) × EndsTask A (R.remaining file) rest task (W.contents writer.old) (W.contents writer.new) result.0) }
     ensures unopened { IfErr file (λ _. ReportsUnread (W.contents writer.old) (W.contents writer.new) result.0) }

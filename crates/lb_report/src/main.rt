@@ -5,7 +5,7 @@
 //! - `program_words::on_words`: the arguments of the command line, and the status. `report_command_line::asked`: what the
 //!   arguments ask for, and `numbers` the numbers of PEs in them; `refuse_numbers`: what is printed where there are none;
 //!   `program_words::refused`: the status where the arguments ask for no report.
-//! - `dump_report::report_file`: the report on one dump, and how it ended; `SimEnd::status` is the status for it, and
+//! - `dump_report::report_file`: the report on one dump, and how it ended; `Ended::status` is the status for it, and
 //!   `dump_report::tell` writes what was wrong.
 #![tactic(auto)]
 
@@ -14,7 +14,7 @@ ghost use Rattle.report_command_line.specs.Numbers.{IsNumber};
 
 use chain_refinement::Tolerance;
 use dump_report::{report_dump, report_file, tell};
-use lb_replay::SimEnd;
+use lb_replay::Ended;
 use load_report::Style;
 use program_words::{on_words, refused};
 use report_command_line::{NumbersError, ReportOptions, asked, numbers, refuse_numbers};
@@ -38,7 +38,7 @@ fn report_asked(rt: &HostRuntime, asked: &ReportOptions<'_>) -> u8 {
     match numbers(rt.alloc(), text) {
         Ok(procs) => print_reports(rt, asked, &procs),
         Err(NumbersError::Spelling) => refuse_numbers(rt.alloc(), &mut rt.stderr(), text),
-        Err(NumbersError::OutOfMemory) => SimEnd::WriteFailed.status(),
+        Err(NumbersError::OutOfMemory) => Ended::WriteFailed.status(),
     }
 }
 
@@ -52,7 +52,7 @@ fn print_reports(rt: &HostRuntime, asked: &ReportOptions<'_>, procs: &[u32]) -> 
     };
     let mut output = Noted::new(io::writer(rt));
     if !write_out(&mut output, style.head().as_bytes()) {
-        let ended = SimEnd::WriteFailed;
+        let ended = Ended::WriteFailed;
         let _told = tell(rt.alloc(), &mut rt.stderr(), "", ended, output.failure());
         return ended.status();
     }
@@ -70,7 +70,7 @@ fn print_each(rt: &HostRuntime, asked: &ReportOptions<'_>, procs: &[u32], style:
         if status == 0 {
             status = ended.status();
         }
-        if ended == SimEnd::WriteFailed {
+        if ended == Ended::WriteFailed {
             return status;
         }
     }
@@ -84,7 +84,7 @@ fn print_one(
     procs: &[u32],
     tolerance: Option<Tolerance>,
     style: Style,
-) -> SimEnd
+) -> Ended
     requires { All IsNumber procs.now }
 {
     let alloc = rt.alloc();

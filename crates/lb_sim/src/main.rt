@@ -4,9 +4,9 @@
 //! `--keep-order` the PEs then keep their order, and with `--any-order` they may change it, so that the fewest bytes move. With
 //! `--check` it prints instead whether the decision in the dump is right.
 //!
-//! - `program_words::on_words`: the arguments of the command line, and the status. `sim_command_line::asked`: what the
+//! - `program_words::on_words`: the arguments of the command line, and the status. `lb_replay::asked`: what the
 //!   arguments ask for; `program_words::refused`: the status where they ask for nothing to be done.
-//! - `lb_replay::SimOptions::task`: which task that is, if the options can be combined; `sim_command_line::refuse_both`: what is
+//! - `lb_replay::Asked::task`: which task that is, if the options can be combined; `lb_replay::refuse_both`: what is
 //!   printed if they cannot.
 //! - `lb_replay::run`: the task, and its end with the status for that; `lb_replay::dump_advice`: what to do about a fault of the
 //!   dump; `streams::Advice`: what is printed about a file with a fault.
@@ -17,9 +17,8 @@ ghost use Rattle.std.specs.Prelude.{◌≤◌};
 ghost use Rattle.std.specs.Option.{ForSome};
 
 use chare_index::Limits;
-use lb_replay::{SimEnd, SimOptions, Task, dump_advice, run};
+use lb_replay::{Asked, Ended, Task, asked, dump_advice, refuse_both, run};
 use program_words::{BAD_FILE, on_words, refused};
-use sim_command_line::{asked, refuse_both};
 use std::fs::File;
 use std::io;
 use std::process::ExitCode;
@@ -40,7 +39,7 @@ fn main(rt: HostRuntime) -> ExitCode {
 }
 
 // Does what is asked for, and returns the status. Where that is not a task no file is opened.
-fn do_task(rt: &HostRuntime, asked: &SimOptions<'_>) -> u8
+fn do_task(rt: &HostRuntime, asked: &Asked<'_>) -> u8
     requires some_pe { ForSome asked.now.procs (λ p. 1 ≤ p) }
     requires few_pes { ForSome asked.now.procs (λ p. p ≤ Limits.PES) }
 {
@@ -70,16 +69,16 @@ fn run_task(rt: &HostRuntime, name: &str, task: Task) -> u8
 }
 
 // What to do about a file, by how its replay or check ended.
-fn advice_on(ended: SimEnd) -> Advice<'static> {
+fn advice_on(ended: Ended) -> Advice<'static> {
     match ended {
-        SimEnd::Dump(fault) => Advice {
+        Ended::Dump(fault) => Advice {
             wrong: dump_advice(fault),
             ..ADVICE
         },
-        SimEnd::Printed
-        | SimEnd::Plan(_)
-        | SimEnd::Flawed(_)
-        | SimEnd::NoDecision
-        | SimEnd::WriteFailed => ADVICE,
+        Ended::Printed
+        | Ended::Plan(_)
+        | Ended::Flawed(_)
+        | Ended::NoDecision
+        | Ended::WriteFailed => ADVICE,
     }
 }

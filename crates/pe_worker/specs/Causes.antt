@@ -1,6 +1,6 @@
 -- Why a worker meets a fault: what a handler or the board refused.
 use Rattle.std.specs.Prelude.{◌⊎◌, ℕ, List, length}
-use Rattle.at_sync.specs.declared.error.BoardError.TheVariants as Board
+use Rattle.sync_board.specs.declared.error.BoardError.TheVariants as Board
 use Rattle.barrier.specs.Refusals.{IsRefusedDecision}
 use Rattle.chares.specs.Elements.{ElementView, IsHistory, Refuses}
 use Rattle.chares.specs.Steps.{Step}

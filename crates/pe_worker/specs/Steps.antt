@@ -3,7 +3,7 @@ use Rattle.std.specs.Prelude.{◌≡◌, ℕ, ◌==◌, List, Option, None, Some
 use Rattle.std.specs.Option.{option_and_then}
 use Rattle.chares.specs.declared.note.Note.{Note}
 use Rattle.chares.specs.Steps.{Step}
-use Rattle.at_sync.specs.Boards.{BoardState}
+use Rattle.sync_board.specs.Boards.{BoardState}
 use Rattle.barrier.specs.Places.{PlacesView, place_among}
 use Rattle.pup_pack.specs.declared.error.PupError.{PupError}
 use Rattle.pe_state.specs.declared.acted.Acted.TheVariants.{Executed}

@@ -3,13 +3,13 @@
 ghost use Rattle.std.specs.Prelude.{◌≡◌, ◌+◌, ◌<◌, ◌≤◌, OnErr, OnOk};
 ghost use Rattle.std.specs.VecDeque.{deque_capacity, deque_len};
 
-use at_sync::Board;
 use barrier::{BoardSize, RoundPlaces, RunBoard};
 use chare_index::{Index, Round};
 use chares::{Chare, Note, Openings, Progress};
 use pe_state::PeState;
 use std::alloc::{AllocError, Allocator, Global};
 use std::collections::VecDeque;
+use sync_board::Board;
 
 /// The elements of a PE by what they wait for, so that a worker need not search all of them. No clause depends on it: an
 /// element missing here would be resumed too late, but never wrongly.

@@ -2,8 +2,8 @@
 use Rattle.std.proofs.Common.{◌≡◌, ℕ, zero, suc, ◌+◌, List, [], ◌∷◌, ◌++◌, Option, Some, None, refl, sym, ap, subst, ◌∙◌, inl, append_assoc}
 use Rattle.std.specs.Prelude.{All, IfSome, IsSome, MatchOption, drop, map, slice_get, slice_set, take}
 use Rattle.std.specs.List.{range_with_len}
-use Rattle.at_sync.specs.Boards.{BoardState}
-use Rattle.at_sync.specs.declared.strategy.Strategy.{Strategy}
+use Rattle.sync_board.specs.Boards.{BoardState}
+use Rattle.sync_board.specs.declared.strategy.Strategy.{Strategy}
 use Rattle.chares.specs.declared.note.Note.{Note}
 use Rattle.chares.specs.declared.trace_entry.TraceEntry.{TraceEntry}
 use Rattle.event_laws.specs.Agreement.{AllTaken}

@@ -1,7 +1,7 @@
 //! What holds of every run of ranks, whose notes are messages to the board.
 
 ghost use Rattle.std.specs.Prelude.{◌≡◌, ◌≤◌, ℕ, List, ◌++◌, Some, IfSome, IsSome, slice_get};
-ghost use Rattle.at_sync.specs.declared.strategy.Strategy.{Strategy};
+ghost use Rattle.sync_board.specs.declared.strategy.Strategy.{Strategy};
 ghost use Rattle.chares.specs.declared.trace_entry.TraceEntry.{TraceEntry};
 ghost use Rattle.event_laws.specs.Agreement.{Agrees, AllTaken, DecidesOfMarks};
 ghost use Rattle.event_laws.specs.Barrier.{IsBarrier, ResumesInPlace};

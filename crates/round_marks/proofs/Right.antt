@@ -4,7 +4,7 @@ use Rattle.std.specs.List.{All}
 use Rattle.std.specs.List.Sorted.{IsStrictlyIncreasing}
 use Rattle.std.proofs.lemmas.List.{drop_all, drop_more}
 use Rattle.std.proofs.lemmas.List.Elements.{All-nil, All-cons, All-head, All-tail}
-use Rattle.at_sync.specs.Boards.{BoardState}
+use Rattle.sync_board.specs.Boards.{BoardState}
 use Rattle.chares.specs.declared.note.Mark.{Mark}
 use Rattle.chares.specs.declared.note.Mark.TheVariants.{Synced, Resumed}
 use Rattle.round_marks.specs.Marked.{AreSynced, IsResumption, IsResumptionMark, IsSyncOf, round_reached, rounds_resumed}

@@ -21,7 +21,7 @@ use Rattle.rts_core.specs.Runs.{Reaches}
 use Rattle.rts_core.specs.Worlds.{WorldView, home, placed_on, all_placed, opening_world}
 use Rattle.rts_core.proofs.Rooms.{EachAt, each_found, each_changed, each_joined, each_without, at_place}
 use Rattle.rts_core.proofs.Turns.{EachTurn, each_map, happens_so}
-use Rattle.at_sync.specs.declared.strategy.Strategy.{Strategy}
+use Rattle.sync_board.specs.declared.strategy.Strategy.{Strategy}
 
 -- what is to be kept: of the element with an index, and of one that is packed
 module _ {C : Type 0} (step : Step C) (pack : C → List ℕ) (F : ℕ → ElementView C → Type 0) (K : PackedView → Type 0) where

@@ -1,8 +1,8 @@
 -- What a run begins with.
 use Rattle.std.specs.Prelude.{◌≡◌, ℕ, List, [], length, map, sum_by, All}
 use Rattle.std.specs.List.{range_with_len}
-use Rattle.at_sync.specs.Boards.{BoardState}
-use Rattle.at_sync.specs.declared.strategy.Strategy.{Strategy}
+use Rattle.sync_board.specs.Boards.{BoardState}
+use Rattle.sync_board.specs.declared.strategy.Strategy.{Strategy}
 use Rattle.chare_index.specs.declared.limits.TheConstants.Limits.{SEATS}
 use Rattle.lb_database.specs.Measuring.{elements}
 use Rattle.pe_queues.specs.Seats.{new_seat, pes, PostView, SeatView}

@@ -2,7 +2,7 @@
 use Rattle.std.specs.Prelude.{◌≡◌, ℕ, zero, suc, ◌-◌, ◌*◌, ◌/◌, ◌==◌, List, [], ◌∷◌, length, map, sum_by, Option, None, Some, Bool, true, false, ◌&&◌, if◌then◌else◌, nat_lt, is_none, is_some, slice_get, slice_set, IfSome, Result}
 use Rattle.std.specs.List.{filter_map, list_all, range_with_len}
 use Rattle.std.specs.Option.{option_and_then, option_map_or}
-use Rattle.at_sync.specs.Boards.{BoardState, place_in}
+use Rattle.sync_board.specs.Boards.{BoardState, place_in}
 use Rattle.chares.specs.Elements.{ElementView}
 use Rattle.chares.specs.Steps.{Step}
 use Rattle.chares.specs.declared.carried.Carried.TheVariants as Carried

@@ -10,7 +10,7 @@ use crate::end::PeEnd;
 use crate::parcel::{HeldParcel, Item};
 use crate::pe::PeState;
 use chare_index::{Limits, Pe};
-use chares::{Addressed, BodyLimit, Chare, Openings};
+use chares::{Addressed, Chare, Openings};
 use std::alloc::{AllocError, Allocator};
 use std::collections::VecDeque;
 use std::marker::PhantomData;
@@ -37,7 +37,6 @@ impl<C: Chare<A>, H: Openings<C>, A: Allocator> PeState<C, H, A> {
         Ok(PeState {
             end,
             pes,
-            longest: BodyLimit::usual(),
             alloc,
             of: PhantomData,
         })
