@@ -1,5 +1,5 @@
 """Calls on a chain whose consecutive parts lie in different processes, or are too large to be held at once: nobody needs all
-elements, and the division is that of all. They are those of tezgumi_parts.h, which docs/PARTS.md explains; tezgumi.mpi does all of
+elements, and the division is that of all. They are those of tezgumi_parts.h, which docs/BINDINGS.md explains; tezgumi.mpi does all of
 this over MPI ranks.
 
     division = tezgumi.parts.divide_all(parts, pes=64)     # of parts that one process can read, as memory-mapped files
