@@ -2,7 +2,7 @@
 use Rattle.std.proofs.Common.{◌≡◌, ◌∙◌, ap, inl, inr, ℕ, List, [], ◌∷◌, ◌++◌, append_assoc, Option, None, Some, Result, Ok, Err}
 use Rattle.std.specs.Prelude.{IfSome, ⊤}
 use Rattle.std.specs.Io.KnownBytes.{Appends}
-use Rattle.checkpointed_runs.specs.Keeping.{FileRequest, AsksFor, Made, Placed, Replaces}
+use Rattle.checkpointed_runs.specs.Keeping.{FileRequest, AsksFor, Made, Placed, Removed, Replaces}
 
 -- one thing was asked for after another
 asked_both : (old mid now : Option (List FileRequest)) (one two : List FileRequest) → AsksFor old mid one → AsksFor mid now two → AsksFor old now (one ++ two)
@@ -21,15 +21,20 @@ filled (Some found) (Some whole) bytes is more =
     ap Some (more ∙ ap (λ l. l ++ bytes) empty)
 
 -- the file took the name, or the system refused that
-pub replaces : {E : Type 0} (result : Result ⊤ E) (old mid now : Option (List FileRequest)) (empty held : Option (List ℕ)) (new name bytes : List ℕ)
-    → AsksFor old mid (Made new ∷ []) → IfSome mid (λ _. empty ≡ Some []) → Appends empty held bytes
-    → AsksFor mid now (Placed new name held ∷ []) → Replaces new name bytes old now result
-replaces (Ok _) None mid now empty held new name bytes made is written placed = tt
-replaces (Err _) None mid now empty held new name bytes made is written placed = inl tt
-replaces result (Some before) None now empty held new name bytes made is written placed = absurd made
-replaces (Ok _) (Some before) (Some between) now empty held new name bytes made is written placed =
-    asked_both (Some before) (Some between) now (Made new ∷ []) (Placed new name (Some bytes) ∷ []) made
+pub replaces : {E : Type 0} (result : Result ⊤ E) (old mid now : Option (List FileRequest)) (empty held : Option (List ℕ)) (name bytes : List ℕ)
+    → AsksFor old mid (Made name ∷ []) → IfSome mid (λ _. empty ≡ Some []) → Appends empty held bytes
+    → AsksFor mid now (Placed name held ∷ []) → Replaces name bytes old now result
+replaces (Ok _) None mid now empty held name bytes made is written placed = tt
+replaces (Err _) None mid now empty held name bytes made is written placed = inl tt
+replaces result (Some before) None now empty held name bytes made is written placed = absurd made
+replaces (Ok _) (Some before) (Some between) now empty held name bytes made is written placed =
+    asked_both (Some before) (Some between) now (Made name ∷ []) (Placed name (Some bytes) ∷ []) made
     (rw (← filled empty held bytes is written) placed)
-replaces (Err _) (Some before) (Some between) now empty held new name bytes made is written placed =
-    inr (asked_both (Some before) (Some between) now (Made new ∷ []) (Placed new name (Some bytes) ∷ []) made
-    (rw (← filled empty held bytes is written) placed))
+replaces (Err _) (Some before) (Some between) now empty held name bytes made is written placed =
+    inr (inr (asked_both (Some before) (Some between) now (Made name ∷ []) (Placed name (Some bytes) ∷ []) made
+    (rw (← filled empty held bytes is written) placed)))
+
+-- the file was removed, since it was not written
+pub removed : {E : Type 0} (e : E) (old mid now : Option (List FileRequest)) (name bytes : List ℕ)
+    → AsksFor old mid (Made name ∷ []) → AsksFor mid now (Removed ∷ []) → Replaces name bytes old now (Err e)
+removed e old mid now name bytes made gone = inr (inl (asked_both old mid now (Made name ∷ []) (Removed ∷ []) made gone))
