@@ -29,8 +29,9 @@ def plan(
     it moves the fewest bytes: no other way to name these blocks by PEs moves fewer. Both are proved.
 
     With a tolerance the heaviest block may weigh that much more than the least one can, the limit rounded down: so many
-    thousandths, 0 to 1000, or a fraction as a float, so that 20 and 0.02 are two per cent. It is for runs that a dump holds. Where the elements of each PE are together, on PEs below `pes`, these stand
-    in an order, and behind them those without elements; otherwise it is the plan without a tolerance.
+    thousandths, 0 to 1000, or a fraction as a float, so that 20 and 0.02 are two per cent. It is for runs that a dump holds. Where
+    the elements of each PE are together, on PEs below `pes`, these stand in an order, and behind them those without elements;
+    otherwise it is the plan without a tolerance.
 
     Of all cuts within the limit those are taken that would move the fewest bytes in this order, and their blocks are named
     anew, so that the fewest bytes move: PEs may change places. Where that saves nothing, it is the plan without a tolerance. So
