@@ -577,7 +577,7 @@ public:
         });
         return found;
     }
-    // The same, each with the index of its element.
+    // What a function makes of each element, by its index.
     template <class F>
     auto collect_by_index(F &&of) const -> std::map<std::uint32_t, typename std::decay<decltype(of(std::declval<const C &>()))>::type>
     {
