@@ -10,6 +10,7 @@ Its file `crate` is its line there. The tree has it with the plain endings, besi
 
 import glob
 import os
+import re
 import shutil
 import subprocess
 import sys
@@ -38,6 +39,20 @@ def with_below(names, lines):
         if name in lines and name not in found:
             found.add(name)
             left += lines[name].split(":")[1].split()
+    return found
+
+
+def tests_of(crate):
+    """The crates with tests that call a library themselves, and the library where it has tests of its own."""
+    folders = {name: f"{TOP}/crates/{name}/src/**/*.rt" for name in lines_of(os.path.join(TOP, "crates.txt"))}
+    found = []
+    for name, pattern in (folders | {name: f"{HERE}/{name}/src/**/*.rt.txt" for name in names_in()}).items():
+        text = ""
+        for path in glob.glob(pattern, recursive=True):
+            with open(path, encoding="utf-8") as file:
+                text += file.read()
+        if "#[test]" in text and (name == crate or re.search(rf"^use {crate}(::|;)", text, re.M)):
+            found.append(name)
     return found
 
 

@@ -1,4 +1,4 @@
-//! How the next event is drawn, as docs/SCHEDULES.md says.
+//! How the next event is drawn, as docs/RUNS.md says.
 
 /// SplitMix64 (Steele, Lea and Flood, OOPSLA 2014).
 struct Numbers {

@@ -1,5 +1,5 @@
 //! A yardstick for `charm_run --seed`: runs a workload on one thread, event by event, as a seed draws the events, in plain Rust
-//! without proofs. It was written from docs/SCHEDULES.md and docs/EVENTS.md.
+//! without proofs. It was written from docs/RUNS.md and docs/EVENTS.md.
 //!
 //!     schedules FILE [--seed S] [--limit N] [--letters-first] [--moves-first] [--stale-looks] [--starve P] [--events]
 //!

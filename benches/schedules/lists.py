@@ -7,7 +7,7 @@
     lists.py --rattle          prints them as a table for a test
 
 NAME.events is a list of events, and NAME.stdout what charm_run prints of that run. The seeds were chosen so that each rule of
-docs/SCHEDULES.md and docs/EVENTS.md that can change a list changes one of these.
+docs/RUNS.md and docs/EVENTS.md that can change a list changes one of these.
 """
 import os
 import subprocess

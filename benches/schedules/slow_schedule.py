@@ -7,7 +7,7 @@
 One line for each event. With --text the lines that charm_run prints of such a run follow, and with --trace each event has behind
 it, after a tab, what it adds to the trace.
 
-It follows the table of docs/EVENTS.md, the formats of docs/FORMATS.md and the rules of docs/SCHEDULES.md, and shares no code with
+It follows the table of docs/EVENTS.md, the formats of docs/FORMATS.md and the rules of docs/RUNS.md, and shares no code with
 the project. The decision of a round is that of slow_planner.py beside the tests of the Python package, and within a tolerance
 that of search_all.py: both try everything, so it is for small workloads. After each event every letter and every element is
 looked for, place by place.

@@ -10,24 +10,26 @@
 A `Run` is a chain of elements: the load, the packed size and the present PE of each. `plan` says where each runs from now
 on, `decide` says it with certificates, and `check` says whether every part of a decision is right, whoever made it. With
 `tolerance=20` the heaviest PE may have 2 per cent more than the least possible load, where fewer bytes move by that, and with
-`keep_order=True` beside it the PEs keep their order; with `any_order=True` no cuts and no names move fewer bytes. `divide` says where to cut a chain of loads, and no more. These four
+`keep_order=True` beside it the PEs keep their order; with `any_order=True` no cuts and no names move fewer bytes. `divide` says
+where to cut a chain of loads, and no more. Loads that are floats are measured ones, which `scaled` counts in a unit. These five
 call libtezgumi.so, whose planner and checker are proved; all else is plain Python, and tested. The library is looked for in
 this package, where the wheel has it; then where TEZGUMI_LIBRARY says; then by the system's loader. (In a clone, what
 bindings/build made comes before that.)
 
 - runs: Run, Plan, Decision, NearDecision, ReorderedDecision, and the limits
-- planning: plan, decide, check, divide; checking: Verdict, Flaw
+- planning: plan, decide, check, divide; checking: Verdict, Flaw; scales: scaled
 - figures: figures, sweep, table, pe_loads
 - dumps: read_dump, write_dump, decode, encode, of the formats LBD1 and LBD2
-- texts: replay_text, the text that lb_sim prints
+- tables: read_table, of CSV and NPY
+- texts: replay_text, the text that lb_sim prints, and json_of
 - parts: the steps of a division of a chain whose parts lie in different processes, and divide_all, which takes them for parts
   that one process can read
 - mpi: rebalance, decide, move and report of arrays on MPI ranks; `import tezgumi.mpi`, which needs mpi4py
 - page: page, which shows the rounds of a run in a browser
 - errors: TezgumiError and its kinds
 
-`tezgumi_plot`, beside this package, draws. `python3 -m tezgumi FILE`, or tezgumi-plan where the wheel is installed, prints
-the figures of a dump. numpy is needed, and matplotlib to draw.
+docs/PYTHON.md has all of it, with examples. `tezgumi_plot`, beside this package, draws. `python3 -m tezgumi FILE`, or tezgumi-plan
+where the wheel is installed, prints the figures of a dump or a table. numpy is needed, and matplotlib to draw.
 """
 import sys
 
@@ -39,21 +41,22 @@ except ImportError as error:
 from . import parts
 from .checking import Flaw, Verdict
 from .dumps import Dump, decode, encode, read_dump, write_dump
-from .errors import DumpError, InputError, LibraryError, LoadError, OutOfMemory, TezgumiError, TraceError
+from .errors import DumpError, InputError, LibraryError, LoadError, OutOfMemory, TableError, TezgumiError, TraceError
 from .figures import Figures, Sweep, figures, pe_loads, sweep, table
 from .page import page
-from .planning import check, decide, divide, plan
+from .planning import Divided, check, decide, divide, plan
 from .runs import DIVISION_PES, DUMP_ELEMENTS, DUMP_LOAD, DUMP_PES, DUMP_STATE_BYTES, ELEMENTS, MOVE, PES, TOLERANCE
 from .runs import TOTAL_BYTES, TOTAL_LOAD
 from .runs import Decision, NearDecision, Plan, ReorderedDecision, Run
-from .texts import replay_text
+from .scales import Scaled, scaled
+from .tables import read_table
+from .texts import json_of, replay_text
 from .version import __version__
 
 __all__ = [
-    "DIVISION_PES", "DUMP_ELEMENTS", "DUMP_LOAD", "DUMP_PES", "DUMP_STATE_BYTES", "Decision", "Dump", "DumpError", "ELEMENTS",
-    "Figures", "Flaw", "InputError", "LibraryError", "LoadError", "MOVE", "NearDecision", "OutOfMemory", "PES", "Plan",
-    "ReorderedDecision", "Run",
-    "Sweep", "TOLERANCE", "TOTAL_BYTES", "TOTAL_LOAD", "TezgumiError", "TraceError", "Verdict", "__version__", "check",
-    "decide", "decode", "divide", "encode", "figures", "page", "parts", "pe_loads", "plan", "read_dump", "replay_text", "sweep",
-    "table", "write_dump",
+    "DIVISION_PES", "DUMP_ELEMENTS", "DUMP_LOAD", "DUMP_PES", "DUMP_STATE_BYTES", "Decision", "Divided", "Dump", "DumpError",
+    "ELEMENTS", "Figures", "Flaw", "InputError", "LibraryError", "LoadError", "MOVE", "NearDecision", "OutOfMemory", "PES", "Plan",
+    "ReorderedDecision", "Run", "Scaled", "Sweep", "TOLERANCE", "TOTAL_BYTES", "TOTAL_LOAD", "TableError", "TezgumiError",
+    "TraceError", "Verdict", "__version__", "check", "decide", "decode", "divide", "encode", "figures", "json_of", "page", "parts",
+    "pe_loads", "plan", "read_dump", "read_table", "replay_text", "scaled", "sweep", "table", "write_dump",
 ]

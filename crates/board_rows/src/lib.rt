@@ -2,8 +2,8 @@
 #![tactic(auto)]
 
 #[cfg(test)]
-mod barrier;
-#[cfg(test)]
 mod board;
 #[cfg(test)]
 mod fixtures;
+#[cfg(test)]
+mod lock;

@@ -4,6 +4,7 @@ ghost use Rattle.std.specs.Prelude.{◌≡◌, ◌≤◌, IfOk, MatchResult, len
 ghost use Rattle.rts_run.specs.Configs.{IsWithin, MayBegin, RefusesRun};
 ghost use Rattle.rts_run.specs.Outcomes.{EndsIdle, IsOutcome};
 
+use crate::counting::CountingOn;
 use crate::opening::opened_again;
 use barrier::RunStrategy;
 use chare_index::{Gate, Limits};
@@ -18,8 +19,8 @@ use std::thread::Threads;
 
 /// Carries on a run that ended early, from what it left, on as many PEs and by the same strategy: its elements where they are, its
 /// letters where they were held, its rounds counted on. What each PE's queue still held comes back to that PE first. Elements that
-/// have started keep or drop what they handle as before; the watch is told of what happens from now on. `opening` is a snapshot of the
-/// chares that the first run opened with, which has no bytes: only the contract reads it.
+/// have started keep or drop what they handle as before. The watch is told of what happens from now on, with the letters that both runs
+/// have executed. `opening` is a snapshot of the chares that the first run opened with, which has no bytes: only the contract reads it.
 ///
 /// The outcome is one of both runs together, as if they were one: the clause `outcome` says of it what [`rts_run::run`] promises. So what was
 /// posted in the first run is executed in one of the two, or held at the end, and it may be carried on in turn. Where every element
@@ -89,6 +90,7 @@ fn carry_on_as<
     ensures idle { IfOk result (EndsIdle options.now.idle) }
     ensures homes { IfOk result (λ o. o.homes ≡ outcome.homes) }
 {
+    let counting = CountingOn::after(outcome.account().executed, watch);
     let (opened, homes) = opened_again::<C, H, A>(alloc, config, outcome)?;
-    run_opened(rt, alloc, config, options, gate, watch, opened, homes)
+    run_opened(rt, alloc, config, options, gate, &counting, opened, homes)
 }

@@ -9,6 +9,7 @@
 #![tactic(auto)]
 
 mod carrying;
+mod counting;
 mod opening;
 mod parts;
 mod pausing;

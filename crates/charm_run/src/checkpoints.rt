@@ -1,12 +1,13 @@
 //! Runs that keep checkpoints, and those that go on from one.
 
-ghost use Rattle.std.specs.Prelude.{IfOk, None};
+ghost use Rattle.std.specs.Prelude.{IfOk};
 ghost use Rattle.run_checkpoint.specs.Text.{IsWithin};
 
+use crate::kept_files::KeptFiles;
 use crate::{ADVICE, TURNS, options_of};
 use chare_index::Pes;
 use checkpointed_runs::{
-    CheckpointFiles, Checkpoints, drive_from, finish_kept, on_pes, opening_of, read_checkpoint,
+    Checkpoints, drive_from, finish_kept, on_pes, opening_of, read_checkpoint,
 };
 use program_words::BAD_FILE;
 use progress_line::ShownProgress;
@@ -14,7 +15,7 @@ use run_checkpoint::Checkpoint;
 use run_command_line::CharmRunOptions;
 use schedule_run::read_workload;
 use std::alloc::{AllocError, Global};
-use std::fs::{File, Files, OpenFile, rename};
+use std::fs::{File, Files};
 use std::io::{self, Write};
 use std::sync::Wait;
 use std::thread::Threads;
@@ -28,27 +29,6 @@ const RESTART_ADVICE: Advice<'static> = Advice {
     unread: "give a file with a checkpoint that you may read, or /dev/stdin for the standard input",
     wrong: "give a checkpoint: charm_run --checkpoint CHECKPOINT writes one",
 };
-
-/// The files of the system.
-#[derive(Drop)]
-struct SystemFiles<'a, R>(&'a R);
-
-impl<R: Files> CheckpointFiles for SystemFiles<'_, R> {
-    type File = R::File;
-
-    // what a system is asked for is not known
-    ghost asked = { λ _. None };
-
-    fn create(&mut self, name: &str) -> io::Result<R::File> {
-        File::create(self.0, name)
-    }
-
-    fn put_in_place(&mut self, file: R::File, from: &str, to: &str) -> io::Result<()> {
-        file.sync_all()?;
-        drop(file);
-        rename(self.0, from, to)
-    }
-}
 
 /// Whether a run keeps checkpoints, or goes on from one.
 pub(crate) fn has_checkpoints(asked: &CharmRunOptions<'_>) -> bool {
@@ -67,7 +47,7 @@ pub(crate) fn run_kept<
         Err(status) => return status,
     };
     let every = asked.every.unwrap_or(1);
-    let files = SystemFiles(rt);
+    let files = KeptFiles(rt);
     let mut checkpoints = Checkpoints::new(rt.alloc(), files, asked.checkpoint, every);
     let options = options_of(asked);
     let driven = drive_from(

@@ -10,13 +10,15 @@
 //! - `workload_run::drive_file`: the run of a workload, from a file to its text; `write_asked`: the dumps of its rounds, and
 //!   the status; `write_beside`: the list of events, where it is asked for and there was a run.
 //! - `one_thread`: the runs on one thread, by the crate `schedule_run`. `traces`: the trace of a run, by `run_trace::keep_trace`.
-//!   `files`: the files of the system. `checkpoints`: the runs that keep checkpoints or go on from one, by the crate `checkpointed_runs`.
+//!   `files`: the files of the system. `checkpoints`: the runs that keep checkpoints or go on from one, by the crate `checkpointed_runs`;
+//!   `kept_files`: how a new checkpoint takes the place of the one before.
 //! - `progress_line::ShownProgress`: what is written to the standard error meanwhile; `streams::Advice`: what is printed about a
 //!   file with a fault.
 #![tactic(auto)]
 
 mod checkpoints;
 mod files;
+mod kept_files;
 mod one_thread;
 mod traces;
 

@@ -1,15 +1,14 @@
 //! Checkpoints that are written where a run pauses.
 
-ghost use Rattle.std.specs.Prelude.{◌≡◌, ◌<◌, ◌≤◌, None, Some, IfOk, IfSome, IsFalse, IsTrue, IsSome, ◌↔◌, ℕ, length};
+ghost use Rattle.std.specs.Prelude.{◌≡◌, ◌≢◌, ◌<◌, ◌≤◌, None, Some, IfOk, IfSome, IsFalse, IsTrue, IsSome, ◌↔◌, ℕ, length};
 ghost use Rattle.std.specs.Option.{option_copied, option_map};
-ghost use Rattle.std.specs.String.{string_bytes};
 ghost use Rattle.sync_board.specs.Boards.{decision_of};
-ghost use Rattle.checkpointed_runs.specs.Keeping.{Keeps, new_name};
 ghost use Rattle.checkpointed_runs.specs.Lines.{not_kept_line};
 ghost use Rattle.checkpointed_runs.specs.Pausing.{IsDue, KeepsAt, KeepsNoted, all_decided, first_failure, last_places, places_by};
 ghost use Rattle.lb_database.specs.Measuring.{elements};
 ghost use Rattle.lb_refinement.specs.Refined.{refined_bottleneck, refined_cuts, refined_moved, refined_names};
 ghost use Rattle.lb_strategy.specs.Moves.{HasPlace};
+ghost use Rattle.pe_worker.specs.declared.fault.Fault.TheVariants.{Mismatch};
 ghost use Rattle.streams.specs.Writing.{WritesPrefix};
 
 use crate::files::{CheckpointFiles, replace};
@@ -18,6 +17,7 @@ use chare_index::{Index, Limits, Pe, Round};
 use chares::Chare;
 use lb_refinement::Refined;
 use lb_snapshot::Snapshot;
+use pe_worker::Fault;
 use rts_run::Outcome;
 use run_checkpoint::DecidedRound;
 use std::alloc::{AllocError, Allocator, Global};
@@ -120,19 +120,22 @@ impl<'a, F: CheckpointFiles + Drop, A: Allocator + Copy> Checkpoints<'a, F, A> {
         self.keep_due(outcome, self.every);
     }
 
-    /// The run has ended with this. Where it ended early, the checkpoint after its last round is written, if it was not tried before.
+    /// The run has ended with this. Where it ended early, the checkpoint after its last round is written, if it was not tried before. After a
+    /// [`Mismatch`](Fault::Mismatch) none is: elements and rounds do not agree then, and the last checkpoint stays.
     pub fn end<C: Chare<A>>(&mut self, outcome: &Outcome<C, A>)
         ensures off { self.old.name ≡ None → self.new ≡ self.old }
         ensures well { outcome.now.fault ≡ None → self.new ≡ self.old }
+        ensures mismatch { outcome.now.fault ≡ Some Mismatch → self.new ≡ self.old }
         ensures early { ¬ (IsDue self.old.written 1 (length outcome.now.board.rounds)) → self.new ≡ self.old }
-        ensures asked { IsSome outcome.now.fault → IsDue self.old.written 1 (length outcome.now.board.rounds) →
+        ensures asked { IsSome outcome.now.fault → outcome.now.fault ≢ Some Mismatch → IsDue self.old.written 1 (length outcome.now.board.rounds) →
             KeepsNoted (option_map (λ name. name.now) self.old.name) self.old.workload (all_decided self.old.before.items outcome.now.board.rounds)
             (last_places outcome.now.board) (F.asked self.old.files) (F.asked self.new.files) self.old.failed self.new.failed }
-        ensures counted { IsSome outcome.now.fault → IsSome self.old.name → IsDue self.old.written 1 (length outcome.now.board.rounds) →
+        ensures counted { IsSome outcome.now.fault → outcome.now.fault ≢ Some Mismatch → IsSome self.old.name → IsDue self.old.written 1 (length outcome.now.board.rounds) →
             self.new ≡ record self.old { files = self.new.files; written = length outcome.now.board.rounds; failed = self.new.failed } }
     {
-        if outcome.fault().is_some() {
-            self.keep_due(outcome, 1);
+        match outcome.fault() {
+            None | Some(Fault::Mismatch) => {}
+            Some(_) => self.keep_due(outcome, 1),
         }
     }
 
@@ -174,7 +177,7 @@ impl<'a, F: CheckpointFiles + Drop, A: Allocator + Copy> Checkpoints<'a, F, A> {
         let (Some(name), Some(workload)) = (self.name, &self.workload) else {
             return Ok(());
         };
-        keep_checkpoint(self.alloc, &mut self.files, name, decided, places, workload)
+        replace(self.alloc, &mut self.files, name, decided, places, workload)
     }
 
     // Notes why a checkpoint was not kept, if it was not, and if it is the first.
@@ -213,30 +216,6 @@ fn is_due(written: usize, least: usize, rounds: usize) -> bool
     ensures value { IsTrue result ↔ IsDue written least rounds }
 {
     written < rounds && least <= rounds - written
-}
-
-// Writes a checkpoint to the file with this name followed by `.new`, which then takes the name.
-fn keep_checkpoint<F: CheckpointFiles, A: Allocator + Copy>(
-    alloc: A,
-    files: &mut F,
-    name: &str,
-    decided: &[DecidedRound],
-    places: &[Pe],
-    workload: &Workload<A>,
-) -> io::Result<()>
-    ensures asked { Keeps name.now (record { decided = decided.now; places = places.now; workload = workload.now }) (F.asked files.old) (F.asked files.new) result }
-{
-    let new = new_name(alloc, name)?;
-    replace(alloc, files, &new, name, decided, places, workload)
-}
-
-// The name of the new file. The only error is that memory was refused.
-fn new_name<A: Allocator>(alloc: A, name: &str) -> Result<String<A>, AllocError>
-    ensures { IfOk result (λ new. string_bytes new ≡ new_name name.now) }
-{
-    let mut new = String::from_str(alloc, name)?;
-    new.push_str(".new")?;
-    Ok(new)
 }
 
 // What was decided for each round, before the run and by it. The only error is that memory was refused.

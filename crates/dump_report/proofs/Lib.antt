@@ -1,3 +1,4 @@
+pub mod Found
 pub mod OneReports
 pub mod Plans
 pub mod ToldLines

@@ -27,5 +27,5 @@ mod dump_text;
 mod report;
 mod telling;
 
-pub use report::{report_dump, report_file};
+pub use report::{report_dump, report_dump_logged, report_file};
 pub use telling::tell;

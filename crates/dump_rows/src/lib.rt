@@ -5,6 +5,8 @@
 #[cfg(test)]
 mod database;
 #[cfg(test)]
+mod failing;
+#[cfg(test)]
 mod feeding;
 #[cfg(test)]
 mod fixtures;
@@ -18,7 +20,5 @@ mod parts;
 mod rows;
 #[cfg(test)]
 mod slow_reader;
-#[cfg(test)]
-mod streams;
 #[cfg(test)]
 mod texts;

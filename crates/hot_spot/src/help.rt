@@ -19,5 +19,7 @@ checksum S                             of all cells: the same on any number of
                                        PEs, with --static too
 fault WORD                             in place of it: what ended the run early
 
-Standard error tells the time. Statuses: 0 ended well, 2 words, 4 a fault of
-the run, 5 memory, output or trace.";
+Standard error tells the time, and how to see the other: with --static, or
+without it. Where nothing else is said a run with --static takes more than twice
+as long. Statuses: 0 ended well, 2 words, 4 a fault of the run, 5 memory, output
+or trace.";

@@ -115,7 +115,7 @@ fn run_and_print<V: Watch + Sync, R: Threads + Wait + Sync + Clock + Print + Epr
     let start = Instant::now(rt);
     let outcome = run_chain_watched(rt, rt.alloc(), &config, &wanted, watch, chain)?;
     if let Ok(start) = start {
-        tell_time(rt, &start, outcome.account().executed);
+        tell_time(rt, &start, outcome.account().executed, options.is_static);
     }
     let text = if options.is_quiet {
         ending_of(rt.alloc(), chain, &outcome)?
@@ -133,8 +133,8 @@ fn run_and_print<V: Watch + Sync, R: Threads + Wait + Sync + Clock + Print + Epr
     Ok((outcome, status))
 }
 
-// Prints to the standard error how long a run took, and how many letters it handled in a second.
-fn tell_time<R: Clock + Eprint>(rt: &R, start: &Instant, letters: u64) {
+// Prints to the standard error how long a run took, how many letters it handled in a second, and how to see the other time.
+fn tell_time<R: Clock + Eprint>(rt: &R, start: &Instant, letters: u64, is_static: bool) {
     let Ok(elapsed) = start.elapsed(rt) else {
         return;
     };
@@ -142,5 +142,12 @@ fn tell_time<R: Clock + Eprint>(rt: &R, start: &Instant, letters: u64) {
         .unwrap_or(u64::MAX)
         .max(1);
     let rate = letters.saturating_mul(1_000_000) / micros;
-    let _ = eprintln!(rt; "hot_spot: {micros} microseconds, {letters} letters, {rate} a second");
+    let other = if is_static {
+        "without --static, which balances"
+    } else {
+        "with --static, which balances nothing"
+    };
+    let _ = eprintln!(rt;
+        "hot_spot: {micros} microseconds, {letters} letters, {rate} a second; compare {other}"
+    );
 }

@@ -59,7 +59,7 @@ fn pes<'a>(alloc: Global) -> Arg<'a> {
 }
 
 fn rounds<'a>(alloc: Global) -> Arg<'a> {
-    let help = "How many rounds there are: 64 where it is not said";
+    let help = "How many rounds there are: 512 where it is not said";
     let range = value_parser!(u32).range(0..=i64::from(StripLimits::ROUNDS));
     word(alloc, "rounds", "R", help).value_parser(range)
 }
@@ -112,7 +112,7 @@ fn found<'a>(matches: &ArgMatches<'a>) -> RunOptions<'a> {
     RunOptions {
         elements: matches.get_one::<u32>("elements").unwrap_or(64),
         pes: matches.get_one::<u32>("pes").unwrap_or(4),
-        rounds: matches.get_one::<u32>("rounds").unwrap_or(64),
+        rounds: matches.get_one::<u32>("rounds").unwrap_or(512),
         work: matches.get_one::<u32>("work").unwrap_or(1_000),
         is_static: matches.get_one("static") == Some(true),
         tolerance: tolerance_in(matches),

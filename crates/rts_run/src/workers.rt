@@ -54,6 +54,7 @@ pub(crate) fn open_workers<
 }
 
 // A PE with its seat, on which letters are posted with bodies of up to this length.
+#[tactic(auto, using(crate::proofs::Seated::seated_longer))]
 fn seated<C: Chare<A>, H: Openings<C> + RunStrategy, J: RunBeginning<C>, A: Allocator + Copy>(
     pe: PeState<C, H, A>,
     seat: Seat<Parcel<C, H, A>, A>,

@@ -1,6 +1,6 @@
 -- The bytes of a reader, piece by piece.
 use Rattle.std.proofs.Common.{◌≡◌, ℕ, ◌+◌, ◌<◌, ◌≤◌, List, [], ◌++◌, length, take, Option, Some, None, Result, Ok, Err, sym, ap, subst, ◌∙◌, refl, arith, length-append, inl, inr, ◌⊎◌}
-use Rattle.std.specs.Prelude.{IfErr, IfSome}
+use Rattle.std.specs.Prelude.{IfErr, IfSome, IsErrOf}
 use Rattle.std.specs.Result.{IsErrAnd}
 use Rattle.std.specs.Io.KnownBytes.{Consumes, IsAtEnd, Keeps}
 use Rattle.std.proofs.lemmas.List.{append-nil}
@@ -9,6 +9,10 @@ use Rattle.run_checkpoint.specs.declared.error.CheckpointError.{CheckpointError}
 use Rattle.run_checkpoint.specs.declared.error.CheckpointError.TheVariants.{Form, Limit, Long, Read, OutOfMemory}
 use Rattle.run_checkpoint.specs.declared.form.TheConstants.{TEXT_BYTES}
 use Rattle.run_checkpoint.specs.Text.{CheckpointView}
+use Rattle.run_checkpoint.specs.Faults.{IsBodyFault, IsFault, IsPlacesFault, shifted}
+use Rattle.run_checkpoint.specs.declared.checkpoint.DecidedRound.{DecidedRound}
+use Rattle.workload.specs.declared.error.WorkError.{WorkError}
+use Rattle.workload.specs.Faults.{IsFault as IsWorkloadFault}
 use Rattle.run_checkpoint.specs.Reading.{IsAnswer, IsReadAnswer, IsReading, IsStop, ReadsToItsEnd}
 
 -- bytes that were read before a reader stopped
@@ -110,3 +114,52 @@ whole_end new (Err (Limit n)) end_ = end_
 whole_end new (Err Long) end_ = tt
 whole_end new (Err Read) end_ = tt
 whole_end new (Err OutOfMemory) end_ = tt
+
+-- what holds of any error
+pub on_error : {T E : Type 0} (r : Result T E) (Q : E → Type 0) (P : Type 0) → P → IfErr r (λ e. Q e → P)
+on_error (Ok x) Q P holds = tt
+on_error (Err e) Q P holds = λ _. holds
+
+-- an error handed on is the one that the call returned
+pub handed_on : {T : Type 0} (r : Result T CheckpointError) (error : CheckpointError) (P : Type 0) → IsErrAnd r (λ f. f ≡ error) → (error ≡ Read → P)
+    → IfErr r (λ e. e ≡ Read → P)
+handed_on (Ok x) error P is then = tt
+handed_on (Err f) error P is then = λ read. then (sym is ∙ read)
+
+pub passed_on : {T : Type 0} (r : Result T CheckpointError) (error : CheckpointError) (P : Type 0) → IsErrAnd r (λ f. f ≡ error) → (error ≡ Read → P)
+    → IsErrOf r Read → P
+passed_on (Ok x) error P is then failed = absurd is
+passed_on (Err f) error P is then failed = then (cc)
+
+-- no fault of a text is that a reader failed
+no_work : (before : ℕ) (bytes : List ℕ) (fault : WorkError) → IsWorkloadFault bytes fault → Read ≡ shifted fault before → ⊥
+no_work before bytes (WorkError.Form n) has told = cc
+no_work before bytes (WorkError.Limit n) has told = cc
+no_work before bytes WorkError.Long has told = cc
+no_work before bytes WorkError.Read has told = has.1
+no_work before bytes WorkError.OutOfMemory has told = cc
+
+no_places : (decided : List DecidedRound) (bytes : List ℕ) → IsPlacesFault decided bytes Read → ⊥
+no_places decided bytes (inl bad) = bad
+no_places decided bytes (inr behind) =
+    elim behind.next [
+      | inl bad ↦ no_work (length decided + 2) behind.rest bad.fault bad.has bad.told
+      | inr other ↦ other.apart
+    ]
+
+no_body : (rounds : ℕ) (bytes : List ℕ) → IsBodyFault rounds bytes Read → ⊥
+no_body rounds bytes (inl bad) = bad.next
+no_body rounds bytes (inr behind) = no_places behind.value behind.rest behind.next
+
+no_read : (bytes : List ℕ) → IsFault bytes Read → ⊥
+no_read bytes (inl long) = let no : Read ≡ Long = long.0 in cc
+no_read bytes (inr (short, inl bad)) = bad
+no_read bytes (inr (short, inr behind)) = no_body behind.value behind.rest behind.next
+
+-- no text is read as a reader that failed
+pub never_failed : (bytes : List ℕ) (result : Result CheckpointView CheckpointError) (P : Type 0) → IsAnswer bytes result → IsErrOf result Read → P
+never_failed bytes result P answer is =
+    elim (subst (λ (r : Result CheckpointView CheckpointError). IsAnswer bytes r) is answer) [
+      | inl none ↦ absurd (let no : Read ≡ OutOfMemory = none.0 in cc)
+      | inr fault ↦ absurd (no_read bytes fault)
+    ]

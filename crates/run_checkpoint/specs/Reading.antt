@@ -4,6 +4,9 @@ use Rattle.std.specs.Io.KnownBytes.{IsAtEnd}
 use Rattle.run_checkpoint.specs.declared.error.CheckpointError.{CheckpointError}
 use Rattle.run_checkpoint.specs.declared.error.CheckpointError.TheVariants.{Form, Limit, Long, Read, OutOfMemory}
 use Rattle.run_checkpoint.specs.declared.form.TheConstants.{TEXT_BYTES}
+use Rattle.run_checkpoint.specs.declared.whole.TheConstants.{CALLS}
+use Rattle.streams.specs.Logs.{HasFailed}
+use Rattle.streams.specs.declared.log.CallLog.{CallLog}
 use Rattle.run_checkpoint.specs.Faults.{IsBehind, IsFault, IsHead}
 use Rattle.run_checkpoint.specs.Text.{CheckpointView, IsCheckpointText, head_line}
 
@@ -46,3 +49,7 @@ IsStop bytes Long = TEXT_BYTES < length bytes
 IsStop bytes Read = length bytes ≤ TEXT_BYTES
 IsStop bytes OutOfMemory = Unit {0}
 IsStop bytes e = ⊥
+
+-- why the bytes of a reader were not read: by the log of its calls it failed, or was called as often as it may be
+abbrev pub ReaderHasFailed : CallLog → Type 0
+ReaderHasFailed log = HasFailed CALLS log

@@ -1,9 +1,9 @@
 //! A checkpoint: the decided rounds of a run, the places of its chares, and the workload.
 
-ghost use Rattle.std.specs.Prelude.{◌≡◌, ◌⊎◌, ◌+◌, ◌≤◌, Err, IfSome, List, MatchResult, length, ℕ};
+ghost use Rattle.std.specs.Prelude.{◌≡◌, ◌⊎◌, ◌+◌, ◌≤◌, Err, IfSome, IsErrOf, List, MatchResult, length, ℕ};
 ghost use Rattle.std.specs.Io.KnownBytes.{Consumes};
 ghost use Rattle.run_checkpoint.specs.Faults.{IsFault};
-ghost use Rattle.run_checkpoint.specs.Reading.{IsAnswer, IsReadAnswer, IsReading, ReadsToItsEnd};
+ghost use Rattle.run_checkpoint.specs.Reading.{IsAnswer, IsReadAnswer, IsReading, ReaderHasFailed, ReadsToItsEnd};
 ghost use Rattle.run_checkpoint.specs.Text.{CheckpointView, IsCheckpointText};
 ghost use Rattle.run_checkpoint.specs.declared.error.CheckpointError.{CheckpointError};
 ghost use Rattle.run_checkpoint.specs.declared.form.TheConstants.{TEXT_BYTES};
@@ -17,6 +17,7 @@ use chare_index::Pe;
 use std::alloc::{Allocator, Global};
 use std::io::Read;
 use std::marker::Model;
+use streams::CallLog;
 use workload::Workload;
 
 /// What was decided for a round: the largest load of a PE, and the bytes of the chares that move.
@@ -87,7 +88,27 @@ impl<A: Allocator + Copy> Checkpoint<A> {
         ensures known { IfSome (R.remaining reader.old) (λ bytes. (result ≡ Err CheckpointError.Read) ⊎ IsReadAnswer bytes result) }
         ensures at_end { ReadsToItsEnd (R.remaining reader.new) result }
     {
-        let bytes = read_whole(alloc, reader)?;
+        Checkpoint::read_from_logged(alloc, reader, &mut CallLog::new())
+    }
+
+    /// The checkpoint of the text that a reader gives, read as by [`read_from`](Checkpoint::read_from), with the calls of the reader
+    /// in a log.
+    ///
+    /// # Errors
+    ///
+    /// Those of [`read_from`](Checkpoint::read_from). Where it is [`Read`](CheckpointError::Read), the log has an error, or 134,217,728
+    /// calls.
+    pub fn read_from_logged<R: Read>(
+        alloc: A,
+        reader: &mut R,
+        log: &mut CallLog,
+    ) -> Result<Self, CheckpointError>
+        ensures read { (bytes : List ℕ) × Consumes (R.remaining reader.old) (R.remaining reader.new) bytes × (length bytes ≤ TEXT_BYTES + 1) × IsReading bytes result }
+        ensures known { IfSome (R.remaining reader.old) (λ bytes. (result ≡ Err CheckpointError.Read) ⊎ IsReadAnswer bytes result) }
+        ensures at_end { ReadsToItsEnd (R.remaining reader.new) result }
+        ensures failed { IsErrOf result CheckpointError.Read → ReaderHasFailed log.new }
+    {
+        let bytes = read_whole(alloc, reader, log)?;
         Checkpoint::parse(alloc, &bytes)
     }
 }

@@ -2,6 +2,7 @@
 //! each chare is, and the workload.
 //!
 //! - [`Checkpoint`]: what a text says, read by [`Checkpoint::parse`] from bytes or by [`Checkpoint::read_from`] from a reader.
+//! - [`Checkpoint::read_from_logged`]: reads with the calls of the reader in a log, which has the failure where it failed.
 //! - [`write_checkpoint`]: writes the text of a checkpoint.
 //! - [`CheckpointError`]: why bytes are no such text.
 //! - [`tallies_after`]: the chares of a workload after some of its rounds.

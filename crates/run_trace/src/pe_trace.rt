@@ -1,6 +1,6 @@
 //! What one PE did.
 
-ghost use Rattle.std.specs.Prelude.{◌≡◌, ◌++◌, ◌∷◌, [], true, MatchBool, MatchResult};
+ghost use Rattle.std.specs.Prelude.{◌≡◌, ◌++◌, ◌∷◌, [], true, MatchBool, MatchResult, min};
 
 use crate::happening::{Action, Happening, What};
 use chare_index::{Pe, Round};
@@ -20,13 +20,16 @@ pub(crate) struct PeTrace<A: Allocator> {
 }
 
 impl<A: Allocator> PeTrace<A> {
-    /// An empty row.
-    pub(crate) fn new(alloc: A) -> Self {
+    /// An empty row of a PE that has posted this number of letters before.
+    pub(crate) fn after(alloc: A, posted: u64) -> Self
+        ensures empty { result.happenings.items ≡ [] }
+        ensures posted { result.posted ≡ min posted 0xffff_ffff }
+    {
         PeTrace {
             happenings: Vec::new(alloc),
             is_short: false,
             began: 0,
-            posted: 0,
+            posted: number_of(posted),
         }
     }
 
@@ -42,7 +45,7 @@ impl<A: Allocator> PeTrace<A> {
             PeStep::Reported => now,
             _ => self.began,
         };
-        let end = u32::try_from(posted).unwrap_or(u32::MAX);
+        let end = number_of(posted);
         let what = What::Done(pe, action_of(step), self.posted, end);
         self.posted = end;
         self.began = now;
@@ -93,6 +96,13 @@ impl<A: Allocator> PeTrace<A> {
         }
         Ok(happenings)
     }
+}
+
+// A number of letters, or the greatest of 32 bits.
+fn number_of(posted: u64) -> u32
+    ensures value { result ≡ min posted 0xffff_ffff }
+{
+    u32::try_from(posted).unwrap_or(u32::MAX)
 }
 
 // What a PE did in a step.

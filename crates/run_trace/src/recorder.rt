@@ -1,9 +1,13 @@
 //! A watch that keeps what happened.
 
+ghost use Rattle.std.specs.Prelude.{◌≡◌, IfOk, map};
+
 use crate::error::TraceError;
 use crate::pe_trace::PeTrace;
 use crate::timeline::Timeline;
 use chare_index::{Limits, Pe, Round};
+use chares::Chare;
+use pe_state::PeEnd;
 use pe_worker::{PeStep, Watch};
 use std::alloc::{AllocError, Allocator, Global};
 use std::collections::VecDeque;
@@ -23,20 +27,40 @@ pub struct Recorder<'a, R, A: Allocator = Global> {
 }
 
 impl<'a, R: Clock, A: Allocator + Copy> Recorder<'a, R, A> {
-    /// A recorder of a run that begins now.
+    /// A recorder of a run that begins now. Of one that is carried on use [`after`](Recorder::after).
     ///
     /// # Errors
     ///
     /// [`Clock`](TraceError::Clock) where the clock cannot be read, and then [`OutOfMemory`](TraceError::OutOfMemory).
     pub fn new(rt: &'a R, alloc: A) -> Result<Self, TraceError> {
+        Self::after_posts(rt, alloc, &[])
+    }
+
+    /// A recorder of a run that is carried on now, from what an earlier one left on its PEs, in order. The letters that the earlier run
+    /// posted are not among what happens now.
+    ///
+    /// # Errors
+    ///
+    /// Those of [`new`](Recorder::new).
+    pub fn after<C: Chare<B>, B: Allocator>(
+        rt: &'a R,
+        alloc: A,
+        ends: &[PeEnd<C, B>],
+    ) -> Result<Self, TraceError> {
+        let posted = posted_on(alloc, ends)?;
+        Self::after_posts(rt, alloc, &posted)
+    }
+
+    // A recorder of a run in which each PE has posted this number of letters before; none where no number is given.
+    fn after_posts(rt: &'a R, alloc: A, posted: &[u64]) -> Result<Self, TraceError> {
         let Ok(start) = Instant::now(rt) else {
             return Err(TraceError::Clock);
         };
         Ok(Recorder {
             rt,
             start,
-            rows: rows(alloc)?,
-            decisions: Mutex::new(PeTrace::new(alloc)),
+            rows: rows(alloc, posted)?,
+            decisions: Mutex::new(PeTrace::after(alloc, 0)),
         })
     }
 
@@ -68,13 +92,31 @@ impl<'a, R: Clock, A: Allocator + Copy> Recorder<'a, R, A> {
     }
 }
 
-// A row for each PE that a run may have.
-fn rows<A: Allocator + Copy>(alloc: A) -> Result<VecDeque<Mutex<PeTrace<A>>, A>, AllocError> {
+// A row for each PE that a run may have, with what it has posted before.
+fn rows<A: Allocator + Copy>(
+    alloc: A,
+    posted: &[u64],
+) -> Result<VecDeque<Mutex<PeTrace<A>>, A>, AllocError> {
     let mut rows = VecDeque::new(alloc);
-    for _pe in 0..Limits::PES {
-        rows.push_back(Mutex::new(PeTrace::new(alloc)))?;
+    for pe in 0..Limits::PES {
+        let before = posted.get(pe as usize).copied().unwrap_or(0);
+        rows.push_back(Mutex::new(PeTrace::after(alloc, before)))?;
     }
     Ok(rows)
+}
+
+// How many letters each of these PEs has posted.
+fn posted_on<C: Chare<B>, A: Allocator, B: Allocator>(
+    alloc: A,
+    ends: &[PeEnd<C, B>],
+) -> Result<Vec<u64, A>, AllocError>
+    ensures value { IfOk result (λ posted. posted.items ≡ map (λ pe. pe.count) ends.now) }
+{
+    let mut posted = Vec::new(alloc);
+    for end in ends {
+        posted.push(end.count())?;
+    }
+    Ok(posted)
 }
 
 impl<R: Clock + Wait, A: Allocator + Copy> Watch for Recorder<'_, R, A> {

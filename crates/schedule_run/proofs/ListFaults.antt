@@ -1,5 +1,7 @@
 -- What a list of events is refused for.
-use Rattle.std.proofs.Common.{inl, inr, ℕ, List, Option, ap}
+use Rattle.std.proofs.Common.{◌≡◌, inl, inr, ℕ, List, Option, Result, Ok, Err, ap}
+use Rattle.std.specs.Prelude.{IfErr, IsErrOf}
+use Rattle.std.specs.Result.{IsErrAnd}
 use Rattle.std.specs.Io.KnownBytes.{Consumes, IsAtEnd}
 use Rattle.event_lists.specs.Faults.{IsFault}
 use Rattle.event_lists.specs.Reading.{IsRefusal}
@@ -20,3 +22,13 @@ pub list_refused : (bytes rest : Option (List ℕ)) (text : List ℕ) (e : Event
     → RefusesList bytes rest (Faulty e)
 list_refused bytes rest text e consumed ended (inl (is, needs)) = inl (inr (ap Faulty is))
 list_refused bytes rest text e consumed ended (inr fault) = inr (text, consumed, ended, listed text e fault)
+
+-- what holds of any error
+pub on_error : {T E : Type 0} (r : Result T E) (Q : E → Type 0) (P : Type 0) → P → IfErr r (λ e. Q e → P)
+on_error (Ok x) Q P holds = tt
+on_error (Err e) Q P holds = λ _. holds
+
+-- an error passed on is the one that the call returned
+pub passed_on : {T E : Type 0} (r : Result T E) (error e : E) (P : Type 0) → IsErrAnd r (λ f. f ≡ error) → (error ≡ e → P) → IsErrOf r e → P
+passed_on (Ok x) error e P is then failed = absurd is
+passed_on (Err f) error e P is then failed = then (cc)

@@ -6,7 +6,10 @@ use Rattle.event_lists.specs.Faults.{IsFault}
 use Rattle.event_lists.specs.Text.{IsText}
 use Rattle.event_lists.specs.declared.error.EventListError.TheVariants as Why
 use Rattle.rts_core.specs.declared.event.Event.{Event}
+use Rattle.streams.specs.Logs.{HasFailed}
 use Rattle.streams.specs.Writing.{WritesPrefix}
+use Rattle.streams.specs.declared.log.CallLog.{CallLog}
+use Rattle.schedule_run.specs.declared.lists.TheConstants.{CALLS}
 use Rattle.schedule_run.specs.declared.list_fault.ListFault.{ListFault}
 use Rattle.schedule_run.specs.declared.list_fault.ListFault.TheVariants.{Unread, Faulty, NotEnabled}
 use Rattle.workload_run.specs.Lines.{memory_line, newline}
@@ -43,3 +46,7 @@ abbrev pub RefusesList : Option (List ℕ) → Option (List ℕ) → ListFault �
 RefusesList bytes rest fault =
     ((fault ≡ Unread) ⊎ (fault ≡ Faulty Why.OutOfMemory))
     ⊎ ((text : List ℕ) × Consumes bytes rest text × IsAtEnd rest × IsListFault text fault)
+
+-- why the bytes of a reader were not read: by the log of its calls it failed, or was called as often as it may be
+abbrev pub ReaderHasFailed : CallLog → Type 0
+ReaderHasFailed log = HasFailed CALLS log

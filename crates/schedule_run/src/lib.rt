@@ -37,7 +37,7 @@ mod workload_file;
 
 pub use driving::{drive_events, drive_seed};
 pub use list_fault::{ListFault, report_list};
-pub use lists::{read_list, write_list};
+pub use lists::{read_list, read_list_logged, write_list};
 pub use on_one::DrivenOnOne;
 pub use running::{follow, search};
 pub use seeds::{drive_seeds, tell_seeds};

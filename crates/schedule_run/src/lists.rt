@@ -1,12 +1,13 @@
 //! Reads lists of events from files, and writes them.
 
-ghost use Rattle.std.specs.Prelude.{◌≡◌, ◌⊎◌, ◌<◌, ◌≤◌, ℕ, [], List, Option, Some, Err, IfErr, IfOk, MatchBool, MatchResult, length, take};
+ghost use Rattle.std.specs.Prelude.{◌≡◌, ◌⊎◌, ◌<◌, ◌≤◌, ℕ, [], List, Option, None, Some, Err, IfErr, IfOk, IsErrOf, MatchBool, MatchResult, OnErr, length, take, ◌≢◌};
 ghost use Rattle.std.specs.Io.KnownBytes.{Appends, Consumes, IsAtEnd, Keeps};
 ghost use Rattle.event_lists.specs.Text.{events_text};
 ghost use Rattle.event_lists.specs.declared.error.EventListError.TheVariants.{OutOfMemory};
-ghost use Rattle.schedule_run.specs.Lists.{ReadsList, RefusesList};
+ghost use Rattle.schedule_run.specs.Lists.{ReaderHasFailed, ReadsList, RefusesList};
 ghost use Rattle.schedule_run.specs.declared.list_fault.ListFault.TheVariants.{Faulty, Unread};
 ghost use Rattle.schedules.specs.Courses.{events_tried};
+ghost use Rattle.streams.specs.Logs.{Counts};
 ghost use Rattle.streams.specs.Writing.{WritesPrefix};
 
 use crate::list_fault::ListFault;
@@ -15,7 +16,7 @@ use rts_core::Event;
 use schedules::Explored;
 use std::alloc::{AllocError, Allocator};
 use std::io::{self, Read, Write};
-use streams::{Noted, write_out};
+use streams::{CallLog, write_out};
 use tally::Tally;
 
 /// How many bytes are requested at a time.
@@ -40,24 +41,31 @@ pub fn read_list<R: Read + Drop, A: Allocator + Copy>(
     ensures reason { IfErr file (λ reason. result.1 ≡ Some reason) }
 {
     match file {
-        Ok(reader) => {
-            let mut noted = Noted::new(reader);
-            let events = read_from(alloc, &mut noted);
-            (events, noted.failure())
+        Ok(mut reader) => {
+            let mut log = CallLog::new();
+            let events = read_list_logged(alloc, &mut reader, &mut log);
+            (events, log.failure())
         }
         Err(reason) => (Err(ListFault::Unread), Some(reason)),
     }
 }
 
-// The list of a reader.
-fn read_from<R: Read, A: Allocator + Copy>(
+/// Reads the list of events that a reader gives, to its end, with the calls of the reader in a log.
+///
+/// # Errors
+///
+/// [`Unread`](ListFault::Unread) where the reader fails, with any error, which the log then has, or has been called 536,870,912
+/// times; otherwise the [fault](ListFault::Faulty) of its text, or that memory was refused.
+pub fn read_list_logged<R: Read, A: Allocator + Copy>(
     alloc: A,
     reader: &mut R,
+    log: &mut CallLog,
 ) -> Result<Vec<Event, A>, ListFault>
     ensures reads { MatchResult result (λ events. ReadsList (R.remaining reader.old) (R.remaining reader.new) events.items)
         (RefusesList (R.remaining reader.old) (R.remaining reader.new)) }
+    ensures failed { IsErrOf result Unread → ReaderHasFailed log.new }
 {
-    let bytes = read_all(alloc, reader)?;
+    let bytes = read_all(alloc, reader, log)?;
     match read_events(alloc, &bytes) {
         Ok(events) => Ok(events),
         Err(error) => Err(ListFault::Faulty(error)),
@@ -65,15 +73,20 @@ fn read_from<R: Read, A: Allocator + Copy>(
 }
 
 // All bytes of a reader, to its end.
-fn read_all<R: Read, A: Allocator + Copy>(alloc: A, reader: &mut R) -> Result<Vec<u8, A>, ListFault>
+fn read_all<R: Read, A: Allocator + Copy>(
+    alloc: A,
+    reader: &mut R,
+    log: &mut CallLog,
+) -> Result<Vec<u8, A>, ListFault>
     ensures bytes { IfOk result (λ bytes. Consumes (R.remaining reader.old) (R.remaining reader.new) bytes.items) }
     ensures ended { IfOk result (λ _. IsAtEnd (R.remaining reader.new)) }
     ensures fault { IfErr result (λ e. (e ≡ Unread) ⊎ (e ≡ Faulty OutOfMemory)) }
+    ensures failed { IfErr result (λ e. e ≡ Unread → ReaderHasFailed log.new) }
 {
     let Ok(mut piece) = room(alloc) else {
         return Err(ListFault::Faulty(EventListError::OutOfMemory));
     };
-    read_onto(Vec::new(alloc), reader, &mut piece)
+    read_onto(Vec::new(alloc), reader, &mut piece, log)
 }
 
 // A buffer for the bytes of one call.
@@ -85,20 +98,22 @@ fn room<A: Allocator>(alloc: A) -> Result<Vec<u8, A>, AllocError>
     Ok(piece)
 }
 
-// Reads all bytes of a reader onto an empty list.
+// All bytes of a reader, onto a list that is empty, with `piece` as the buffer for the bytes of one call.
 fn read_onto<R: Read, A: Allocator>(
     mut bytes: Vec<u8, A>,
     reader: &mut R,
     piece: &mut [u8],
+    log: &mut CallLog,
 ) -> Result<Vec<u8, A>, ListFault>
     requires empty { bytes.items ≡ [] }
     requires room { length piece.old ≡ PIECE_LEN }
     ensures bytes { IfOk result (λ bytes. Consumes (R.remaining reader.old) (R.remaining reader.new) bytes.items) }
     ensures ended { IfOk result (λ _. IsAtEnd (R.remaining reader.new)) }
     ensures fault { IfErr result (λ e. (e ≡ Unread) ⊎ (e ≡ Faulty OutOfMemory)) }
+    ensures failed { IfErr result (λ e. e ≡ Unread → ReaderHasFailed log.new) }
 {
-    for _ in 0..CALLS {
-        let len = read_piece(reader, piece)?;
+    for _call in 0..CALLS {
+        let len = read_piece(reader, piece, log)?;
         if len == 0 {
             return Ok(bytes);
         }
@@ -110,14 +125,20 @@ fn read_onto<R: Read, A: Allocator>(
 }
 
 // One call of the reader. Any error is a failure: the call is not made again.
-fn read_piece<R: Read>(reader: &mut R, room: &mut [u8]) -> Result<usize, ListFault>
+fn read_piece<R: Read>(
+    reader: &mut R,
+    room: &mut [u8],
+    log: &mut CallLog,
+) -> Result<usize, ListFault>
     ensures room { length room.new ≡ length room.old }
     ensures bound { IfOk result (λ len. len ≤ length room.new) }
     ensures bytes { MatchResult result
         (λ len. Consumes (R.remaining reader.old) (R.remaining reader.new) (take len room.new) × (len ≡ 0 → 0 < length room.new → IsAtEnd (R.remaining reader.new)))
         (λ e. (e ≡ Unread) × Keeps (R.remaining reader.old) (R.remaining reader.new)) }
+    ensures failed { OnErr result (log.new.failure ≢ None) }
+    ensures counted { Counts log.old.reads log.new.reads }
 {
-    match reader.read(room) {
+    match log.read(reader, room) {
         Ok(len) => Ok(len),
         Err(_) => Err(ListFault::Unread),
     }

@@ -1,3 +1,5 @@
+//! The log of the calls of a reader or a writer.
+
 ghost use Rattle.std.specs.Prelude.{◌≡◌, false, None, Some, MatchResult};
 ghost use Rattle.std.specs.Io.{ReadsAtMost, WritesAtMost};
 ghost use Rattle.std.specs.Io.KnownBytes.{Keeps, ReadConsumes, WriteAppends};

@@ -1,7 +1,7 @@
 -- What is reported of bytes, read whole or piece by piece.
 use Rattle.std.proofs.Common.{◌≡◌, ℕ, ◌+◌, ◌<◌, ◌≤◌, ◌⊎◌, inl, inr, true, false, List, [], ◌++◌, length, take}
 use Rattle.std.proofs.Common.{◌∷◌, Option, Some, None, Result, Ok, Err, refl, sym, ap, subst, ◌∙◌, arith, append_assoc, length-append}
-use Rattle.std.specs.Prelude.{IfErr, IfSome, MatchResult, OnOk, ⊤}
+use Rattle.std.specs.Prelude.{IfErr, IfSome, IsErrOf, MatchResult, OnOk, ⊤}
 use Rattle.std.specs.Result.{IsErr, IsErrAnd}
 use Rattle.std.specs.Io.KnownBytes.{Consumes, IsAtEnd}
 use Rattle.std.proofs.lemmas.Bool.{cases_Bool, cases_lt}
@@ -269,3 +269,27 @@ text_or_fault bytes =
               let e : WorkError = Form (length s.lines + 1) in
               inr (e, short_fault bytes e short (end_line_fault bytes s e came (open_, refl)))
         ]
+
+-- no byte of a text is reported as a reader that failed
+not_read : {A : Type 0} (text : List ℕ) (judge : Judge A) (e : WorkError) → IsJudged text judge (Err e) → e ≡ Read → ⊥
+not_read text judge e (inl none) is = let h : Read ≡ OutOfMemory = sym is ∙ none in cc
+not_read text judge e (inr stopped) is = subst (IsLineFault text) is (line_fault text e stopped)
+
+pub end_unread : {A : Type 0} (text : List ℕ) (judge : Judge A) (judged : Result ⊤ WorkError) (P : Type 0) → IsJudged text judge judged
+    → IfErr judged (λ e. e ≡ Read → P)
+end_unread text judge (Ok x) P judges = tt
+end_unread text judge (Err e) P judges = λ is. absurd (not_read text judge e judges is)
+
+-- nor is the end of a text
+pub ends_unread : (s : State) (result : Result WorkloadView WorkError) (P : Type 0) → Ends s result → IsErrOf result Read → P
+ends_unread s result P ends is = absurd (let h : Read ≡ Form (length s.lines + 1) = (subst (λ (r : Result WorkloadView WorkError). Ends s r) is ends).1 in cc)
+
+-- what holds of any error
+pub on_error : {T E : Type 0} (r : Result T E) (Q : E → Type 0) (P : Type 0) → P → IfErr r (λ e. Q e → P)
+on_error (Ok x) Q P holds = tt
+on_error (Err e) Q P holds = λ _. holds
+
+-- an error passed on is the one that the call returned
+pub passed_on : {T : Type 0} (r : Result T WorkError) (error e : WorkError) (P : Type 0) → IsErrAnd r (λ f. f ≡ error) → (error ≡ e → P) → IsErrOf r e → P
+passed_on (Ok x) error e P is then failed = absurd is
+passed_on (Err f) error e P is then failed = then (cc)

@@ -4,6 +4,9 @@ use Rattle.std.specs.Io.KnownBytes.{IsAtEnd}
 use Rattle.workload.specs.declared.error.WorkError.{WorkError}
 use Rattle.workload.specs.declared.error.WorkError.TheVariants.{Form, Limit, Read, OutOfMemory}
 use Rattle.workload.specs.declared.form.TheConstants.{TEXT_BYTES}
+use Rattle.workload.specs.declared.reading.TheConstants.{CALLS}
+use Rattle.streams.specs.Logs.{HasFailed}
+use Rattle.streams.specs.declared.log.CallLog.{CallLog}
 use Rattle.workload.specs.Text.{WorkloadView, IsText}
 use Rattle.workload.specs.Faults.{is_whole, AreLines, lines_text, IsFault}
 
@@ -48,3 +51,7 @@ EndsAt rest e = Unit {0}
 abbrev pub ReadsToItsEnd : Option (List ℕ) → Result WorkloadView WorkError → Type 0
 ReadsToItsEnd rest (Ok w) = IsAtEnd rest
 ReadsToItsEnd rest (Err e) = EndsAt rest e
+
+-- why the bytes of a reader were not read: by the log of its calls it failed, or was called as often as it may be
+abbrev pub ReaderHasFailed : CallLog → Type 0
+ReaderHasFailed log = HasFailed CALLS log

@@ -1,7 +1,7 @@
 //! Reads the text of a workload: how many PEs and chares a run has, how many rounds, and the amounts of each.
 //!
 //! - [`Workload`]: what a text says, read by [`Workload::parse`] from bytes or by [`Workload::read_from`] from a
-//!   reader.
+//!   reader; [`Workload::read_from_logged`] reads it with the calls of the reader in a log.
 //! - [`WorkError`]: why bytes are no such text.
 //!
 //! Each line is a word and numbers, each after one blank, and ends with a newline. Numbers are decimal, without

@@ -1,11 +1,11 @@
 //! A workload: the PEs, the rounds and the chares of a run, with the amounts of each chare.
 
-ghost use Rattle.std.specs.Prelude.{◌≡◌, ◌⊎◌, ◌+◌, ◌≤◌, List, ℕ, length, IfSome, MatchResult, Err};
+ghost use Rattle.std.specs.Prelude.{◌≡◌, ◌⊎◌, ◌+◌, ◌≤◌, List, ℕ, length, IfSome, IsErrOf, MatchResult, Err};
 ghost use Rattle.std.specs.Io.KnownBytes.{Consumes};
 ghost use Rattle.workload.specs.declared.error.WorkError.{WorkError};
 ghost use Rattle.workload.specs.declared.form.TheConstants.{TEXT_BYTES};
 ghost use Rattle.workload.specs.Faults.{IsFault};
-ghost use Rattle.workload.specs.Reading.{IsAnswer, IsReadAnswer, IsReading, ReadsToItsEnd};
+ghost use Rattle.workload.specs.Reading.{IsAnswer, IsReadAnswer, IsReading, ReaderHasFailed, ReadsToItsEnd};
 ghost use Rattle.workload.specs.Text.{IsText, WorkloadView};
 
 use crate::error::WorkError;
@@ -15,6 +15,7 @@ use crate::reading::feed_all;
 use std::alloc::{Allocator, Global};
 use std::io::Read;
 use std::marker::Model;
+use streams::CallLog;
 
 /// The input of a run: on how many PEs it runs, how many rounds it has, how many bytes of padding each chare has, how
 /// many chares there are, and for each round the amount of each chare. Contracts see it as a record of the same parts.
@@ -76,8 +77,27 @@ impl<A: Allocator + Copy> Workload<A> {
         ensures known { IfSome (R.remaining reader.old) (λ bytes. (result ≡ Err WorkError.Read) ⊎ IsReadAnswer bytes result) }
         ensures at_end { ReadsToItsEnd (R.remaining reader.new) result }
     {
+        Workload::read_from_logged(alloc, reader, &mut CallLog::new())
+    }
+
+    /// The workload of the text that a reader gives, read as by [`read_from`](Workload::read_from), with the calls of the reader in a
+    /// log.
+    ///
+    /// # Errors
+    ///
+    /// Those of [`read_from`](Workload::read_from). Where it is [`Read`](WorkError::Read), the log has an error, or 134,217,728 calls.
+    pub fn read_from_logged<R: Read>(
+        alloc: A,
+        reader: &mut R,
+        log: &mut CallLog,
+    ) -> Result<Self, WorkError>
+        ensures read { (bytes : List ℕ) × Consumes (R.remaining reader.old) (R.remaining reader.new) bytes × (length bytes ≤ TEXT_BYTES + 1) × IsReading bytes result }
+        ensures known { IfSome (R.remaining reader.old) (λ bytes. (result ≡ Err WorkError.Read) ⊎ IsReadAnswer bytes result) }
+        ensures at_end { ReadsToItsEnd (R.remaining reader.new) result }
+        ensures failed { IsErrOf result WorkError.Read → ReaderHasFailed log.new }
+    {
         let mut judge = Judge::new(alloc);
-        feed_all(alloc, &mut judge, reader)?;
+        feed_all(alloc, &mut judge, reader, log)?;
         judge.end()
     }
 }

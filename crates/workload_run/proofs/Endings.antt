@@ -1,5 +1,5 @@
 -- How a run of a workload ends, by what was read and what was written.
-use Rattle.std.proofs.Common.{◌≡◌, ◌≢◌, ◌⊎◌, inl, inr, ℕ, List, Option, None, Some, Result, Ok, Err, refl, sym, subst}
+use Rattle.std.proofs.Common.{◌≡◌, ◌≢◌, ◌⊎◌, inl, inr, ℕ, List, Option, None, Some, Result, Ok, Err, refl, sym, subst, ◌∙◌}
 use Rattle.std.specs.Prelude.{IfSome}
 use Rattle.std.specs.Io.KnownBytes.{Consumes}
 use Rattle.rts_run.specs.Outcomes.{OutcomeView}
@@ -14,9 +14,9 @@ use Rattle.workload_run.specs.Driving.{EndsDrive, IsLeftBy, IsOfWorkload, IsRefu
 use Rattle.workload_run.specs.Internal.{EndsRun}
 use Rattle.workload_run.specs.Lines.{fault_line, memory_line}
 use Rattle.workload_run.specs.Tallies.{tallies_of}
-use Rattle.workload_run.specs.Telling.{ReportsFault, WritesText}
+use Rattle.workload_run.specs.Telling.{HasUnread, ReportsFault, TellsOutcome, WritesText}
 use Rattle.workload_run.specs.declared.ended.RunEnd.{RunEnd}
-use Rattle.workload_run.specs.declared.ended.RunEnd.TheVariants.{OutOfMemory}
+use Rattle.workload_run.specs.declared.ended.RunEnd.TheVariants.{OutOfMemory, Ran, Refused, WriteFailed}
 use Rattle.sync_board.specs.declared.strategy.Strategy.{Strategy}
 
 -- where the bytes of the reader are known, they are the text of the workload that was read
@@ -76,3 +76,22 @@ module _ (A : Type 0) (fits : TallyView → Type 0) (strategy : Strategy) (bytes
   ends_refused text fault ended consumed told at known (inl (other, inr (is, part))) =
       let refusal : IsRefusal bytes rest fault = record { text = text; consumed = consumed; told = told; end_ = at; known = known_fault bytes fault other known } in
       subst (λ e. EndsDrive {A = A} fits strategy bytes rest old new None e) (sym is) (fault_line fault, inl (fault, refusal, refl), part)
+
+-- the line for refused memory is no report of a reader that failed
+memory_unread : (old new : Option (List ℕ)) (ended : RunEnd) → WritesText memory_line OutOfMemory old new ended → HasUnread ended → ⊥
+memory_unread old new ended (inl (is, gone)) unread = let h : OutOfMemory ≡ Refused Why.Read = sym is ∙ unread in cc
+memory_unread old new ended (inr (is, part)) unread = let h : WriteFailed ≡ Refused Why.Read = sym is ∙ unread in cc
+
+-- where it is reported that the workload was not read, that was its fault
+pub refused_unread : (fault : WorkError) (old new : Option (List ℕ)) (ended : RunEnd) → ReportsFault fault old new ended → HasUnread ended → fault ≡ Why.Read
+refused_unread fault old new ended (inl (other, inl (is, gone))) unread = let h : Refused fault ≡ Refused Why.Read = sym is ∙ unread in cc
+refused_unread fault old new ended (inl (other, inr (is, part))) unread = absurd (let h : WriteFailed ≡ Refused Why.Read = sym is ∙ unread in cc)
+refused_unread fault old new ended (inr memory) unread = absurd (memory_unread old new ended memory unread)
+
+-- after a run it is not
+pub ran_unread : {A : Type 0} (fits : TallyView → Type 0) (strategy : Strategy) (w : WorkloadView) (old new : Option (List ℕ)) (outcome : Option (OutcomeView TallyView A))
+    (ended : RunEnd) (P : Type 0) → EndsRun fits strategy w old new outcome ended → HasUnread ended → P
+ran_unread fits strategy w old new None ended P told unread = absurd (memory_unread old new ended told unread)
+ran_unread fits strategy w old new (Some o) ended P (left, inr told) unread = absurd (memory_unread old new ended told unread)
+ran_unread fits strategy w old new (Some o) ended P (left, inl (inl (is, gone))) unread = absurd (let h : Ran o.fault ≡ Refused Why.Read = sym is ∙ unread in cc)
+ran_unread fits strategy w old new (Some o) ended P (left, inl (inr (is, part))) unread = absurd (let h : WriteFailed ≡ Refused Why.Read = sym is ∙ unread in cc)

@@ -23,3 +23,11 @@ TellsOutcome text old new fault result =
 abbrev pub ReportsFault : WorkError → Option (List ℕ) → Option (List ℕ) → RunEnd → Type 0
 ReportsFault fault old new result =
     ((fault ≢ Why.OutOfMemory) × WritesText (fault_line fault) (Refused fault) old new result) ⊎ WritesText memory_line OutOfMemory old new result
+
+-- the workload was not read
+abbrev pub HasUnread : RunEnd → Type 0
+HasUnread ended = ended ≡ Refused Why.Read
+
+-- the text or the line was not written
+abbrev pub HasUnwritten : RunEnd → Type 0
+HasUnwritten ended = ended ≡ WriteFailed

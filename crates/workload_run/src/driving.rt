@@ -3,15 +3,20 @@
 ghost use Rattle.std.specs.Prelude.{◌≡◌, ◌≤◌, ◌⊎◌, ℕ, List, Option, None, Some, IfOk, IfErr};
 ghost use Rattle.rts_run.specs.Usual.{usual_options};
 ghost use Rattle.workload.specs.Text.{IsWithin};
+ghost use Rattle.workload.specs.Reading.{ReaderHasFailed};
+ghost use Rattle.streams.specs.Logs.{HasRefused};
 ghost use Rattle.workload_run.specs.Driving.{EndsDrive, IsLeftBy, IsOfWorkload, ReportsUnread};
 ghost use Rattle.workload_run.specs.Internal.{EndsRun};
 ghost use Rattle.workload_run.specs.Tallies.{tallies_of};
+ghost use Rattle.workload_run.specs.Telling.{HasUnread, HasUnwritten};
 
 use crate::driven::Driven;
 use crate::ended::RunEnd;
 use crate::onlooker::Onlooker;
 use crate::tallies::tallies_of;
-use crate::telling::{report_fault, report_memory, tell_outcome};
+use crate::telling::{
+    report_fault, report_fault_logged, report_memory_logged, tell_outcome_logged,
+};
 use carried_runs::{NoPauses, Pauses, run_in_parts};
 use chare_index::{Limits, NoGate};
 use pe_worker::NoWatch;
@@ -21,7 +26,7 @@ use std::alloc::{AllocError, Allocator};
 use std::io::{self, Read, Write};
 use std::sync::Wait;
 use std::thread::Threads;
-use streams::Noted;
+use streams::CallLog;
 use tally::Tally;
 use workload::{WorkError, Workload};
 
@@ -72,6 +77,42 @@ pub fn drive_by<T: Threads + Wait + Sync, R: Read, W: Write, A: Allocator + Copy
     ensures outcome { IsOfWorkload ⟦<Tally<A> as Pup<A>>⟧.fits options.now.strategy (R.remaining reader.old) (R.remaining reader.new)
         (W.contents writer.old) (W.contents writer.new) result.outcome }
 {
+    let mut read = CallLog::new();
+    let mut written = CallLog::new();
+    drive_logged(
+        rt,
+        alloc,
+        reader,
+        writer,
+        turns,
+        options,
+        &mut read,
+        &mut written,
+    )
+}
+
+/// Drives a workload as [`drive_by`] does, with the calls of the reader and those of the writer in logs. Where the end is that the
+/// workload was not read, the log of the reader has an error, or 134,217,728 calls; where it is that the writer failed, the log of the
+/// writer has an error, or that nothing was taken.
+pub fn drive_logged<T: Threads + Wait + Sync, R: Read, W: Write, A: Allocator + Copy + Send + Sync>(
+    rt: &T,
+    alloc: A,
+    reader: &mut R,
+    writer: &mut W,
+    turns: u64,
+    options: &Options,
+    read: &mut CallLog,
+    written: &mut CallLog,
+) -> Driven<A>
+    requires some_turn { 1 ≤ turns }
+    requires few_turns { turns ≤ Limits.IDLE_TURNS }
+    ensures ends { EndsDrive ⟦<Tally<A> as Pup<A>>⟧.fits options.now.strategy (R.remaining reader.old) (R.remaining reader.new)
+        (W.contents writer.old) (W.contents writer.new) result.outcome result.ended }
+    ensures outcome { IsOfWorkload ⟦<Tally<A> as Pup<A>>⟧.fits options.now.strategy (R.remaining reader.old) (R.remaining reader.new)
+        (W.contents writer.old) (W.contents writer.new) result.outcome }
+    ensures failed { HasUnread result.ended → ReaderHasFailed read.new }
+    ensures unwritten { HasUnwritten result.ended → HasRefused written.new }
+{
     drive_watched(
         rt,
         alloc,
@@ -81,6 +122,8 @@ pub fn drive_by<T: Threads + Wait + Sync, R: Read, W: Write, A: Allocator + Copy
         options,
         &NoWatch,
         &mut NoPauses,
+        read,
+        written,
     )
 }
 
@@ -116,12 +159,22 @@ pub fn drive_file<
     ensures reason { IfErr file (λ reason. result.1 ≡ Some reason) }
 {
     match file {
-        Ok(reader) => {
-            let mut noted = Noted::new(reader);
+        Ok(mut reader) => {
+            let mut read = CallLog::new();
+            let mut written = CallLog::new();
             let driven = drive_watched(
-                rt, alloc, &mut noted, writer, turns, options, watch, pauses,
+                rt,
+                alloc,
+                &mut reader,
+                writer,
+                turns,
+                options,
+                watch,
+                pauses,
+                &mut read,
+                &mut written,
             );
-            (driven, noted.failure())
+            (driven, read.failure())
         }
         Err(reason) => {
             let ended = report_fault(alloc, writer, WorkError::Read);
@@ -147,6 +200,8 @@ fn drive_watched<
     options: &Options,
     watch: &V,
     pauses: &mut P,
+    read: &mut CallLog,
+    written: &mut CallLog,
 ) -> Driven<A>
     requires some_turn { 1 ≤ turns }
     requires few_turns { turns ≤ Limits.IDLE_TURNS }
@@ -154,13 +209,17 @@ fn drive_watched<
         (W.contents writer.old) (W.contents writer.new) result.outcome result.ended }
     ensures outcome { IsOfWorkload ⟦<Tally<A> as Pup<A>>⟧.fits options.now.strategy (R.remaining reader.old) (R.remaining reader.new)
         (W.contents writer.old) (W.contents writer.new) result.outcome }
+    ensures failed { HasUnread result.ended → ReaderHasFailed read.new }
+    ensures unwritten { HasUnwritten result.ended → HasRefused written.new }
 {
-    match Workload::read_from(alloc, reader) {
+    match Workload::read_from_logged(alloc, reader, read) {
         Ok(workload) => {
             watch.expects(workload.rounds);
-            run_workload(rt, alloc, workload, writer, turns, options, watch, pauses)
+            run_workload(
+                rt, alloc, workload, writer, turns, options, watch, pauses, written,
+            )
         }
-        Err(fault) => without_run(report_fault(alloc, writer, fault)),
+        Err(fault) => without_run(report_fault_logged(alloc, writer, fault, written)),
     }
 }
 
@@ -191,22 +250,24 @@ fn run_workload<
     options: &Options,
     watch: &V,
     pauses: &mut P,
+    log: &mut CallLog,
 ) -> Driven<A>
     requires some_turn { 1 ≤ turns }
     requires few_turns { turns ≤ Limits.IDLE_TURNS }
     requires within { IsWithin workload }
     ensures ran { EndsRun ⟦<Tally<A> as Pup<A>>⟧.fits options.now.strategy workload (W.contents writer.old) (W.contents writer.new) result.outcome result.ended }
+    ensures unwritten { HasUnwritten result.ended → HasRefused log.new }
 {
     let chares = workload.chares as usize;
     match outcome_of(rt, alloc, workload, turns, options, watch, pauses) {
         Ok(outcome) => {
-            let ended = tell_outcome(alloc, chares, &outcome, writer);
+            let ended = tell_outcome_logged(alloc, chares, &outcome, writer, log);
             Driven {
                 ended,
                 outcome: Some(outcome),
             }
         }
-        Err(_) => without_run(report_memory(writer)),
+        Err(_) => without_run(report_memory_logged(writer, log)),
     }
 }
 

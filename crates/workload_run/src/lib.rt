@@ -2,6 +2,8 @@
 //!
 //! - [`drive`]: from the bytes of a reader to the bytes of a writer; [`drive_by`]: with other options than the usual ones;
 //!   [`drive_file`]: from a file, observed by an [`Onlooker`].
+//! - [`drive_logged`]: with the calls of the reader and of the writer in logs, which have a failure where the end is that one of these
+//!   failed.
 //! - [`Driven`]: the result: how it [`RunEnd`], the status for that, and the rounds.
 //! - [`Workload`] and [`WorkError`], from `workload`, and [`Tally`], from `tally`: what is read and run.
 //! - [`write_round`]: the dump of a round, in a [`DumpFormat`]; [`write_dumps`]: that of each round, to a file of its own of
@@ -40,7 +42,7 @@ mod telling;
 
 pub use beside::{Beside, BesideText, Lost, report_lost, status_beside, write_beside};
 pub use driven::Driven;
-pub use driving::{drive, drive_by, drive_file};
+pub use driving::{drive, drive_by, drive_file, drive_logged};
 pub use dumps::{DumpFiles, NotWritten, write_dumps};
 pub use early_dumps::{EarlyDumps, write_later};
 pub use ended::RunEnd;
