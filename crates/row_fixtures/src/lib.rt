@@ -5,14 +5,14 @@
 //! - [`example`] and its dumps, rows of dumps ([`push_element`]), and [`pe`] and [`round`] by their numbers.
 #![tactic(auto)]
 
+mod failing;
 mod gates;
 mod numbers;
 mod rows;
-mod streams;
 mod worked;
 
+pub use failing::{Sink, Source};
 pub use gates::{CountingGate, MeetingGate};
 pub use numbers::{pe, round};
 pub use rows::push_element;
-pub use streams::{Sink, Source};
 pub use worked::{EXAMPLE_DUMP, RECORDED_DUMP, example, example_sizes, is_example};

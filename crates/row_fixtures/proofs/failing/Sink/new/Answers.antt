@@ -1,5 +1,5 @@
 use Rattle.std.proofs.Common.{refl}
-use Rattle.row_fixtures.proofs.streams.Sink.new.Goals as goal
+use Rattle.row_fixtures.proofs.failing.Sink.new.Goals as goal
 
 pub returns-clause-fails_at : goal.returns-clause-fails_at
 returns-clause-fails_at g c = refl

@@ -1,4 +1,4 @@
-use Rattle.board_rows.proofs.barrier.a_round_of_two_elements_that_two_workers_decide.Given as goal
+use Rattle.board_rows.proofs.lock.a_round_of_two_elements_that_one_worker_decides.Given as goal
 use Rattle.sync_board.specs.declared.strategy.Strategy.TheVariants.{Least}
 
 abbrev pub ghosts-passes : goal.ghosts-passes

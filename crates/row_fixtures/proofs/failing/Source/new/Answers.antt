@@ -1,5 +1,5 @@
 use Rattle.std.proofs.Common.{refl}
-use Rattle.row_fixtures.proofs.streams.Source.new.Goals as goal
+use Rattle.row_fixtures.proofs.failing.Source.new.Goals as goal
 
 pub returns-clause-fails : goal.returns-clause-fails
 returns-clause-fails c = refl
