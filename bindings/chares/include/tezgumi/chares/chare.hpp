@@ -75,8 +75,9 @@ template <class T, class... M> struct place_of<T, messages<M...>> {
 inline constexpr std::uint8_t beside_bit = 0x80;
 inline constexpr std::size_t ticket_bytes = 13, longest_body = TEZGUMI_PE_BODY_BYTES;
 inline constexpr std::size_t longest_beside = std::size_t(1) << 30;
-// So many letters an answer has at most.
+// So many letters an answer has at most, and so many bytes.
 inline constexpr std::uint64_t most_letters = std::uint64_t(1) << 20;
+inline constexpr std::size_t most_answered = std::size_t(1) << 20;
 using beside = std::shared_ptr<const pup::bytes>;
 
 // The number of a ticket, by which its body is kept. Of a body that several letters name the number has this bit.
@@ -197,6 +198,7 @@ public:
 
 private:
     static constexpr std::size_t letters_at = 14; // of an answer, the count of its letters
+    static constexpr std::size_t letter_bytes = 8; // of a letter in an answer, beside its body
     static void check(std::int32_t status)
     {
         if (status != TEZGUMI_PE_OK) throw std::bad_alloc();
@@ -228,6 +230,9 @@ private:
     void add(std::uint32_t to)
     {
         if (letters == most_letters) throw run_fault(fault_kind::toolong, "a handler sends more than 2^20 letters");
+        if (answer.len + letter_bytes + body.size() > most_answered) {
+            throw run_fault(fault_kind::toolong, "the letters of a handler take more than 2^20 bytes together");
+        }
         reserve_one(receivers);
         check(tezgumi_answer_send(&answer, to, body.data(), static_cast<std::uint32_t>(body.size())));
         receivers.push_back(to);
