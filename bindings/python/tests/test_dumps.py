@@ -7,6 +7,7 @@ import numpy as np
 
 import slow_reader
 import tezgumi
+from tezgumi import dumps
 from support import THREE, TimedTest, as_lists, example, front, large_run, read_bytes
 
 EXAMPLES = ("three-elements.lbd1", "three-elements.lbd2", "forged.lbd2", "moving-front.lbd1")
@@ -118,6 +119,12 @@ class Reading(TimedTest):
             self.assert_read(data)
         self.assertEqual(found(b"LBD1\0\0\0\0\0\0\0\3\0\1\0\0"), "dump: ends at byte 16")
         self.assertEqual(found(b"LBD1\0\0\0\0\0\0\0\3\0\1\0\1"), "dump: more than 65536 elements")
+
+    def test_no_more_is_read_than_the_longest_dump(self):
+        read = dumps.read_bytes("/dev/zero", dumps._MOST_BYTES)
+        self.assertEqual(len(read), dumps._MOST_BYTES + 1)
+        with self.assertRaisesRegex(tezgumi.DumpError, "not LBD1 or LBD2"):
+            tezgumi.read_dump("/dev/zero")
 
     def test_a_file_that_is_not_there(self):
         self.assertRaises(FileNotFoundError, tezgumi.read_dump, example("no-such-dump"))

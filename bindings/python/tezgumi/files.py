@@ -11,12 +11,13 @@ Path = Union[str, "os.PathLike[str]"]
 STDIN = "-"
 
 
-def read_bytes(path: Path) -> bytes:
-    """The bytes of a file, or of the standard input."""
+def read_bytes(path: Path, most: int = -1) -> bytes:
+    """The bytes of a file, or of the standard input; with `most` no more than one byte past so many."""
+    size = -1 if most < 0 else most + 1
     if os.fspath(path) == STDIN:
-        return sys.stdin.buffer.read()
+        return sys.stdin.buffer.read(size)
     with open(path, "rb") as file:
-        return file.read()
+        return file.read(size)
 
 
 def refuse_inputs(out: Path, inputs: Iterable[Path | None]) -> None:

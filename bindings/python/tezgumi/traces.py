@@ -20,13 +20,20 @@ _Row = Tuple[Any, Any]
 MOST_EVENTS = 200_000
 """So many events of a trace are shown at most: the earliest ones."""
 
+MOST_BYTES = 2**30
+"""So many bytes a trace has at most."""
+
 
 def read_trace(path: Path) -> List[_Event]:
     """The events of a trace, as they stand in the file; `-` is the standard input. TraceError tells what is wrong with it."""
     try:
-        read = json.loads(read_bytes(path).decode("utf-8"))
+        data = read_bytes(path, MOST_BYTES)
     except OSError as error:
         raise TraceError(f"read failed ({error})") from None
+    if len(data) > MOST_BYTES:
+        raise TraceError(f"more than {MOST_BYTES} bytes")
+    try:
+        read = json.loads(data.decode("utf-8"))
     except (ValueError, RecursionError) as error:
         raise TraceError(f"no JSON ({error})") from None
     events = read.get("traceEvents") if isinstance(read, dict) else read
