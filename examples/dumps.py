@@ -45,6 +45,19 @@ def dump2(step, procs, elements, decision=None):
     return text
 
 
+# No dump has more bytes: 65,536 elements, and a decision for 256 PEs by which all of them move.
+MOST_BYTES = 16 + 16 * 65536 + 4 + 12 + 4 * 257 + 4 + 4 * 257 + 20 * 256 + 12 + 12 * 65536
+
+
+def text_of(name):
+    """The text of a file, of which no more is read than a dump has."""
+    with open(name, "rb") as file:
+        text = file.read(MOST_BYTES + 1)
+    if len(text) > MOST_BYTES:
+        sys.exit(f"{name} is longer than any dump")
+    return text
+
+
 def read(text):
     """Returns the step, the number of PEs, the elements and the decision, or None for that, of a text."""
     at = 0
@@ -86,8 +99,7 @@ def main(names):
             if file.read() != text:
                 sys.exit(f"{name} is not the worked example")
     for name in names or sorted(glob.glob(os.path.join(HERE, "*.lbd?"))):
-        with open(name, "rb") as file:
-            step, procs, elements, decision = read(file.read())
+        step, procs, elements, decision = read(text_of(name))
         print(os.path.basename(name), "step", step, "procs", procs, "elements", len(elements), "bottleneck", decision and decision["bottleneck"])
 
 

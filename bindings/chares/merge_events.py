@@ -7,13 +7,15 @@ were put into it, and a look for an element comes where the location word of the
 the run is none of a world: a parcel overtook another, or a PE knew too little of a move. Then a line says which events go round in a ring.
 
 The status is 0 where a list was written, 2 for words that are not understood, 3 where the files are not those of one run, 4 where the run is
-none of a world, and 5 where the list was not written. Events that stand before their own causes are those of no run, so the status is 3.
+none of a world, and 5 where the list was not written; then a file that was there is as it was. Events that stand before their own causes
+are those of no run, so the status is 3.
 """
 import argparse
 import bisect
 import heapq
 import os
 import re
+import stat
 import sys
 
 RIGHT, BAD_FILE, NO_WORLD, UNWRITTEN = 0, 3, 4, 5
@@ -290,20 +292,28 @@ def merge(prefix):
 
 
 def write(path, text):
-    """Writes the list. A file that was not written to its end is removed."""
+    """Writes the list. It is written beside its place first, so that a file that was there stays as it was where that fails."""
     if not path:
         if sys.stdout is None:
             raise OSError(0, "there is no standard output")
         with sys.stdout as file:
             file.write(text)
         return
-    file = open(path, "w", encoding="ascii")
+    if os.path.exists(path) and not os.path.isfile(path):
+        with open(path, "w", encoding="ascii") as file:
+            file.write(text)
+        return
+    place = os.path.realpath(path)
+    beside = f"{place}.{os.getpid()}.part"
+    file = open(beside, "x", encoding="ascii")
     try:
         with file:
             file.write(text)
+        if os.path.exists(place):
+            os.chmod(beside, stat.S_IMODE(os.stat(place).st_mode))
+        os.replace(beside, place)
     except OSError:
-        if os.path.isfile(path):
-            os.remove(path)
+        os.remove(beside)
         raise
 
 

@@ -118,6 +118,13 @@ int32_t tezgumi_pe_note_done(struct tezgumi_pe *pe);
 
 /* ---- 2. Answers ---- */
 
+/* Functions of C++ that are inline have these names, and modules may export them. */
+#ifdef __cplusplus
+#define TEZGUMI_INLINE inline
+#else
+#define TEZGUMI_INLINE static inline
+#endif
+
 /* What a handler answers: its work units, whether its element is ready to be balanced, whether it has finished, how many bytes its
  * object has now, and the letters that it sends. tezgumi_answer_begin makes one anew in the room that it has; one of zeros has none.
  * tezgumi_answer_free gives the room back. These are tested and not proved. */
@@ -126,12 +133,12 @@ struct tezgumi_answer {
     size_t len, room;
 };
 
-static inline void tezgumi_answer_put(uint8_t *at, uint64_t number, int count)
+TEZGUMI_INLINE void tezgumi_answer_put(uint8_t *at, uint64_t number, int count)
 {
     for (int i = count - 1; i >= 0; i--) { at[i] = (uint8_t)number; number >>= 8; }
 }
 
-static inline int32_t tezgumi_answer_room(struct tezgumi_answer *answer, size_t more)
+TEZGUMI_INLINE int32_t tezgumi_answer_room(struct tezgumi_answer *answer, size_t more)
 {
     if (answer->room - answer->len >= more) return TEZGUMI_PE_OK;
     size_t room = answer->len + more + answer->room;
@@ -143,7 +150,7 @@ static inline int32_t tezgumi_answer_room(struct tezgumi_answer *answer, size_t 
 }
 
 /* Begins an answer that sends nothing yet, of an object without bytes. */
-static inline int32_t tezgumi_answer_begin(struct tezgumi_answer *answer, uint64_t units, bool at_sync, bool finished)
+TEZGUMI_INLINE int32_t tezgumi_answer_begin(struct tezgumi_answer *answer, uint64_t units, bool at_sync, bool finished)
 {
     answer->len = 0;
     int32_t status = tezgumi_answer_room(answer, 18);
@@ -157,13 +164,13 @@ static inline int32_t tezgumi_answer_begin(struct tezgumi_answer *answer, uint64
 }
 
 /* Says how many bytes the object has now, at most TEZGUMI_PE_OBJECT_BYTES: what it costs to move it. The answer was begun. */
-static inline void tezgumi_answer_size(struct tezgumi_answer *answer, uint32_t bytes)
+TEZGUMI_INLINE void tezgumi_answer_size(struct tezgumi_answer *answer, uint32_t bytes)
 {
     tezgumi_answer_put(answer->bytes + 10, bytes, 4);
 }
 
 /* Adds a letter to element to, with this body. On an error the answer is as it was. */
-static inline int32_t tezgumi_answer_send(struct tezgumi_answer *answer, uint32_t to, const void *body, uint32_t len)
+TEZGUMI_INLINE int32_t tezgumi_answer_send(struct tezgumi_answer *answer, uint32_t to, const void *body, uint32_t len)
 {
     int32_t status = tezgumi_answer_room(answer, (size_t)8 + len);
     if (status) return status;
@@ -177,7 +184,7 @@ static inline int32_t tezgumi_answer_send(struct tezgumi_answer *answer, uint32_
     return TEZGUMI_PE_OK;
 }
 
-static inline void tezgumi_answer_free(struct tezgumi_answer *answer)
+TEZGUMI_INLINE void tezgumi_answer_free(struct tezgumi_answer *answer)
 {
     free(answer->bytes);
     answer->bytes = NULL;

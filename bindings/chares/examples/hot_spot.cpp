@@ -103,9 +103,8 @@ int main(int argc, char **argv)
     how.pes = program.pes(words.number("--pes", 4, 1, 256));
     const std::uint32_t rounds = words.number("--rounds", 40, 0, 1000000), heavy = words.number("--work", 1000, 0, 4294967295u);
     const std::uint32_t count = words.number("--cells", 16, 1, 4096);
-    const std::string tolerance = words.text("--tolerance");
-    how.within = !tolerance.empty();
-    how.tolerance = static_cast<std::uint32_t>(std::atoi(tolerance.c_str()));
+    how.within = words.has("--tolerance");
+    how.tolerance = words.number("--tolerance", 0, 0, 1000);
     how.dumps = words.text("--dump");
     if (words.flag("--static")) how.every = 0;
     const bool measured = words.flag("--measured"), quiet = words.flag("--quiet");

@@ -66,11 +66,12 @@ public:
     {
         const std::string found = text(name);
         if (found.empty()) return usual;
-        char *end = nullptr;
-        const unsigned long long value = std::strtoull(found.c_str(), &end, 10);
-        if (*end || value < least || value > most) is_good_ = false;
+        const bool are_digits = found.find_first_not_of("0123456789") == std::string::npos && found.size() <= 18;
+        const unsigned long long value = are_digits ? std::strtoull(found.c_str(), nullptr, 10) : 0;
+        if (!are_digits || value < least || value > most) is_good_ = false;
         return static_cast<std::uint32_t>(value);
     }
+    bool has(const char *name) const { return std::find(all_.begin(), all_.end(), name) != all_.end(); }
     std::string text(const char *name)
     {
         for (std::size_t i = 0; i < all_.size(); i++) {

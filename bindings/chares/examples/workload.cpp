@@ -149,14 +149,13 @@ int main(int argc, char **argv)
     launch::words words(argc, argv);
     tezgumi::settings how;
     how.clock = tezgumi::clock_kind::none;
-    const std::string tolerance = words.text("--tolerance");
-    how.within = !tolerance.empty();
-    how.tolerance = static_cast<std::uint32_t>(std::atoi(tolerance.c_str()));
+    how.within = words.has("--tolerance");
+    how.tolerance = words.number("--tolerance", 0, 0, 1000);
     how.dumps = words.text("--dump");
     how.events = words.text("--events");
     launch::delays(words, how);
     launch::bounds(words, how);
-    if (!words.is_good() || words.rest().size() != 1 || how.tolerance > 1000) {
+    if (!words.is_good() || words.rest().size() != 1) {
         if (program.prints()) std::fputs("workload [--tolerance T] [--dump PREFIX] [--events PREFIX] FILE\n", stderr);
         return 2;
     }

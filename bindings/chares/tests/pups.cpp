@@ -119,6 +119,68 @@ template <class T> static bool is_refused(const pup::bytes &bytes)
     }
 }
 
+// Owners of what they point to: a shared one too, each of which has its own object where it arrives.
+static void test_owners()
+{
+    const auto first = std::make_shared<std::uint16_t>(std::uint16_t(5));
+    const std::vector<std::shared_ptr<std::uint16_t>> three = {first, first, nullptr};
+    pup::bytes packed;
+    pup::pack(three, packed);
+    std::vector<std::shared_ptr<std::uint16_t>> found;
+    pup::unpack(found, packed.data(), packed.size());
+    expect("shared pointers", hex(packed) == "0000000301000501000500" && found.size() == 3 && *found[0] == 5 && *found[1] == 5 && found[0] != found[1] && !found[2]);
+    const std::shared_ptr<const point> constant = std::make_shared<point>(point{1, 2});
+    std::shared_ptr<const point> again;
+    packed.clear();
+    pup::pack(constant, packed);
+    pup::unpack(again, packed.data(), packed.size());
+    expect("a pointer to what is constant", again && *again == *constant);
+    std::priority_queue<int> heap, other;
+    for (int i : {3, 9, 4, 1}) heap.push(i);
+    packed.clear();
+    pup::pack(heap, packed);
+    pup::unpack(other, packed.data(), packed.size());
+    std::vector<int> order;
+    for (; !other.empty(); other.pop()) order.push_back(other.top());
+    expect("a queue by rank", order == std::vector<int>{9, 4, 3, 1});
+}
+
+// Lists of numbers are copied in bulk, by blocks: of each size around a block the bytes are those of one number after another.
+template <class T> static bool is_as_one_by_one(std::size_t count, bool is_long)
+{
+    std::vector<T> numbers(count), found = {1};
+    for (std::size_t i = 0; i < count; i++) numbers[i] = static_cast<T>(i * 0x0102030405060708u + 1);
+    pup::bytes bulk, slow;
+    if (is_long) bulk.assign(20000, 7);
+    const std::size_t start = bulk.size();
+    pup::pack(numbers, bulk);
+    pup::er counts(slow);
+    auto size = static_cast<std::uint32_t>(count);
+    counts(size);
+    for (T &one : numbers) counts(one);
+    pup::unpack(found, bulk.data() + start, bulk.size() - start);
+    return found == numbers && bulk.size() - start == slow.size() && std::equal(slow.begin(), slow.end(), bulk.begin() + static_cast<std::ptrdiff_t>(start));
+}
+static void test_long_lists()
+{
+    bool good = true;
+    for (std::size_t count : {0u, 1u, 3u, 7u, 511u, 512u, 513u, 1025u, 2049u, 4095u, 4097u, 20001u}) {
+        for (bool is_long : {false, true}) {
+            good = good && is_as_one_by_one<std::uint8_t>(count, is_long) && is_as_one_by_one<std::int16_t>(count, is_long) && is_as_one_by_one<float>(count, is_long) &&
+                is_as_one_by_one<double>(count, is_long) && is_as_one_by_one<std::uint64_t>(count, is_long);
+        }
+    }
+    expect("lists of numbers of any length", good);
+    // A long value of structs and of lists in turn.
+    std::vector<nested> all(300);
+    for (std::size_t i = 0; i < all.size(); i++) all[i] = nested{{double(i), 1}, std::string(i, 'n'), std::vector<point>(i % 7)};
+    pup::bytes packed;
+    pup::pack(all, packed);
+    std::vector<nested> again;
+    pup::unpack(again, packed.data(), packed.size());
+    expect("a long value", all == again && packed.size() == pup::size_of(all));
+}
+
 int main(int argc, char **argv)
 {
     launch::program program(argc, argv);
@@ -155,6 +217,18 @@ int main(int argc, char **argv)
     trips<std::map<std::uint8_t, std::string>>("a map", {{2, "b"}, {1, "a"}}, "000000020100000001610200000001" "62");
     trips<std::unordered_map<std::uint16_t, bool>>("a map without an order", {{258, true}}, "00000001010201");
     trips<std::complex<float>>("a complex number", {1, 2}, "3f80000040000000");
+    trips<std::forward_list<std::uint8_t>>("a list with one link", {1, 2}, "000000020102");
+    trips<std::queue<std::uint8_t>>("a queue", std::queue<std::uint8_t>({1, 2}), "000000020102");
+    trips<std::stack<std::uint8_t>>("a stack", std::stack<std::uint8_t>({1, 2}), "000000020102");
+    trips<std::variant<std::uint8_t, std::string>>("a variant", std::string("a"), "000000010000000161");
+    trips<std::variant<std::monostate, std::uint8_t>>("a variant of nothing", {}, "00000000");
+    trips<std::chrono::duration<std::int16_t, std::milli>>("a duration", std::chrono::duration<std::int16_t, std::milli>(-2), "fffe");
+    trips<std::chrono::time_point<std::chrono::system_clock, std::chrono::seconds>>(
+        "a time", std::chrono::time_point<std::chrono::system_clock, std::chrono::seconds>(std::chrono::seconds(258)), "0000000000000102");
+    trips<std::bitset<10>>("bits", std::bitset<10>("1000000011"), "0302");
+    trips<std::bitset<0>>("no bits", std::bitset<0>(), "");
+    test_owners();
+    test_long_lists();
     trips<std::vector<nothing>>("a list of values without bytes", std::vector<nothing>(3), "00000003");
     std::unique_ptr<std::uint16_t> one_there(new std::uint16_t(5)), none_there, again_there(new std::uint16_t(6));
     pup::bytes packed;
@@ -187,7 +261,19 @@ int main(int argc, char **argv)
     pup::unpack(again, packed.data(), packed.size());
     expect("a NaN keeps its bits", pup::detail::bits_of(nan) == pup::detail::bits_of(again));
     expect("a type that counts wrong", is_not_packed(true) && is_not_packed(false));
+    std::vector<liar> many(20000);
+    bool is_refused_too = false;
+    for (liar &each : many) each.more = true;
+    try {
+        packed.clear();
+        pup::pack(many, packed);
+    } catch (const pup::error &) {
+        is_refused_too = true;
+    }
+    expect("many of a type that counts wrong", is_refused_too);
     expect("a bool of 2", is_refused<bool>({2}));
+    expect("a bit past the end", is_refused<std::bitset<10>>({0, 4}));
+    expect("a type that a variant does not have", is_refused<std::variant<std::uint8_t, bool>>({0, 0, 0, 2, 1}));
     expect("a list that asks for much memory", is_refused<std::vector<double>>({0xff, 0xff, 0xff, 0xff, 0}));
     expect("a list of structs that does", is_refused<std::vector<nested>>({0xff, 0xff, 0xff, 0xff, 0}));
     expect("a list of lists that does", is_refused<std::vector<std::vector<double>>>({0, 0, 0, 1, 0xff, 0xff, 0xff, 0xff, 0}));

@@ -238,6 +238,19 @@ def test_lost_lists(folder, run):
         resource.setrlimit(resource.RLIMIT_FSIZE, size)
     expect("a list that is not written is told", lost == [merge_events.UNWRITTEN] * 3, str(lost))
     expect("a list is written as a whole or not at all", not os.path.exists(place))
+    pathlib.Path(place).write_text("of before")
+    os.chmod(place, 0o640)
+    with contextlib.redirect_stderr(io.StringIO()):
+        resource.setrlimit(resource.RLIMIT_FSIZE, (100, size[1]))
+        status = merge_events.main([run.prefix, "-o", place])
+        resource.setrlimit(resource.RLIMIT_FSIZE, size)
+    beside = [it.name for it in pathlib.Path(folder).iterdir() if it.name.startswith("part.list")]
+    expect("a list that was there stays where writing fails",
+           status == merge_events.UNWRITTEN and pathlib.Path(place).read_text() == "of before" and beside == ["part.list"], str(beside))
+    expect("a list that was there is written over, with its mode",
+           merge_events.main([run.prefix, "-o", place]) == merge_events.RIGHT and pathlib.Path(place).read_text() == merge_events.merge(run.prefix)
+           and os.stat(place).st_mode & 0o777 == 0o640)
+    os.remove(place)
     closed = finish(["sh", "-c", 'exec "$@" >&-', "sh", sys.executable, "-B", merge_events.__file__, run.prefix])
     expect("a closed output is told", closed[0] == merge_events.UNWRITTEN and "there is no standard output" in closed[2], str(closed))
 

@@ -133,7 +133,7 @@ void rounds()
         tezgumi::settings how = usual("rounds" + std::to_string(kind));
         how.every = kind == 1 ? 0 : kind == 2 ? 3 : 1;
         how.within = kind == 3;
-        how.tolerance = 200;
+        how.tolerance = how.within ? 200 : 0;
         const auto end = launch::run<wanderer>(how, n, [](std::uint32_t) {
             wanderer one;
             one.rounds = rounds;

@@ -358,9 +358,9 @@ int tezgumi_mpi_gather(MPI_Comm comm, const tezgumi_mpi_element *mine, uint32_t 
 /* Step 2. Writes new_places: the plan, or the present places if the tolerance lets all be. Until it answers TEZGUMI_OK,
  * new_places is left as it was.
  *
- * TEZGUMI_BAD_INPUT where the chain is null, of another number of ranks, has more elements than room or a place that is not a rank; or
- * the tolerance is negative or no number; or it is above 1 and refine is 1. Then TEZGUMI_NO_MEMORY;
- * TEZGUMI_MPI_WRONG_PLAN; TEZGUMI_MPI_DISAGREE, also where only max_load_after differs. */
+ * TEZGUMI_BAD_INPUT where there are two groups of ranks (an intercommunicator), and nothing is sent; where the chain is null, of another
+ * number of ranks, has more elements than room or a place that is not a rank; or the tolerance is negative or no number; or it is
+ * above 1 and refine is 1. Then TEZGUMI_NO_MEMORY; TEZGUMI_MPI_WRONG_PLAN; TEZGUMI_MPI_DISAGREE, also where only max_load_after differs. */
 int tezgumi_mpi_decide(MPI_Comm comm, tezgumi_mpi_chain *chain, const tezgumi_mpi_options *options,
     tezgumi_mpi_report *report);
 
@@ -369,9 +369,9 @@ int tezgumi_mpi_decide(MPI_Comm comm, tezgumi_mpi_chain *chain, const tezgumi_mp
  * Each exchange is done as a whole or not at all: elements are dropped where they were when all ranks have unpacked what
  * arrived. places is kept up to date, so after a failure too it says where each element is.
  *
- * TEZGUMI_BAD_INPUT where a pointer is null, the chain is of another number of ranks, it has more elements than room, or an
- * element has a place, old or new, that is not a rank, or too many bytes; TEZGUMI_NO_MEMORY; TEZGUMI_MPI_DISAGREE where the chains
- * or the room differ: nothing has moved. TEZGUMI_MPI_CALLBACK: the exchanges before have moved their elements, and that of the
+ * TEZGUMI_BAD_INPUT where there are two groups of ranks, and nothing is sent; where a pointer is null, the chain is of another number of
+ * ranks, it has more elements than room, or an element has a place, old or new, that is not a rank, or too many bytes;
+ * TEZGUMI_NO_MEMORY; TEZGUMI_MPI_DISAGREE where the chains or the room differ: nothing has moved. TEZGUMI_MPI_CALLBACK: the exchanges before have moved their elements, and that of the
  * failure is undone. */
 int tezgumi_mpi_move(MPI_Comm comm, tezgumi_mpi_chain *chain, const tezgumi_mpi_callbacks *callbacks,
     const tezgumi_mpi_options *options, tezgumi_mpi_report *report);

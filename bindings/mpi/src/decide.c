@@ -189,11 +189,13 @@ int tezgumi_mpi_decide(MPI_Comm comm, tezgumi_mpi_chain *chain, const tezgumi_mp
     verdict v;
     uint64_t print = 0;
     double begin;
-    int status;
+    int groups = 0, status;
     memset(&d, 0, sizeof d);
     memset(&v, 0, sizeof v);
     if (!options) options = &defaults;
     if (!report) report = &unread;
+    if (MPI_Comm_test_inter(comm, &groups) != MPI_SUCCESS) return TEZGUMI_MPI_ERROR;
+    if (groups) return tezgumi_mpi_told(tezgumi_mpi_broken(TEZGUMI_MPI_RULE_GROUPS), report);
     outcome.status = refusal(comm, chain, options);
     if (outcome.status == TEZGUMI_OK) outcome = plan(chain, options, &d, report);
     if (outcome.status == TEZGUMI_OK) {

@@ -204,9 +204,10 @@ int tezgumi_mpi_move(MPI_Comm comm, tezgumi_mpi_chain *chain, const tezgumi_mpi_
     const double begin = MPI_Wtime();
     tezgumi_mpi_report unread;
     mover m;
-    int rank, status;
+    int rank, groups = 0, status;
     if (!report) report = &unread;
-    if (MPI_Comm_rank(comm, &rank) != MPI_SUCCESS) return TEZGUMI_MPI_ERROR;
+    if (MPI_Comm_test_inter(comm, &groups) != MPI_SUCCESS || MPI_Comm_rank(comm, &rank) != MPI_SUCCESS) return TEZGUMI_MPI_ERROR;
+    if (groups) return tezgumi_mpi_told(tezgumi_mpi_broken(TEZGUMI_MPI_RULE_GROUPS), report);
     memset(&m, 0, sizeof m);
     m.comm = comm;
     m.rank = (uint32_t)rank;

@@ -281,6 +281,26 @@ static void two_sides(void)
     MPI_Comm_free(&half);
 }
 
+/* The steps over two groups: neither sends anything, and the chain is as it was. Of one group each has as many ranks as the chain. */
+static void steps_of_two_sides(void)
+{
+    const tezgumi_mpi_callbacks callbacks = callbacks_of(&f);
+    tezgumi_mpi_chain chain = {0};
+    MPI_Comm half, both;
+    MPI_Comm_split(MPI_COMM_WORLD, rank % 2, rank, &half);
+    MPI_Intercomm_create(half, 0, MPI_COMM_WORLD, 1 - rank % 2, 0, &both);
+    EXPECT(tezgumi_mpi_gather(MPI_COMM_WORLD, mine, deal_some(), &chain, &report) == TEZGUMI_OK);
+    MPI_Comm_size(both, (int *)&chain.ranks);
+    EXPECT(tezgumi_mpi_decide(both, &chain, NULL, &report) == TEZGUMI_BAD_INPUT);
+    expect_rule(TEZGUMI_MPI_RULE_GROUPS);
+    EXPECT(tezgumi_mpi_move(both, &chain, &callbacks, NULL, &report) == TEZGUMI_BAD_INPUT);
+    expect_rule(TEZGUMI_MPI_RULE_GROUPS);
+    EXPECT(f.packs == 0 && chain.n == 20);
+    tezgumi_mpi_chain_free(&chain);
+    MPI_Comm_free(&both);
+    MPI_Comm_free(&half);
+}
+
 /* 12 elements of 64 bytes in a ring of ranks, each of which is to go to the next rank. */
 static void gather_ring(tezgumi_mpi_chain *chain)
 {
@@ -399,6 +419,7 @@ int main(int argc, char **argv)
     run_test("each status and each rule has a name", names);
     if (ranks > 1) {
         run_test("a communicator of two groups", two_sides);
+        run_test("the steps over two groups", steps_of_two_sides);
         run_test("a chain of fewer ranks", chain_of_fewer_ranks);
         run_test("chains that differ", chains_that_differ);
         run_test("a pack that fails", pack_that_fails);

@@ -1,12 +1,14 @@
 """Divisions alone: beside a plain search, refused, and without a copy of what is given."""
 import array
 import random
+from unittest import mock
 
 import numpy as np
 
 import slow_planner
 import tezgumi
 from support import TimedTest, most_bytes
+from tezgumi import lists
 
 MILLION = 1_000_000
 
@@ -28,7 +30,7 @@ class Divided(TimedTest):
                 self.assertEqual(cuts.tolist(), slow_planner.greedy_cuts(loads, pes, least))
                 self.assertEqual(stops.tolist(), slow_planner.least_fence(loads, pes, least))
                 self.assertEqual(max((sum(loads[a:b]) for a, b in zip(cuts, cuts[1:])), default=0), least)
-                self.assertEqual((cuts.dtype, stops.dtype), (np.uint32, np.uint32))
+                self.assertEqual((cuts.dtype, stops.dtype), (np.int64, np.int64))
                 alone = tezgumi.divide(loads, pes)
                 self.assertIsInstance(alone, np.ndarray)
                 self.assertEqual(alone.tolist(), cuts.tolist())
@@ -62,17 +64,30 @@ class Divided(TimedTest):
         self.assertGreater(most, 8 * MILLION)
 
 
+    def test_no_pass_of_its_own(self):
+        before, looked_at = lists._refuse_outside, []
+        with mock.patch.object(lists, "_refuse_outside", lambda array, *how: looked_at.append(array.size) or before(array, *how)):
+            for loads in (np.arange(MILLION), np.arange(MILLION, dtype=np.uint64), array.array("q", range(1000))):
+                self.assertEqual(len(tezgumi.divide(loads, 64)), 65)
+        self.assertEqual(set(looked_at), {65})
+
+
 class Refused(TimedTest):
     def test_each_word(self):
         for words, text in (
-                (([0.5], 2), r"^loads\[0\] is 0\.5"), (([1, -1], 2), r"^loads\[1\] is -1"), (([[1]], 2), "one dimension"),
+                (([None, 0.5], 2), r"^loads\[0\] is None"), (([1, -1], 2), r"^loads\[1\] is -1"), (([[1]], 2), "one dimension"),
                 (([2**63], 2), r"^loads\[0\] is 9223372036854775808"), (([True], 2), r"^loads\[0\] is True"),
                 (("ab", 2), "^loads"),
                 (([1], 0), "^pes is 0"), (([1], 65_537), "^pes is 65537"), (([1], 2.0), r"^pes is 2\.0"), (([1], True), "^pes is True"),
                 (([1], 2, 1), "^fence is 1")):
             with self.subTest(words=words):
                 self.assertRaisesRegex(tezgumi.InputError, text, tezgumi.divide, *words)
+        for loads in (np.array([1, -1]), np.array([5, 1, -7])[::-1], memoryview(np.array([1, -1]))):
+            text = r"^loads\[.\] is -.*; it has to be a whole number from 0 to 9223372036854775807$"
+            self.assertRaisesRegex(tezgumi.InputError, text, tezgumi.divide, loads, 2)
+        self.assertRaisesRegex(tezgumi.InputError, r"^loads\[1\] is 9223372036854775808", tezgumi.divide, np.array([1, 2**63], np.uint64), 2)
         self.assertRaises(tezgumi.LoadError, tezgumi.divide, [2**62, 2**62], 2)
+        self.assertRaises(tezgumi.LoadError, tezgumi.divide, np.array([2**62, 2**62]), 2)
         self.assertRaises(tezgumi.LoadError, tezgumi.divide, np.full(3, 2**63 - 1, np.uint64), 2)
 
 

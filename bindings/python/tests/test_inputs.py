@@ -1,6 +1,8 @@
 """Runs and decisions: what they take, what they refuse and why, and how they are shown."""
 import array
 import collections
+import copy
+import pickle
 from dataclasses import FrozenInstanceError, replace
 from unittest import mock
 
@@ -8,7 +10,7 @@ import numpy as np
 
 import tezgumi
 from support import THREE, TimedTest, front, most_bytes
-from tezgumi import runs
+from tezgumi import planning, runs
 
 
 class Taken(TimedTest):
@@ -107,6 +109,42 @@ class Taken(TimedTest):
         self.assertNotEqual(THREE, 5)
         self.assertRaises(TypeError, hash, THREE)
 
+    def test_left_out(self):
+        run = tezgumi.Run(3, [5, 6, 7, 8])
+        self.assertEqual(run, tezgumi.Run(3, [5, 6, 7, 8], [1, 1, 1, 1], [0, 0, 1, 2]))
+        self.assertEqual(tezgumi.Run(2, [5, 6], places=[1, 1]), tezgumi.Run(2, [5, 6], [1, 1], [1, 1]))
+        self.assertEqual(tezgumi.Run(2, [5, 6], [7, 8]), tezgumi.Run(2, [5, 6], [7, 8], [0, 1]))
+        self.assertEqual(len(tezgumi.Run(2, [])), 0)
+        # As charm_run opens the worked run and the hot spot.
+        self.assertEqual(tezgumi.Run(2, np.zeros(4, int)).places.tolist(), [0, 0, 1, 1])
+        self.assertEqual(tezgumi.Run(16, np.zeros(300, int)).places.tolist(), front().places.tolist())
+        for array in (run.bytes, run.places):
+            self.assertEqual((array.dtype, array.flags.writeable), (np.uint32, False))
+        loads = np.array([1, 2], np.uint64)
+        self.assertTrue(np.shares_memory(tezgumi.Run(2, loads, copy=False).loads, loads))
+
+    def test_what_was_pickled_or_copied(self):
+        for record in (THREE, tezgumi.Decision(2, [1, 1, 0], 2, 10, [0, 2, 3], [0, 1, 2], [1, 0], [10, 1], [-1, 0], [(0, 0, 1)])):
+            for again in (pickle.loads(pickle.dumps(record)), copy.deepcopy(record)):
+                self.assertEqual(again, record)
+                arrays = [value for value in vars(again).values() if isinstance(value, np.ndarray)]
+                self.assertGreater(len(arrays), 2)
+                self.assertFalse(any(array.flags.writeable for array in arrays))
+        frozen = np.array([1, 2])
+        frozen.setflags(write=False)
+        divided = planning.Divided(frozen, frozen)
+        divided.unit = 0.5
+        for given in (divided, tezgumi.Scaled(frozen, 0.5), tezgumi.parts.Division(2, frozen, frozen), tezgumi.parts.Weights(frozen, frozen)):
+            for again in (pickle.loads(pickle.dumps(given)), copy.deepcopy(given)):
+                self.assertIs(type(again), type(given))
+                self.assertEqual(repr(again), repr(given))
+                self.assertFalse(any(part.flags.writeable for part in again if isinstance(part, np.ndarray)))
+
+    def test_differences_of_cuts(self):
+        decision = tezgumi.Decision(2, [1, 1, 0], 2, 10, [0, 2, 3], [0, 1, 2], [1, 0], [10, 1], [-1, 0], [(0, 0, 1)])
+        self.assertEqual((decision.cuts - [0, 3, 3]).tolist(), [0, -1, 0])
+        self.assertEqual((decision.cuts.dtype, decision.stops.dtype), (np.int64, np.int64))
+
     def test_after_a_plan(self):
         plan = tezgumi.Plan(3, [2, 1, 0], 2, 18)
         self.assertEqual(THREE.after(plan, step=6), tezgumi.Run(3, [1, 1, 2], [10, 9, 8], [2, 1, 0], step=6))
@@ -124,9 +162,11 @@ class Refused(TimedTest):
         self.refuses("^element 2 has too great a load", tezgumi.LoadError, loads=[1, 1, 2**70])
         self.refuses("^element 1 has too great a load", tezgumi.LoadError, loads=np.array([1, np.uint64(2**63), 2], object))
         self.refuses("^element 0 has the load -1, and not a whole number from 0 to 9223372036854775807$", loads=[-1, 1, 1])
-        self.refuses("^element 1 has the load 1.5, and not a whole number", loads=[1, 1.5, 1])
-        self.refuses("^element 0 has the load nan", loads=np.array([np.nan, 1, 1]))
-        self.refuses("^element 0 has the load 1.0", loads=np.array([1.0, 1.0, 1.0]))
+        for scale in (None, False):
+            self.refuses("^element 1 has the load 1.5, and not a whole number .*; scale=True", loads=np.array([1, 1.5, 1], object), scale=scale)
+        self.refuses("^element 1 has the load 1.5, and not a whole number .*; scale=True", loads=[1, 1.5, 1], scale=False)
+        self.refuses("^element 0 has the load nan", loads=np.array([np.nan, 1, 1]), scale=False)
+        self.refuses("^element 0 has the load 1.0", loads=np.array([1.0, 1.0, 1.0]), scale=False)
         self.refuses("^element 1 has the load None", loads=[1, None, 2])
         self.refuses("^element 0 has the load True", loads=[True, False, True])
         self.refuses("^element 0 has the load '1'", loads=["1", "2", "3"])
@@ -134,13 +174,13 @@ class Refused(TimedTest):
 
     def test_the_first_that_is_none(self):
         for make in (list, tuple, collections.deque):
-            self.refuses("^element 1 has the load 1.5", loads=make([1, 1.5, 1]))
+            self.refuses("^element 1 has the load 1.5", loads=make([1, 1.5, 1]), scale=False)
             self.refuses("^element 2 has the load None", loads=make([1, 1, None]))
         for loads, shown in (
                 (array.array("d", [1.5, 2.0, 3.0]), "1.5"), (memoryview(array.array("d", [1.5, 2.0, 3.0])), "1.5"),
                 (np.array([1.5, 2, 3], np.float32), "1.5"), (np.array([True, False, True]), "True"), (np.array(["a", "b", "c"]), "'a'"),
-                (np.array([1j, 2, 3]), "1j"), (np.array([3, 2, 1], "m8[s]"), "datetime.timedelta")):
-            self.refuses("^element 0 has the load " + shown, loads=loads)
+                (np.array([1j, 2, 3]), "1j")):
+            self.refuses("^element 0 has the load " + shown, loads=loads, scale=False)
 
     def test_an_array_of_floats_is_refused_at_once(self):
         count = 1_000_000
@@ -148,7 +188,7 @@ class Refused(TimedTest):
         for loads in (floats, floats[::2], floats.astype(np.float32), memoryview(floats), floats > 0):
             words = 2, loads, zeros, zeros
             most, _ = most_bytes(lambda: self.assertRaisesRegex(
-                tezgumi.InputError, "^element 0 has the load", tezgumi.Run, *words, copy=False))
+                tezgumi.InputError, "^element 0 has the load", tezgumi.Run, *words, copy=False, scale=False))
             self.assertLess(most, count // 4)
         for words, text in (((2, zeros, floats, zeros), "packed size 0.0"), ((2, zeros, zeros, floats), "place is 0.0")):
             most, _ = most_bytes(lambda: self.assertRaisesRegex(tezgumi.InputError, text, tezgumi.Run, *words, copy=False))
@@ -184,6 +224,47 @@ class Refused(TimedTest):
             self.refuses("^procs is .*; it has to be 1 to 4096$", procs=procs)
         self.refuses("^procs is 2.0, which is no whole number$", procs=2.0)
         self.refuses("^step is 4294967296; it has to be 0 to 4294967295$", step=2**32)
+
+    def test_what_is_no_list(self):
+        for given, text in (
+                ((n for n in [1]), "a generator: list"), ({1, 2, 3}, "a set$"), (frozenset([1]), "a frozenset$"), ({1: 2}, r"a dict: list\(it.values"),
+                ({1: 2}.values(), "a dict_values: list"), (iter([1]), "a list_iterator: list"), ("123", "a str$"), (b"123", "a bytes$"),
+                (np.array([3, 2, 1], "m8[s]"), r"one of timedelta64\[s\]; divide it by np.timedelta64\(1, 's'\) for seconds$"),
+                (np.array(["2024-01-01"], "M8[D]"), r"one of datetime64\[D\]$"), ([np.timedelta64(3, "s")], "one of timedelta64")):
+            for name in ("loads", "bytes", "places"):
+                self.refuses(f"^{name}: a list or an array of numbers is wanted, and not {text}", **{name: given})
+            self.assertRaisesRegex(tezgumi.InputError, "^loads: a list or an array of numbers is wanted, and not ", tezgumi.divide, given, 2)
+            self.assertRaisesRegex(tezgumi.InputError, "^loads: a list or an array of numbers is wanted, and not ", tezgumi.scaled, given)
+        self.refuses("^loads: a list or an array of numbers is wanted, and not None$", loads=None)
+
+    def test_a_mask(self):
+        for mask in ([0, 0, 1], False):
+            masked = np.ma.array([1, 1, 2], mask=mask)
+            for name in ("loads", "bytes", "places"):
+                self.refuses(f"^{name}: a masked array is not taken, as its mask would be lost", **{name: masked})
+            for call in (lambda: tezgumi.divide(masked, 2), lambda: tezgumi.divide(masked.astype(float), 2), lambda: tezgumi.scaled(masked)):
+                self.assertRaisesRegex(tezgumi.InputError, "^loads: a masked array is not taken", call)
+
+    def test_other_things_than_runs_and_decisions(self):
+        plan = tezgumi.Plan(2, [1, 1, 0], 2, 10)
+        dump = tezgumi.Dump(THREE)
+        for call, text in (
+                (lambda: tezgumi.plan([2, 1], 3), r"^run: a tezgumi.Run is wanted, and not a list; Run\(procs, loads\) makes one$"),
+                (lambda: tezgumi.decide(dump), "^run: a tezgumi.Run is wanted, and not a Dump; read_dump returns `run, decision`$"),
+                (lambda: tezgumi.check(THREE, plan), "^decision: a Decision is wanted, and not a Plan, which has no certificates; decide"),
+                (lambda: tezgumi.check(plan, plan), "^run: a tezgumi.Run is wanted, and not a Plan"),
+                (lambda: tezgumi.figures(THREE, THREE), "^plan: a Plan or a Decision is wanted, and not a Run"),
+                (lambda: tezgumi.figures(None, plan), "^run: .* not a NoneType"), (lambda: tezgumi.sweep([1]), "^run: .* not a list"),
+                (lambda: tezgumi.pe_loads([1], [0], 1), "^run: .* not a list"), (lambda: tezgumi.encode(plan), "^run: .* not a Plan"),
+                (lambda: tezgumi.encode(THREE, plan), "^decision: .* not a Plan"),
+                (lambda: tezgumi.replay_text(THREE, plan), "^decision: .* not a Plan"),
+                (lambda: tezgumi.json_of(THREE, plan), "^decision: .* not a Plan"),
+                (lambda: tezgumi.page(THREE, "no.html"), "^rounds: a list of rounds is wanted, and not a Run$"),
+                (lambda: tezgumi.page(dump, "no.html"), "^rounds: a list of rounds is wanted, and not a Dump$"),
+                (lambda: tezgumi.page(5, "no.html"), "^rounds: a list of rounds is wanted, and not a int$"),
+                (lambda: tezgumi.page([plan], "no.html"), "^round 1: the path of a dump, a Run, or a Run and its Decision is wanted, and not a Plan"),
+                (lambda: tezgumi.page([(THREE, plan)], "no.html"), "^round 1: a Decision is wanted beside the run, and not a Plan$")):
+            self.assertRaisesRegex(tezgumi.InputError, text, call)
 
     def test_the_form_of_the_lists(self):
         self.refuses("^there are 2 loads, 3 packed sizes and 3 places", loads=[1, 2])

@@ -200,12 +200,16 @@ class Written(InAFolder):
         self.assertFalse(os.path.exists(self.path))
 
     def test_the_program(self):
-        dumps = [example(name) for name in ("three-elements.lbd2", "ten-elements.lbd2", "forged.lbd2")]
-        status, out, errors = call("page", *dumps, "-o", self.path, "--title", "Three", "--trace", TRACE)
+        dumps = self.dumps()
+        status, out, errors = call("page", *dumps[:3], "-o", self.path, "--title", "Three", "--trace", TRACE)
         self.assertEqual((status, errors), (0, ""))
         self.assertEqual(out, f"{self.path}: 3 rounds, {os.path.getsize(self.path):,} bytes\n")
         self.assertIn("<title>Three</title>", read_bytes(self.path).decode())
         for words, status, text in (
+                (("page", *dumps[:2], "-o", dumps[1]), 5, "r.2 is a file that is read: it would be written over, so name another"),
+                (("page", dumps[0], "-o", os.path.join(self.folder, ".", "r.1")), 5, "is a file that is read"),
+                (("page", dumps[0], "-o", TRACE, "--trace", TRACE), 5, "is a file that is read"),
+                (("page", dumps[0], dumps[0], "-o", self.path), 5, "are both step 1, and a page shows the rounds of one run"),
                 (("page", dumps[0]), 2, "-o"), (("page", "-o", self.path), 2, "FILE"), (("page",), 3, "dump: read failed"),
                 (("page", dumps[0], "-o", self.path, "--procs", "0"), 2, "0 is not 1 to 4096"),
                 (("page", dumps[0], "README.md", "-o", self.path), 3, "dump: not LBD1 or LBD2 (in README.md)"),
@@ -214,6 +218,70 @@ class Written(InAFolder):
             answer = call(*words)
             self.assertEqual(answer[:2], (status, ""))
             self.assertIn(text, answer[2])
+
+    def dumps(self):
+        """The dumps of a run of twelve rounds, in the order in which a shell lists them: 1, 10, 11, 12, 2 .."""
+        paths = []
+        for run, decision in wandering(12, 40, 4):
+            paths.append(os.path.join(self.folder, f"r.{run.step + 1}"))
+            tezgumi.write_dump(paths[-1], replace(run, step=run.step + 1), decision)
+        return paths
+
+    def described(self):
+        """What the page that was written holds of its run."""
+        text = read_bytes(self.path).decode().partition('<script type="application/json" id="run">')[2]
+        return json.loads(text.partition("</script>")[0])
+
+    def test_files_are_put_in_order(self):
+        paths = self.dumps()
+        self.assertEqual(self.write(paths).notes, ())
+        in_order = read_bytes(self.path)
+        written = self.write(sorted(paths), title="r.1 to r.12")
+        self.assertEqual(written.notes, ("the rounds were put in the order of their steps",))
+        self.assertEqual([one["step"] for one in self.described()["rounds"]], list(range(1, 13)))
+        self.assertEqual(self.described()["notes"], list(written.notes))
+        self.assertEqual(json.dumps(self.described()["rounds"]) in json.dumps(json.loads(
+            in_order.decode().partition('id="run">')[2].partition("</script>")[0])), True)
+        status, out, errors = call("page", *sorted(paths), "-o", self.path)
+        self.assertEqual((status, errors, out.split("\n")[1:]), (0, "", ["the rounds were put in the order of their steps", ""]))
+
+    def test_steps_that_are_missing(self):
+        paths = self.dumps()
+        for left, note in (
+                ([1, 2, 4], "step 3 is not among the rounds"), ([1, 4], "steps 2 to 3 are not among the rounds"),
+                ([1, 3, 4, 8, 9], "steps 2, 5 to 7 are not among the rounds")):
+            self.assertEqual(self.write([paths[step - 1] for step in left]).notes, (note,))
+
+    def test_files_of_several_runs(self):
+        paths = self.dumps()
+        self.assertRaisesRegex(
+            tezgumi.InputError, "^.*three-elements.lbd2 and .*forged.lbd2 are both step 5, and a page shows the rounds of one run$",
+            self.write, [example("three-elements.lbd2"), example("forged.lbd2")])
+        self.assertRaisesRegex(
+            tezgumi.InputError, "^.*three-elements.lbd2 has 3 elements and .*ten-elements.lbd2 10: a page shows one array$",
+            self.write, [example("ten-elements.lbd2"), example("three-elements.lbd2")])
+        run, _ = tezgumi.read_dump(paths[1])
+        tezgumi.write_dump(paths[1], replace(run, places=3 - run.places))
+        self.assertEqual(self.write(paths[:2]).notes, (
+            f"the elements of {paths[1]} are not where the decision that {paths[0]} records puts them",))
+        self.assertFalse(os.path.exists(os.path.join(self.folder, "no.html")))
+
+    def test_what_is_read_is_not_written_over(self):
+        path = self.dumps()[0]
+        before = read_bytes(path)
+        self.assertRaisesRegex(tezgumi.InputError, "r.1 is a file that is read", tezgumi.page, [path], path)
+        self.assertEqual(read_bytes(path), before)
+
+    def test_who_made_a_decision(self):
+        plain = os.path.join(self.folder, "plain")
+        tezgumi.write_dump(plain, THREE)
+        for given, how, made in (
+                ([plain], {}, "planned here; the dump records no decision"), ([THREE], {}, "planned here; the run was given without a decision"),
+                ([example("three-elements.lbd2")], {}, "recorded"), ([(THREE, RIGHT)], {}, "recorded"),
+                ([example("three-elements.lbd2")], {"anew": True}, "planned here; the recorded decision is left aside")):
+            self.write(given, decide=lambda run: RIGHT, **how)
+            decision = self.described()["rounds"][0]["decision"]
+            self.assertEqual((decision["made"], decision["new"]), (made, made != "recorded"))
 
     def test_sizes(self):
         for rounds, elements, pes in ((1000, 1000, 16), (20, 65_536, 256)):
@@ -283,6 +351,30 @@ class Seen(InAFolder):
         before = ["5", "3", "2", "3", "1.500", "50.000"]
         self.assertEqual(rows[0][1:17], [*before, "2", "2", "1.000", "0.000", "2.000", "2", "2", "1", "10", "27"])
         self.assertEqual(rows[1][1:17], [*before, "1", "4", "1.000", "0.000", "2.000", "4", "4", "1", "9", "27"])
+
+    def test_rounds_that_were_planned_here(self):
+        rounds = list(hot_spot())[:4]
+        made = "planned here; the run was given without a decision"
+        plans = {run.step: decision for run, decision in rounds}
+        moved = [decision.moved for _, decision in rounds]
+        page = self.open([run for run, _ in rounds], decide=lambda run: plans[run.step])
+        self.assertEqual([row[19] for row in page.rows("all-rounds")], [made] * 4)
+        summary = page.text("#summary")
+        self.assertIn(f"with {sum(moved):,} bytes would move by plans made here, and all 4 plans hold: this page", summary)
+        self.assertNotIn("bytes move,", summary)
+        self.assertEqual(page.text("#notes"), f"All rounds: {made}, so the run may have moved other elements.")
+        self.assertEqual(page.value("document.getElementById('planned-here').hidden"), False)
+        for number in range(4):
+            page.value(f"choose({number})")
+            page.wait(f"document.documentElement.dataset.round === '{number + 1}'")
+            self.assertIn(f"({made})", page.text("#chosen"))
+            self.assertEqual(page.text("#verdict"), f"✓ The decision holds: every part of it is right. It was {made}.")
+        page = self.open([rounds[0], rounds[1][0], rounds[2], rounds[3]], decide=lambda run: plans[run.step])
+        summary = page.text("#summary")
+        self.assertIn(f"with {moved[0] + moved[2] + moved[3]:,} bytes move; in the other rounds ", summary)
+        self.assertIn(f"with {moved[1]:,} bytes would move by a plan made here, and all 4 decisions and plans hold", summary)
+        self.assertEqual(page.text("#notes"), f"Round 2: {made}, so the run may have moved other elements.")
+        self.assertEqual(page.text("#verdict"), "✓ The decision holds: every part of it is right.")
 
     def test_the_loads_of_the_pes(self):
         rounds = list(hot_spot())

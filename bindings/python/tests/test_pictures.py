@@ -12,6 +12,8 @@ from support import THREE, TimedTest, front, large_run, read_bytes
 try:
     import matplotlib.colors
     import matplotlib.text
+    from matplotlib.backends.backend_agg import FigureCanvasAgg
+    from matplotlib.figure import Figure
 
     import tezgumi_plot
     from tezgumi_plot.palette import COLORS, FAINT, INK, PATTERNS, Palette, luminance
@@ -174,6 +176,30 @@ class Files(TimedTest):
             for name, start in (("a.png", b"\x89PNG"), ("a.pdf", b"%PDF"), ("a.svg", b"<?xml")):
                 tezgumi_plot.save(sheet, os.path.join(folder, name))
                 self.assertTrue(read_bytes(os.path.join(folder, name)).startswith(start))
+
+    def test_in_the_axes_of_a_caller(self):
+        made = tezgumi.Decision(2, [1, 1, 0], 2, 10, [0, 2, 3], [0, 1, 2], [1, 0], [10, 1], [-1, 0], [(0, 0, 1)])
+        trace = os.path.join(os.path.dirname(os.path.abspath(__file__)), "two-pes.trace.json")
+        for draw in (
+                lambda **how: tezgumi_plot.decision(THREE, made, **how),
+                lambda **how: tezgumi_plot.sweep([tezgumi.figures(THREE, made)], **how),
+                lambda **how: tezgumi_plot.timeline(trace, **how)):
+            figure = Figure(figsize=(20, 8))
+            left, right = figure.subplots(1, 2)
+            room = left.get_position()
+            alone = draw()
+            self.assertIs(draw(ax=left), figure)
+            drawn = [axes for axes in figure.axes if axes not in (left, right)]
+            self.assertEqual(len(drawn), len(alone.axes))
+            for axes, other in zip(drawn, alone.axes):
+                box = axes.get_position()
+                self.assertTrue(room.x0 - 1e-9 <= box.x0 < box.x1 <= room.x1 + 1e-9 and room.y0 - 1e-9 <= box.y0 < box.y1 <= room.y1 + 1e-9)
+                self.assertEqual(axes.get_xlabel(), other.get_xlabel())
+            self.assertEqual([text.get_text() for text in figure.texts], [text.get_text() for text in alone.texts])
+            self.assertFalse(left.axison)
+            self.assertTrue(right.axison)
+            FigureCanvasAgg(figure).draw()
+        self.assertRaisesRegex(tezgumi.InputError, "^ax: axes of matplotlib are wanted, and not a int$", tezgumi_plot.decision, THREE, made, ax=5)
 
     def test_decisions_that_are_not_right(self):
         decision = tezgumi.decide(THREE)

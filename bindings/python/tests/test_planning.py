@@ -177,9 +177,9 @@ class FiguresOfPlans(TimedTest):
         self.assertEqual((figures.excess_before, figures.excess_after), (50.0, 0.0))
         self.assertEqual((figures.bound_before, figures.bound_after), (2, 2))
         self.assertEqual(str(figures), "\n".join((
-            "                before   after", "PEs                  2       2", "greatest load        3       2",
-            "average load      2.00    2.00", "imbalance       1.5000  1.0000", "moved elements       1    of 3",
-            "moved bytes         10   of 27")))
+            "                before  after", "PEs                  2      2", "greatest load        3      2",
+            "average load      2.00   2.00", "imbalance        1.500  1.000", "moved elements       1   of 3",
+            "moved bytes         10  of 27")))
 
     def test_uneven_loads(self):
         run = tezgumi.Run(3, [1, 2, 4], [1, 1, 1], [0, 1, 2])
@@ -230,7 +230,7 @@ class FiguresOfPlans(TimedTest):
         self.assertEqual(swept[2].moved_bytes, 82746)
         lines = str(swept).split("\n")
         self.assertEqual(lines[0], "PEs  greatest load  average load  imbalance  moved elements  moved bytes")
-        self.assertEqual(lines[3], " 16            876        819.63     1.0688             137       82,746")
+        self.assertEqual(lines[3], " 16            876        819.63      1.068             137       82,746")
         self.assertEqual([row.pes for row in tezgumi.sweep(THREE)], [1, 2, 4, 8, 16, 32, 64, 128, 256])
         peaks = [row.greatest_after for row in tezgumi.sweep(large_run())]
         self.assertEqual(peaks, sorted(peaks, reverse=True))

@@ -1,6 +1,8 @@
 """python3 -m tezgumi, and the lines that a user reads first."""
+import json
 import os
 import re
+import shutil
 import subprocess
 import sys
 import tempfile
@@ -13,41 +15,86 @@ try:
 except ImportError:
     matplotlib = None
 
-THREE_FIGURES = """                before   after
-PEs                  2       2
-greatest load        3       2
-average load      2.00    2.00
-imbalance       1.5000  1.0000
-moved elements       1    of 3
-moved bytes         10   of 27
+THREE_FIGURES = """                before  after
+PEs                  2      2
+greatest load        3      2
+average load      2.00   2.00
+imbalance        1.500  1.000
+moved elements       1   of 3
+moved bytes         10  of 27
 check: ok
 """
 
 
-def call(*words, program=("-m", "tezgumi")):
-    """Status, output and errors, in the folder of the checkout."""
+def call(*words, program=("-m", "tezgumi"), given=b""):
+    """Status, output and errors, in the folder of the checkout, of a call with this standard input."""
     ended = subprocess.run(
-        [sys.executable, *program, *words], cwd=CHECKOUT, stdout=subprocess.PIPE, stderr=subprocess.PIPE, timeout=30,
+        [sys.executable, *program, *words], cwd=CHECKOUT, input=given, stdout=subprocess.PIPE, stderr=subprocess.PIPE, timeout=30,
         env={**os.environ, "PYTHONPATH": PACKAGES})
     return ended.returncode, ended.stdout.decode(), ended.stderr.decode()
 
 
 class Program(TimedTest):
-    limit = 40
+    limit = 150
 
     def test_figures(self):
         head = "examples/three-elements.lbd1: 3 elements on 2 PEs, step 5\n"
         self.assertEqual(call("examples/three-elements.lbd1"), (0, head + THREE_FIGURES, ""))
 
     def test_a_recorded_decision(self):
-        for name, line in (("three-elements.lbd2", "check: ok"), ("forged.lbd2", "check: MovedWrong")):
+        for name, line, ended, last in (
+                ("three-elements.lbd2", "check: ok", 0, ""),
+                ("forged.lbd2", "check: MovedWrong", 4, "the recorded decision is flawed, check: MovedWrong\n")):
             status, out, _ = call("examples/" + name)
             self.assertEqual(out.split("\n")[1], "recorded for 2 PEs, " + line)
-            self.assertEqual((status, out.split("\n", 2)[2]), (0, THREE_FIGURES))
+            self.assertEqual((status, out.split("\n", 2)[2]), (ended, THREE_FIGURES + last))
+
+    def test_json(self):
+        status, out, errors = call("examples/ten-elements.lbd2", "--json", "--procs", "3,2")
+        three, two = map(json.loads, out.splitlines())
+        self.assertEqual((status, errors, three["pes"], two["pes"]), (0, "", 3, 2))
+        self.assertEqual([three[name] for name in ("cuts", "stops", "names", "block_prices", "pe_prices", "moves", "check")], [
+            [0, 5, 6, 10], [0, 4, 5, 6], [2, 0, 1], [60, 30, 70], [-30, 0, 0], [[4, 0, 2], [6, 0, 1]], "check: ok"])
+        near = json.loads(call("examples/ten-elements.lbd2", "--json", "--tolerance", "0.167")[1])
+        self.assertEqual([near[name] for name in ("kind", "tolerance", "cuts", "least", "present")], [
+            "NearDecision", 167, [0, 5, 7, 10], 12, [0, 4, 7, 10]])
+        status, out, errors = call("examples/forged.lbd2", "--json")
+        self.assertEqual((status, json.loads(out)["check"], errors), (4, "check: ok", "the recorded decision is flawed, check: MovedWrong\n"))
+
+    def test_tables(self):
+        dump = read_bytes(example("three-elements.lbd1"))
+        table = b"load,bytes,place\n1,10,0\n1,9,1\n2,8,0\n"
+        status, out, errors = call("-", given=dump)
+        self.assertEqual((status, out, errors), (0, "standard input: 3 elements on 2 PEs, step 5\n" + THREE_FIGURES, ""))
+        status, out, errors = call("-", given=table)
+        self.assertEqual((status, out, errors), (0, "standard input: 3 elements on 2 PEs, step 0\n" + THREE_FIGURES, ""))
+        with tempfile.TemporaryDirectory() as folder:
+            path = os.path.join(folder, "loads.csv")
+            with open(path, "wb") as file:
+                file.write(b"0.5\n0.25\n0.25\n")
+            self.assertEqual(call(path)[::2], (5, "the table has no places, so the number of PEs has to be given: procs, or --procs P\n"))
+            status, out, errors = call(path, "--procs", "2")
+            self.assertEqual((status, errors, out.split("\n")[0]), (0, "", f"{path}: 3 elements on 2 PEs, step 0"))
+            self.assertIn("each rounded down: the greatest after is 0.5, and least within ", out)
+            with open(path, "wb") as file:
+                file.write(b"load\nx\n")
+            self.assertEqual(call(path, "--procs", "2")[::2], (3, "table: line 2: the load is 'x', which is no number\n"))
+            page = os.path.join(folder, "page.html")
+            self.assertEqual(call("page", "-", "-o", page, given=dump)[:1], (0,))
+            self.assertIn(b"planned here; the dump records no decision", read_bytes(page))
+
+    def test_what_is_read_is_not_written_over(self):
+        with tempfile.TemporaryDirectory() as folder:
+            path = os.path.join(folder, "dump.png")
+            shutil.copyfile(example("three-elements.lbd1"), path)
+            for words in ((path, "--plot", path), ("timeline", path, "--plot", path), ("page", path, "-o", path)):
+                status, out, errors = call(*words)
+                self.assertEqual((status, out, errors), (5, "", f"{path} is a file that is read: it would be written over, so name another\n"))
+            self.assertEqual(read_bytes(path), read_bytes(example("three-elements.lbd1")))
 
     def test_other_numbers_of_pes(self):
         status, out, _ = call("examples/three-elements.lbd1", "--procs", "1")
-        self.assertEqual((status, out.split("\n")[3]), (0, "greatest load        3       4"))
+        self.assertEqual((status, out.split("\n")[3]), (0, "greatest load        3      4"))
         status, out, _ = call("--procs", "16,4,1", "examples/moving-front.lbd1")
         rows = [line.split() for line in out.split("\n")]
         self.assertEqual(rows[1], "PEs greatest load average load imbalance moved elements moved bytes".split())
@@ -61,6 +108,7 @@ class Program(TimedTest):
         self.assertIn("greatest load       21      14", lines)
         self.assertIn("moved bytes         60  of 310", lines)
         self.assertEqual(lines[-3:], ["within 167 thousandths: 1 near the present cuts, 0 by the plan", "check: ok", ""])
+        self.assertEqual(call("examples/ten-elements.lbd2", "--tolerance", "0.167")[1], out)
         status, out, _ = call("examples/ten-elements.lbd2", "--tolerance", "0", "--procs", "3,2")
         self.assertEqual(out.split("\n")[-3:], ["within 0 thousandths: 0 near the present cuts, 2 by the plan", "check: ok", ""])
         status, out, _ = call("examples/ten-elements.lbd2", "--tolerance", "0", "--keep-order")
@@ -82,7 +130,8 @@ class Program(TimedTest):
                 ((), "FILE"), (("a", "b"), "unrecognized"), (("a", "--procs"), "expected one argument"),
                 (("a", "--procs", "0"), "0 is not 1 to 4096"), (("a", "--procs", "4097"), "4097 is not 1 to 4096"),
                 (("a", "--procs", "2,x"), "'2,x' is no list of whole numbers"),
-                (("a", "--tolerance", "1001"), "'1001' is not 0 to 1000"), (("a", "--tolerance", "2%"), "'2%' is not 0 to 1000"),
+                *((("a", "--tolerance", word), f"{word!r} is not 0 to 1000 thousandths, nor a fraction of whole thousandths, as 0.02")
+                  for word in ("1001", "2%", "1.5", "0.0205", "-1", ".", "1_0", "nan")),
                 (("a", "--keep-order"), "argument --keep-order: it is for a --tolerance, which may be 0"),
                 (("a", "--any-order"), "argument --any-order: it is for a --tolerance, which may be 0"),
                 (("a", "--tolerance", "0", "--keep-order", "--any-order"), "argument --any-order: not allowed with argument --keep-order"),

@@ -295,9 +295,13 @@ class Refused(TimedTest):
     def test_tolerances(self):
         for call in (tezgumi.plan, tezgumi.decide):
             for tolerance in (-1, 1001, True):
-                text = "^tolerance is .*; it has to be 0 to 1000$"
+                text = "^tolerance is .*; it has to be 0 to 1000 thousandths, or a fraction of whole thousandths as a float: 20 and 0.02 are "
                 self.assertRaisesRegex(tezgumi.InputError, text, call, TEN, tolerance=tolerance)
-            self.assertRaisesRegex(tezgumi.InputError, "^tolerance is 0.02, which is no whole number$", call, TEN, tolerance=0.02)
+            for fraction, whole in ((0.0, 0), (0.02, 20), (0.167, 167), (1.0, 1000), (np.float64(0.2), 200)):
+                self.assertEqual(call(TEN, tolerance=fraction), call(TEN, tolerance=whole))
+            for tolerance in (0.0205, 1.001, 20.0, -0.001, float("nan"), float("inf"), "20", None.__class__):
+                text = "^tolerance is .*; it has to be 0 to 1000 thousandths, or a fraction"
+                self.assertRaisesRegex(tezgumi.InputError, text, call, TEN, tolerance=tolerance)
         self.assertRaisesRegex(tezgumi.InputError, "^tolerance is 1001", replace, near(), tolerance=1001)
 
     def test_whether_an_order_is_kept(self):

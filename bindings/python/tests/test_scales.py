@@ -86,4 +86,36 @@ class Scaled(TimedTest):
         self.assertRaisesRegex(tezgumi.InputError, "leave one out", run, [1.0], scale=True, unit=0.5)
         for unit in (0, -1.0, float("nan"), float("inf"), "a"):
             self.assertRaisesRegex(tezgumi.InputError, "^unit is ", run, [1.0], unit=unit)
-        self.assertRaisesRegex(tezgumi.InputError, "not a whole number", run, [1.0, 0.5])
+        self.assertRaisesRegex(tezgumi.InputError, "not a whole number .*; scale=True", run, [1.0, 0.5], scale=False)
+        for load in (float("nan"), -1.0, float("inf")):
+            self.assertRaisesRegex(tezgumi.InputError, "element 1 .*; scale counts finite loads from 0 on$", run, [1.0, load])
+            self.assertRaisesRegex(tezgumi.InputError, "element 1 .*; scale counts finite loads from 0 on$", tezgumi.divide, [1.0, load], 2)
+
+    def test_floats_are_measured(self):
+        random = np.random.default_rng(2)
+        for loads in ([1.5, 0.25], np.array([1.5, 0.25], np.float32), np.array([1.5, 0.25]), (1.5, 0.25), [np.float64(1.5), 0.25], random.random(50)):
+            found = run(loads)
+            self.assertEqual(found, run(loads, scale=True))
+            self.assertEqual(found.within, len(loads) * found.unit)
+            self.assertIn(f"unit={found.unit!r}, least within {found.within:.3g})", repr(found))
+        self.assertEqual((run([7, 8]).unit, run([7, 8]).within), (None, 0))
+        # numpy makes floats of these whole numbers, which are none.
+        self.assertRaisesRegex(tezgumi.InputError, "^element 1 has the load -1", run, [2**63 - 1, -1, 2**63])
+
+    def test_a_division_of_floats(self):
+        random = np.random.default_rng(3)
+        for seconds in ([0.5, 0.25, 0.25], random.random(1000), random.random(1000).astype(np.float32), memoryview(random.random(9))):
+            counts = tezgumi.scaled(seconds)
+            cuts, stops = tezgumi.divide(counts.counts, 3, fence=True)
+            pair = tezgumi.divide(seconds, 3, fence=True)
+            self.assertEqual([part.tolist() for part in pair], [cuts.tolist(), stops.tolist()])
+            self.assertEqual((pair.unit, pair.within), (counts.unit, counts.within))
+            self.assertIn("least within ", repr(pair))
+            self.assertEqual(tezgumi.divide(seconds, 3).tolist(), cuts.tolist())
+        whole = tezgumi.divide([1, 2], 2, fence=True)
+        self.assertEqual((whole.unit, whole.within, repr(whole)), (None, 0, "Divided(cuts=[0 1 2], stops=[0 1 1])"))
+
+    def test_figures_of_measured_loads(self):
+        found = run([0.1, 0.2, 0.3])
+        told = str(tezgumi.figures(found, tezgumi.plan(found)))
+        self.assertIn("each rounded down: the greatest after is 0.3, and least within ", told.split("\n")[-1])

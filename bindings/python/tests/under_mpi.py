@@ -204,7 +204,7 @@ def test_what_one_rank_gives_is_refused_on_all():
         call(loads, np.array([None] * len(values)) if wrong else values),
         call(loads, 5 if wrong else values),
         call(loads, values, tolerance=1001 if wrong else 0),
-        call(loads, values, tolerance=0.5 if wrong else 0),
+        call(loads, values, tolerance=0.0005 if wrong else 0),
         call(loads, values, keep_order=1 if wrong else True),
         call(loads, values, refine=1 if wrong else False),
         call(loads, values, room=-1 if wrong else 0),

@@ -39,21 +39,22 @@ except ImportError as error:
 from . import parts
 from .checking import Flaw, Verdict
 from .dumps import Dump, decode, encode, read_dump, write_dump
-from .errors import DumpError, InputError, LibraryError, LoadError, OutOfMemory, TezgumiError, TraceError
+from .errors import DumpError, InputError, LibraryError, LoadError, OutOfMemory, TableError, TezgumiError, TraceError
 from .figures import Figures, Sweep, figures, pe_loads, sweep, table
 from .page import page
-from .planning import check, decide, divide, plan
+from .planning import Divided, check, decide, divide, plan
 from .runs import DIVISION_PES, DUMP_ELEMENTS, DUMP_LOAD, DUMP_PES, DUMP_STATE_BYTES, ELEMENTS, MOVE, PES, TOLERANCE
 from .runs import TOTAL_BYTES, TOTAL_LOAD
 from .runs import Decision, NearDecision, Plan, ReorderedDecision, Run
-from .texts import replay_text
+from .scales import Scaled, scaled
+from .tables import read_table
+from .texts import json_of, replay_text
 from .version import __version__
 
 __all__ = [
-    "DIVISION_PES", "DUMP_ELEMENTS", "DUMP_LOAD", "DUMP_PES", "DUMP_STATE_BYTES", "Decision", "Dump", "DumpError", "ELEMENTS",
-    "Figures", "Flaw", "InputError", "LibraryError", "LoadError", "MOVE", "NearDecision", "OutOfMemory", "PES", "Plan",
-    "ReorderedDecision", "Run",
-    "Sweep", "TOLERANCE", "TOTAL_BYTES", "TOTAL_LOAD", "TezgumiError", "TraceError", "Verdict", "__version__", "check",
-    "decide", "decode", "divide", "encode", "figures", "page", "parts", "pe_loads", "plan", "read_dump", "replay_text", "sweep",
-    "table", "write_dump",
+    "DIVISION_PES", "DUMP_ELEMENTS", "DUMP_LOAD", "DUMP_PES", "DUMP_STATE_BYTES", "Decision", "Divided", "Dump", "DumpError",
+    "ELEMENTS", "Figures", "Flaw", "InputError", "LibraryError", "LoadError", "MOVE", "NearDecision", "OutOfMemory", "PES", "Plan",
+    "ReorderedDecision", "Run", "Scaled", "Sweep", "TOLERANCE", "TOTAL_BYTES", "TOTAL_LOAD", "TableError", "TezgumiError", "TraceError", "Verdict", "__version__", "check",
+    "decide", "decode", "divide", "encode", "figures", "json_of", "page", "parts", "pe_loads", "plan", "read_dump", "read_table", "replay_text",
+    "scaled", "sweep", "table", "write_dump",
 ]

@@ -106,7 +106,7 @@ def numbers_of(run: Run, decision: Decision, flaw: Flaw) -> Tuple[int, ...]:
     if flaw is Flaw.HEAVY:
         return (_first(_between(run.loads, decision.cuts) > np.uint64(decision.bottleneck)),)
     if flaw is Flaw.FENCE_LIGHT:
-        stops = decision.stops.astype(np.int64)
+        stops = decision.stops
         sums = running_sums(run.loads)
         return (1 + _first(sums[stops[1:] + 1] - sums[stops[:-1]] < np.uint64(decision.bottleneck)),)
     if flaw is Flaw.PRICE_HIGH:
@@ -121,7 +121,7 @@ def running_sums(numbers: NDArray[Any]) -> NDArray[np.uint64]:
     return sums
 
 
-def _between(numbers: NDArray[Any], cuts: NDArray[np.uint32]) -> NDArray[np.uint64]:
+def _between(numbers: NDArray[Any], cuts: NDArray[np.int64]) -> NDArray[np.uint64]:
     sums = running_sums(numbers)
     between: NDArray[np.uint64] = sums[cuts[1:]] - sums[cuts[:-1]]
     return between

@@ -1,7 +1,6 @@
 """Dumps of a run, and of the decision on it, in the formats LBD1 and LBD2. docs/FORMATS.md has the tables of their bytes."""
 from __future__ import annotations
 
-import os
 import struct
 from typing import Any, Callable, NamedTuple, Tuple, Union
 
@@ -9,8 +8,10 @@ import numpy as np
 from numpy.typing import NDArray
 
 from .errors import DumpError, InputError
+from .files import Path, read_bytes
 from .lists import whole_number
 from .runs import DUMP_ELEMENTS, DUMP_LOAD, DUMP_PES, DUMP_STATE_BYTES, MOVE, Decision, NearDecision, ReorderedDecision, Run
+from .runs import taken_decision, taken_run
 
 _ROW = {
     1: np.dtype([("load", ">u4"), ("bytes", ">u4"), ("place", ">u4")]),
@@ -18,7 +19,6 @@ _ROW = {
 }
 _MOVE_ROW = np.dtype([(name, ">u4") for name in MOVE.names or ()])
 
-_Path = Union[str, "os.PathLike[str]"]
 _Rows = NDArray[np.void]
 # Of a field: its name, the rows that break its rule, the fault, and what to tell of it.
 _Faults = Tuple[Tuple[str, "NDArray[np.bool_]", str, str], ...]
@@ -31,13 +31,12 @@ class Dump(NamedTuple):
     decision: Decision | None = None
 
 
-def read_dump(path: _Path) -> Dump:
-    """The dump in a file, as `run, decision`. DumpError tells the first fault, as lb_sim does."""
-    with open(path, "rb") as file:
-        return decode(file.read())
+def read_dump(path: Path) -> Dump:
+    """The dump in a file, as `run, decision`; `-` is the standard input. DumpError tells the first fault, as lb_sim does."""
+    return decode(read_bytes(path))
 
 
-def write_dump(path: _Path, run: Run, decision: Decision | None = None, version: int = 2) -> None:
+def write_dump(path: Path, run: Run, decision: Decision | None = None, version: int = 2) -> None:
     """Writes a dump into a file: LBD2, or with version=1 LBD1, which has loads below 2**32 and no decision. InputError tells what
     the format does not hold: a dump has DUMP_ELEMENTS and DUMP_PES at most, and each element DUMP_LOAD and DUMP_STATE_BYTES."""
     data = encode(run, decision, version)
@@ -63,6 +62,9 @@ def decode(data: Union[bytes, bytearray, memoryview]) -> Dump:
 
 def encode(run: Run, decision: Decision | None = None, version: int = 2) -> bytes:
     """The bytes of a dump."""
+    run = taken_run(run)
+    if decision is not None:
+        decision = taken_decision(decision)
     if version not in _ROW:
         raise InputError(f"version is {version!r}, and the formats are 1 and 2")
     if isinstance(decision, (NearDecision, ReorderedDecision)):
@@ -223,7 +225,7 @@ def _decision_bytes(run: Run, decision: Decision) -> bytes:
     _refuse_unspelled(run, d)
     parts = [struct.pack(">IQ", d.pes, d.bottleneck), d.cuts.astype(">u4").tobytes()]
     parts.append(struct.pack(">I", 1 if d.stops.size else 0))
-    parts += [numbers.astype(">u4").tobytes() for numbers in (d.stops, d.names)]
+    parts += [d.stops.astype(">u4").tobytes(), d.names.astype(">u4").tobytes()]
     parts += [prices.astype(">i8").tobytes() for prices in (d.block_prices, d.pe_prices)]
     parts += [struct.pack(">QI", d.moved, len(d.moves)), d.moves.astype(_MOVE_ROW).tobytes()]
     return b"".join(parts)

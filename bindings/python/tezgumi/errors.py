@@ -38,3 +38,10 @@ class TraceError(TezgumiError, ValueError):
 
     def __init__(self, fault: str) -> None:
         super().__init__(f"trace: {fault}")
+
+
+class TableError(TezgumiError, ValueError):
+    """A file that is no table of elements, in CSV or NPY."""
+
+    def __init__(self, fault: str) -> None:
+        super().__init__(f"table: {fault}")

@@ -3,15 +3,19 @@ from __future__ import annotations
 
 import math
 from dataclasses import dataclass
-from typing import Any, Iterable, List, Protocol, Sequence
+from typing import Any, Dict, Iterable, List, Protocol, Sequence, Tuple
 
 import numpy as np
 from numpy.typing import ArrayLike, NDArray
 
+from .frames import frame, html_table
 from .lists import whole, whole_number
 from .planning import plan as plan_for
-from .runs import PES, Plan, Run, on_no_processor
+from .runs import PES, Plan, Run, on_no_processor, taken_plan, taken_run
 
+
+_HEAD = ("", "before", "after")
+_SWEEP_HEAD = ("PEs", "greatest load", "average load", "imbalance", "moved elements", "moved bytes")
 
 PART = 2**20
 """Loads are added up by so many elements at once."""
@@ -31,7 +35,9 @@ class Figures:
     there is no load; the excess is how far it is above 1, in per cent. No greatest load can be below the average, nor below
     the load of the heaviest element: the bound is the greater of the two, the average rounded up. A deviation is the
     standard deviation of the loads of the PEs over their average. An idle PE has no load, and an empty one no element.
-    Leaving and entering bytes are those of the PE with the most.
+    Leaving and entering bytes are those of the PE with the most. `unit` is that of the run, where its loads were measured.
+
+    As a text they are a table, in which an imbalance has three decimals, rounded down as lb_report does.
     """
 
     elements: int
@@ -54,6 +60,7 @@ class Figures:
     total_bytes: int
     leaving_bytes: int
     entering_bytes: int
+    unit: float | None = None
 
     @property
     def average_before(self) -> float:
@@ -88,16 +95,35 @@ class Figures:
         return max(self.heaviest_element, -(-self.total_load // self.pes))
 
     def __str__(self) -> str:
-        rows = (
-            ("", "before", "after"),
+        told = "" if self.unit is None else f"\n{self._told_unit()}"
+        return _aligned((_HEAD, *self._rows())) + told
+
+    def _rows(self) -> List[Tuple[str, str, str]]:
+        return [
             ("PEs", f"{self.procs:,}", f"{self.pes:,}"),
             ("greatest load", f"{self.greatest_before:,}", f"{self.greatest_after:,}"),
             ("average load", _hundredths(self.total_load, self.procs), _hundredths(self.total_load, self.pes)),
-            ("imbalance", f"{self.imbalance_before:.4f}", f"{self.imbalance_after:.4f}"),
+            ("imbalance", imbalance(self.greatest_before, self.procs, self.total_load),
+             imbalance(self.greatest_after, self.pes, self.total_load)),
             ("moved elements", f"{self.moved_elements:,}", f"of {self.elements:,}"),
             ("moved bytes", f"{self.moved_bytes:,}", f"of {self.total_bytes:,}"),
-        )
-        return _aligned(rows)
+        ]
+
+    def _told_unit(self) -> str:
+        unit = self.unit or 0.0
+        return (f"loads are in units of {unit!r}, each rounded down: the greatest after is {self.greatest_after * unit:.6g}, "
+                f"and least within {self.elements * unit:.3g}")
+
+    def to_frame(self) -> Any:
+        """A DataFrame of pandas with a row before and a row after: the number of PEs, their greatest, least and average load, the
+        imbalance, the excess, the deviation, and the idle and the empty ones."""
+        names = ("greatest", "least", "average", "imbalance", "excess", "deviation", "bound", "idle", "empty")
+        columns: Dict[str, Any] = {"pes": [self.procs, self.pes]}
+        columns.update({name: [getattr(self, f"{name}_before"), getattr(self, f"{name}_after")] for name in names})
+        return frame(columns, ("before", "after"))
+
+    def _repr_html_(self) -> str:
+        return html_table(_HEAD, self._rows(), "" if self.unit is None else self._told_unit())
 
     def _repr_pretty_(self, printer: _Printer, _: bool) -> None:
         # How IPython and notebooks show it.
@@ -110,12 +136,24 @@ class Sweep(List[Figures]):
     def __str__(self) -> str:
         return table(self)
 
+    def to_frame(self) -> Any:
+        """A DataFrame of pandas with a row for each number of PEs: the greatest, least and average load, the imbalance, the deviation,
+        and the elements and bytes that move."""
+        names = ("greatest_after", "least_after", "average_after", "imbalance_after", "deviation_after", "moved_elements", "moved_bytes")
+        columns: Dict[str, Any] = {"pes": [row.pes for row in self]}
+        columns.update({name.replace("_after", ""): [getattr(row, name) for row in self] for name in names})
+        return frame(columns)
+
+    def _repr_html_(self) -> str:
+        return html_table(_SWEEP_HEAD, map(_sweep_row, self))
+
     def _repr_pretty_(self, printer: _Printer, _: bool) -> None:
         printer.text(str(self))
 
 
 def figures(run: Run, plan: Plan) -> Figures:
     """The figures of a plan, or of a decision, on a run."""
+    run, plan = taken_run(run), taken_plan(plan)
     run.refuse_other_places(plan.places)
     before = pe_loads(run, run.places, run.procs)
     after = pe_loads(run, plan.places, plan.pes)
@@ -142,12 +180,13 @@ def figures(run: Run, plan: Plan) -> Figures:
         total_bytes=int(run.bytes.sum(dtype=np.uint64)),
         leaving_bytes=int(_sums(run.bytes[moves], run.places[moves], run.procs).max()),
         entering_bytes=int(_sums(run.bytes[moves], plan.places[moves], plan.pes).max()),
+        unit=run.unit,
     )
 
 
 def pe_loads(run: Run, places: ArrayLike, pes: int) -> NDArray[np.uint64]:
     """The load of each PE where the elements stand at these places, whole numbers below `pes`. Exact."""
-    pes = whole_number(pes, 1, PES, "pes")
+    run, pes = taken_run(run), whole_number(pes, 1, PES, "pes")
     stands = whole(places, "places", 0, pes - 1, lambda index, place: on_no_processor(index, place, pes))
     run.refuse_other_places(stands)
     return _sums(run.loads, stands, pes)
@@ -167,6 +206,7 @@ def _sums(numbers: NDArray[Any], places: NDArray[Any], pes: int) -> NDArray[np.u
 
 def sweep(run: Run, counts: Iterable[int] | None = None) -> Sweep:
     """The figures of the plan for each number of PEs, as a Sweep. If none are named, for 1, 2, 4 .. 256, and on to the run's own."""
+    run = taken_run(run)
     if counts is None:
         counts = sorted({2**k for k in range(13) if k <= 8 or 2**k < run.procs} | {run.procs})
     return Sweep(figures(run, plan_for(run, pes)) for pes in counts)
@@ -174,12 +214,19 @@ def sweep(run: Run, counts: Iterable[int] | None = None) -> Sweep:
 
 def table(swept: Iterable[Figures]) -> str:
     """A sweep as lines of text, a row for each number of PEs."""
-    rows = [("PEs", "greatest load", "average load", "imbalance", "moved elements", "moved bytes")]
-    for row in swept:
-        rows.append((
-            f"{row.pes:,}", f"{row.greatest_after:,}", _hundredths(row.total_load, row.pes), f"{row.imbalance_after:.4f}",
-            f"{row.moved_elements:,}", f"{row.moved_bytes:,}"))
-    return _aligned(rows)
+    return _aligned([_SWEEP_HEAD, *map(_sweep_row, swept)])
+
+
+def _sweep_row(row: Figures) -> Tuple[str, ...]:
+    return (
+        f"{row.pes:,}", f"{row.greatest_after:,}", _hundredths(row.total_load, row.pes),
+        imbalance(row.greatest_after, row.pes, row.total_load), f"{row.moved_elements:,}", f"{row.moved_bytes:,}")
+
+
+def imbalance(greatest: int, pes: int, total: int) -> str:
+    """The greatest load of a PE over the average, in three decimals, rounded down: as lb_report and a page have it."""
+    thousandths = 1000 * greatest * pes // total if total else 1000
+    return f"{thousandths // 1000:,}.{thousandths % 1000:03}"
 
 
 def _ratio(one: int, other: int) -> float:

@@ -42,7 +42,8 @@ except ImportError as error:
 from .errors import InputError, LibraryError, LoadError, OutOfMemory, TezgumiError
 from .library import ABI
 from .lists import frozen, truth, whole_number
-from .runs import TOLERANCE
+from .planning import thousandths
+from .runs import ends
 
 ELEMENT_BYTES = 2**30
 """The most bytes that an element may have, its load and all its fields together."""
@@ -111,7 +112,7 @@ class Division:
     elements: int
     firsts: NDArray[np.uint32]
     counts: NDArray[np.uint32]
-    cuts: NDArray[np.uint32]
+    cuts: NDArray[np.int64]
     names: NDArray[np.uint32]
     first: int
     """This rank is to hold the elements first,"""
@@ -160,7 +161,7 @@ def library() -> ctypes.CDLL:
 
 
 def decide(
-        comm: MPI.Intracomm, loads: ArrayLike, sizes: ArrayLike | int, tolerance: int = 0, keep_order: bool = False,
+        comm: MPI.Intracomm, loads: ArrayLike, sizes: ArrayLike | int, tolerance: float = 0, keep_order: bool = False,
         first: int | None = None, refine: bool = False) -> Division:
     """Where all elements are to be. `loads` has the load of each element that this rank holds, whole numbers that add up to less
     than 2^63 on all ranks, and `sizes` the bytes of each, or of every one, which is what moving it costs.
@@ -204,7 +205,7 @@ def move(comm: MPI.Intracomm, division: Division, fields: Sequence[ArrayLike], r
 
 
 def rebalance(
-        comm: MPI.Intracomm, loads: ArrayLike, fields: Sequence[ArrayLike], tolerance: int = 0, keep_order: bool = False,
+        comm: MPI.Intracomm, loads: ArrayLike, fields: Sequence[ArrayLike], tolerance: float = 0, keep_order: bool = False,
         first: int | None = None, room: int = 0, refine: bool = False) -> Rebalanced:
     """Decides, by `decide`, and moves the loads and the fields, by `move`. Give the `first` of what it returns to the next call,
     or keep the order. What moving an element costs is the bytes of its load and of all its fields. Where nothing is to move the
@@ -216,7 +217,7 @@ def rebalance(
 
 
 def report(
-        comm: MPI.Intracomm, loads: ArrayLike, sizes: ArrayLike | int = 0, tolerance: int = 0, keep_order: bool = False,
+        comm: MPI.Intracomm, loads: ArrayLike, sizes: ArrayLike | int = 0, tolerance: float = 0, keep_order: bool = False,
         first: int | None = None, refine: bool = False) -> Report:
     """What a rebalance would give: the greatest load now and then, and how much would move. Nothing moves."""
     return decide(comm, loads, sizes, tolerance, keep_order, first, refine).report
@@ -247,8 +248,8 @@ def _sizes(sizes: ArrayLike | int, count: int) -> NDArray[np.uint32]:
     return each
 
 
-def _options(tolerance: int, keep_order: bool, refine: bool = False, room: int = 0) -> _Options:
-    within = whole_number(tolerance, 0, TOLERANCE, "tolerance") / 1000
+def _options(tolerance: float, keep_order: bool, refine: bool = False, room: int = 0) -> _Options:
+    within = thousandths(tolerance) / 1000
     keeps, refines = truth(keep_order, "keep_order"), truth(refine, "refine")
     if refines and not keeps:
         raise InputError("refine needs keep_order")
@@ -309,7 +310,7 @@ def _division(comm: MPI.Intracomm, layout: _Layout, figures: _Report) -> Divisio
     own = int(np.flatnonzero(names == comm.Get_rank())[0])
     made = Report(*(getattr(figures, name) for name in Report.__dataclass_fields__))
     firsts, counts = _words(layout.firsts, ranks), _words(layout.counts, ranks)
-    return Division(layout.n, firsts, counts, cuts, names, int(cuts[own]), int(cuts[own + 1]), made)
+    return Division(layout.n, firsts, counts, ends(cuts, "cuts"), names, int(cuts[own]), int(cuts[own + 1]), made)
 
 
 def _words(pointer: int, count: int) -> NDArray[np.uint32]:
@@ -321,7 +322,7 @@ def _words(pointer: int, count: int) -> NDArray[np.uint32]:
 def _layout_of(comm: MPI.Intracomm, division: Division) -> Tuple[_Layout, NDArray[np.uint32]]:
     """The layout before the move, and the numbers that it is in, which it does not own."""
     d, ranks = division, comm.Get_size()
-    lists = [d.firsts, d.counts, d.cuts, d.names]
+    lists: List[NDArray[Any]] = [d.firsts, d.counts, d.cuts, d.names]
     if [len(numbers) for numbers in lists] != [ranks, ranks, ranks + 1, ranks]:
         raise InputError(f"the division is for {len(d.names)} ranks, or its lists do not fit each other; there are {ranks}")
     zeros = np.zeros(ranks, np.uint32)

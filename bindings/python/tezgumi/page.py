@@ -10,24 +10,23 @@ import hashlib
 import html
 import json
 import os
+from collections import abc
 from dataclasses import dataclass
-from typing import Any, Callable, Dict, Iterable, List, Sequence, Tuple, Union
+from typing import Any, Dict, Iterable, List, Sequence, Tuple
 
 import numpy as np
 from numpy.typing import NDArray
 
 from .columns import Head, block, folded
-from .dumps import read_dump
-from .errors import DumpError, InputError
+from .dumps import Dump
+from .errors import InputError
 from .figures import pe_loads
+from .files import Path, refuse_inputs
 from .planning import decide as decide_now
-from .runs import Decision, Plan, ReorderedDecision, Run
+from .rounds import Decide, Given, Round, taken_rounds
+from .runs import Decision, Plan, Run
 from .traces import packed, read_trace
 from .version import __version__
-
-_Path = Union[str, "os.PathLike[str]"]
-Given = Union[_Path, Run, Tuple[Run, "Decision | None"]]
-"""A round: the file of a dump, a run, or a run and the decision on it, as `read_dump` returns them."""
 
 MOST_BYTES = 8_000_000
 """A page has at most so many bytes: the elements of rounds for which there is no room are left out, and the page says which."""
@@ -38,71 +37,45 @@ _WEB = os.path.join(os.path.dirname(os.path.abspath(__file__)), "web")
 
 
 @dataclass(frozen=True)
-class _Round:
-    """A round of the page: what it is called, the run, the decision if there is one, and whether it was decided just now."""
-
-    name: str
-    run: Run
-    decision: Decision | None
-    is_new: bool
-
-
-@dataclass(frozen=True)
 class Written:
-    """What was written: how many bytes, and which rounds, from 1, have their elements left out for want of room."""
+    """What was written: how many bytes; which rounds, from 1, have their elements left out for want of room; and what is to be said
+    of the order of the rounds."""
 
     bytes: int
     left_out: Tuple[int, ...]
+    notes: Tuple[str, ...] = ()
 
 
 def page(
-        rounds: Iterable[Given], path: _Path, trace: _Path | None = None, title: str | None = None,
-        decide: Callable[[Run], Decision | None] | None = decide_now, anew: bool = False, most: int = MOST_BYTES) -> Written:
+        rounds: Iterable[Given], path: Path, trace: Path | None = None, title: str | None = None,
+        decide: Decide | None = decide_now, anew: bool = False, most: int = MOST_BYTES) -> Written:
     """Writes a page that shows the rounds of a run, in order, into a file.
 
-    A round is the path of a dump, a Run, or a Run with its Decision. Where none is recorded, or of every round where `anew`
-    is set, `decide` makes one now; with decide=None such a round has none. A ReorderedDecision is refused. `trace` is a file in the Trace Event Format.
-    A page has at most `most` bytes where the elements of enough rounds can be left out for that. InputError tells that there
-    are no rounds, DumpError and TraceError what is wrong with a file.
+    A round is the path of a dump (`-` is the standard input), a Run, or a Run with its Decision. Where all are paths they are put in
+    the order of their steps; two of one step, and arrays of different lengths, are refused. Rounds of other kinds stand as given.
+
+    Where no decision is recorded, or of every round where `anew` is set, `decide` makes one now, and the page says at that round that
+    it was planned here; with decide=None such a round has none. A ReorderedDecision is refused. `trace` is a file in the Trace Event
+    Format. A page has at most `most` bytes where the elements of enough rounds can be left out for that. InputError tells that there
+    are no rounds, or that the page would be written over a file that is read; DumpError and TraceError what is wrong with a file.
     """
-    if isinstance(rounds, (str, os.PathLike)):
+    if isinstance(rounds, (str, bytes, os.PathLike)):
         raise InputError(f"rounds is {rounds!r}, and a list of rounds is wanted")
-    taken = [_taken(number, given, decide, anew) for number, given in enumerate(rounds, 1)]
-    if not taken:
+    if isinstance(rounds, (Run, Dump)) or not isinstance(rounds, abc.Iterable):
+        raise InputError(f"rounds: a list of rounds is wanted, and not a {type(rounds).__name__}")
+    given = list(rounds)
+    if not given:
         raise InputError("a page has one round at least")
-    text, left_out = _page_of(taken, title or _title_of(taken), trace, most)
+    refuse_inputs(path, [*(one for one in given if isinstance(one, (str, os.PathLike))), trace])
+    taken, notes = taken_rounds(given, decide, anew)
+    text, left_out = _page_of(taken, notes, title or _title_of(taken), trace, most)
     data = _bytes(text)
     with open(path, "wb") as out:
         out.write(data)
-    return Written(len(data), tuple(left_out))
+    return Written(len(data), tuple(left_out), tuple(notes))
 
 
-def _taken(number: int, given: Given, decide: Callable[[Run], Decision | None] | None, anew: bool) -> _Round:
-    name, decision = f"round {number}", None
-    if isinstance(given, Run):
-        run = given
-    elif isinstance(given, tuple):
-        run, decision = given
-    else:
-        name, (run, decision) = os.fspath(given), _read(given)
-    is_new = decide is not None and (anew or decision is None)
-    if decide is not None and is_new:
-        decision = decide(run)
-    if isinstance(decision, ReorderedDecision):
-        raise InputError(f"{name} is decided in any order of the PEs, and a page has no check of the bounds of such a decision")
-    return _Round(name, run, decision, is_new)
-
-
-def _read(path: _Path) -> Tuple[Run, Decision | None]:
-    try:
-        return read_dump(path)
-    except DumpError as error:
-        raise DumpError(error.line[len("dump: "):], f"in {os.fspath(path)}") from None
-    except OSError as error:
-        raise DumpError("read failed", error) from None
-
-
-def _title_of(rounds: Sequence[_Round]) -> str:
+def _title_of(rounds: Sequence[Round]) -> str:
     name = os.path.basename(rounds[0].name)
     return name if len(rounds) == 1 else f"{name} to {os.path.basename(rounds[-1].name)}"
 
@@ -110,8 +83,11 @@ def _title_of(rounds: Sequence[_Round]) -> str:
 # The page
 
 
-def _page_of(rounds: Sequence[_Round], title: str, trace: _Path | None, most: int) -> Tuple[str, List[int]]:
-    described: Dict[str, Any] = {"title": title, "version": __version__, "rounds": [_described(one) for one in rounds]}
+def _page_of(
+        rounds: Sequence[Round], notes: Sequence[str], title: str, trace: Path | None, most: int) -> Tuple[str, List[int]]:
+    described: Dict[str, Any] = {
+        "title": title, "version": __version__, "notes": list(notes),
+        "rounds": [_described(one) for one in rounds]}
     blocks = {}
     if trace is not None:
         described["trace"], blocks["trace"] = packed(read_trace(trace))
@@ -157,20 +133,20 @@ def _part(name: str) -> str:
 # What is told of a round
 
 
-def _described(one: _Round) -> Dict[str, Any]:
+def _described(one: Round) -> Dict[str, Any]:
     run, decision = one.run, one.decision
     described: Dict[str, Any] = {
         "file": os.path.basename(one.name), "step": run.step, "procs": run.procs, "elements": len(run),
         "heaviest": str(int(run.loads.max(initial=0))), "bytes": str(int(run.bytes.sum(dtype=np.uint64))),
     }
     if decision is not None:
-        described["decision"] = _described_decision(run, decision, one.is_new)
+        described["decision"] = {"new": one.is_new, "made": one.made, **_described_decision(run, decision)}
     return described
 
 
-def _described_decision(run: Run, decision: Decision, is_new: bool) -> Dict[str, Any]:
+def _described_decision(run: Run, decision: Decision) -> Dict[str, Any]:
     described: Dict[str, Any] = {
-        "pes": decision.pes, "bottleneck": str(decision.bottleneck), "moved": str(decision.moved), "new": is_new,
+        "pes": decision.pes, "bottleneck": str(decision.bottleneck), "moved": str(decision.moved),
         "least": str(getattr(decision, "least", decision.bottleneck)), "tolerance": getattr(decision, "tolerance", None),
         "keep_order": getattr(decision, "keep_order", False),
     }
@@ -181,7 +157,7 @@ def _described_decision(run: Run, decision: Decision, is_new: bool) -> Dict[str,
     return described
 
 
-def _load_columns(rounds: Sequence[_Round]) -> Iterable[Tuple[str, NDArray[np.uint64]]]:
+def _load_columns(rounds: Sequence[Round]) -> Iterable[Tuple[str, NDArray[np.uint64]]]:
     # Of each round the loads of the PEs as measured, and as decided: no numbers where the decision has no such loads.
     for one in rounds:
         yield "before", pe_loads(one.run, one.run.places, one.run.procs)
@@ -201,7 +177,7 @@ def _loads_after(run: Run, plan: Plan | None) -> NDArray[np.uint64]:
 class _Elements:
     """The elements of each round and the decision on them, in letters. Packed sizes that several rounds have stand once."""
 
-    def __init__(self, rounds: Sequence[_Round]) -> None:
+    def __init__(self, rounds: Sequence[Round]) -> None:
         self.heads: List[List[Head]] = []
         self.letters: List[str] = []
         self.sizes: List[int] = []
@@ -258,7 +234,7 @@ def _spread(count: int) -> List[int]:
 
 def _named_places(count: int, decision: Decision) -> NDArray[np.uint32]:
     """The place of each element by the name of its block; none where the cuts do not divide the elements."""
-    cuts = decision.cuts.astype(np.int64)
+    cuts = decision.cuts
     lengths = np.diff(cuts)
     if cuts.size != len(decision.names) + 1 or cuts[0] != 0 or cuts[-1] != count or (lengths < 0).any():
         return np.zeros(0, np.uint32)

@@ -34,7 +34,7 @@ from numpy.typing import ArrayLike, NDArray
 from .checking import Flaw, Verdict, flaw_of
 from .errors import InputError, LoadError, TezgumiError
 from .library import library, lists
-from .lists import frozen, total, whole_number
+from .lists import frozen, stay_frozen, total, whole_number
 from .runs import DIVISION_PES, ELEMENTS, PES, TOTAL_BYTES, TOTAL_LOAD
 from .statuses import BAD_LOAD, hold
 
@@ -81,8 +81,8 @@ class Division(NamedTuple):
     elements from each of the stops to the next, both included, weigh as much as it at least; there are none where it is 0."""
 
     bottleneck: int
-    cuts: NDArray[np.uint32]
-    stops: NDArray[np.uint32]
+    cuts: NDArray[np.int64]
+    stops: NDArray[np.int64]
 
 
 class Weights(NamedTuple):
@@ -99,6 +99,9 @@ class Naming(NamedTuple):
     block_prices: NDArray[np.int64]
     pe_prices: NDArray[np.int64]
     moved: int
+
+
+stay_frozen(Walks, Ends, Runs, Division, Weights, Naming)
 
 
 def bounds(total: int, greatest: int, pes: int) -> Bounds:
@@ -184,7 +187,7 @@ def divide(runs: Sequence[Runs], pes: int) -> Division:
     bottleneck, count = ctypes.c_uint64(), ctypes.c_size_t()
     _hold(library().tezgumi_divide(
         *lists(weights), pes, ctypes.addressof(bottleneck), *lists(cuts, stops), ctypes.addressof(count)), weights)
-    firsts = np.concatenate([np.zeros(1, np.uint32), behind])
+    firsts = np.concatenate([np.zeros(1, np.int64), behind])
     return Division(bottleneck.value, _done(firsts[cuts]), _done(firsts[stops[:count.value]]))
 
 

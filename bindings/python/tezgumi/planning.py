@@ -10,24 +10,26 @@ from numpy.typing import ArrayLike, NDArray
 from .checking import Flaw, Verdict, flaw_of, numbers_of
 from .errors import InputError
 from .library import library, lists
-from .lists import frozen, slices, truth, whole_number
+from .lists import are_floats, as_they_lie, frozen, refuse_no_list, shown, slices, stay_frozen, truth, whole_number
 from .refining import check_near, decide_within, plan_within
 from .reordering import check_reordered, decide_in_any_order, plan_in_any_order
-from .runs import DIVISION_PES, MOVE, PES, TOLERANCE, TOTAL_LOAD, Decision, NearDecision, Plan, ReorderedDecision, Run
-from .statuses import hold
+from .runs import DIVISION_PES, ELEMENTS, MOVE, PES, TOLERANCE, TOTAL_LOAD, Decision, NearDecision, Plan, ReorderedDecision, Run
+from .runs import ends, taken_decision, taken_run, words
+from .scales import scaled
+from .statuses import BAD_LOAD, hold
 
 _Array = TypeVar("_Array", bound="NDArray[Any]")
 
 
 def plan(
-        run: Run, pes: int | None = None, tolerance: int | None = None, keep_order: bool = False, any_order: bool = False) -> Plan:
+        run: Run, pes: int | None = None, tolerance: float | None = None, keep_order: bool = False, any_order: bool = False) -> Plan:
     """The plan for `pes` PEs, 1 to 4,096; for as many as the run has, if none are named.
 
     Its greatest load is the least: no division of the chain into so many consecutive blocks has a lighter heaviest block. And
     it moves the fewest bytes: no other way to name these blocks by PEs moves fewer. Both are proved.
 
-    With a tolerance, 0 to 1000, the heaviest block may weigh so many thousandths more than the least one can, the limit
-    rounded down. It is for runs that a dump holds. Where the elements of each PE are together, on PEs below `pes`, these stand
+    With a tolerance the heaviest block may weigh that much more than the least one can, the limit rounded down: so many
+    thousandths, 0 to 1000, or a fraction as a float, so that 20 and 0.02 are two per cent. It is for runs that a dump holds. Where the elements of each PE are together, on PEs below `pes`, these stand
     in an order, and behind them those without elements; otherwise it is the plan without a tolerance.
 
     Of all cuts within the limit those are taken that would move the fewest bytes in this order, and their blocks are named
@@ -48,7 +50,7 @@ def plan(
 
 
 def decide(
-        run: Run, pes: int | None = None, tolerance: int | None = None, keep_order: bool = False,
+        run: Run, pes: int | None = None, tolerance: float | None = None, keep_order: bool = False,
         any_order: bool = False) -> Decision:
     """The same with certificates, which `check` takes. With a tolerance it is a NearDecision; or the decision without one, where
     the elements of some PE are not together, and, unless the PEs are to keep their order, where that moves no more bytes. With
@@ -65,16 +67,36 @@ def decide(
         *lists(names, block_prices, pe_prices)))
     moves = run.moves_to(places)
     return Decision(
-        pes, _done(places), bottleneck.value, moved.value, _done(cuts), stops[:count.value], _done(names),
+        pes, _done(places), bottleneck.value, moved.value, cuts, stops[:count.value], _done(names),
         _done(block_prices), _done(pe_prices), _done(moves))
 
 
+class _Pair(NamedTuple):
+    cuts: NDArray[np.int64]
+    stops: NDArray[np.int64]
+
+
+class Divided(_Pair):
+    """A division with its fence: a pair of the cuts and the stops. Where the loads were measured, `unit` is what they were counted in,
+    each rounded down, and the heaviest block is above that of any other division by `within` at most. Else they are None and 0."""
+
+    unit: float | None = None
+    within: float = 0.0
+
+    def __repr__(self) -> str:
+        unit = "" if self.unit is None else f", unit={self.unit!r}, least within {self.within:.3g}"
+        return f"Divided(cuts={shown(self.cuts)}, stops={shown(self.stops)}{unit})"
+
+
+stay_frozen(Divided)
+
+
 @overload
-def divide(loads: ArrayLike, pes: int) -> NDArray[np.uint32]: ...
+def divide(loads: ArrayLike, pes: int) -> NDArray[np.int64]: ...
 @overload
-def divide(loads: ArrayLike, pes: int, fence: Literal[False]) -> NDArray[np.uint32]: ...
+def divide(loads: ArrayLike, pes: int, fence: Literal[False]) -> NDArray[np.int64]: ...
 @overload
-def divide(loads: ArrayLike, pes: int, fence: Literal[True]) -> Tuple[NDArray[np.uint32], NDArray[np.uint32]]: ...
+def divide(loads: ArrayLike, pes: int, fence: Literal[True]) -> Divided: ...
 
 
 def divide(loads: ArrayLike, pes: int, fence: bool = False) -> Any:
@@ -85,15 +107,36 @@ def divide(loads: ArrayLike, pes: int, fence: bool = False) -> Any:
     a pair: the cuts, and the stops of the fence, of which there are none where all loads are 0. From each stop to the next,
     both included, the elements weigh as much as the heaviest block at least, which shows that no lighter blocks do.
 
+    Loads that are floats are counted first, as `scaled` does, each rounded down to a unit. Then the greatest load of a block is above
+    the least by a unit for each element at most; with fence=True the pair says so: its `unit`, and `within`, which is all of them.
+
     An array or a buffer of whole numbers of 64 bits, one behind the other, is read where it is, and not copied.
     """
-    numbers = frozen(loads, np.uint64, "loads", most=TOTAL_LOAD, copy=False)
+    refuse_no_list(loads, "loads")
     pes, wanted = whole_number(pes, 1, DIVISION_PES, "pes"), truth(fence, "fence")
+    measured = scaled(loads, ELEMENTS) if are_floats(loads) else None
+    numbers = measured.counts if measured else as_they_lie(loads)
+    if numbers is None:
+        numbers = _whole_loads(loads)
     cuts, stops = np.empty(pes + 1, np.uint32), np.empty(pes + 1, np.uint32)
     bottleneck, count = ctypes.c_uint64(), ctypes.c_size_t()
-    hold(library().tezgumi_divide(
-        *lists(numbers), pes, ctypes.addressof(bottleneck), *lists(cuts, stops), ctypes.addressof(count)))
-    return (_done(cuts), _done(stops[:count.value])) if wanted else _done(cuts)
+    status = library().tezgumi_divide(
+        *lists(numbers), pes, ctypes.addressof(bottleneck), *lists(cuts, stops), ctypes.addressof(count))
+    if status == BAD_LOAD:
+        # The library has read the loads, and says no more. Where one of them alone is wrong, this names it.
+        _whole_loads(loads)
+    hold(status)
+    kept = ends(cuts, "cuts")
+    if not wanted:
+        return kept
+    pair = Divided(kept, ends(stops[:count.value], "stops"))
+    if measured is not None:
+        pair.unit, pair.within = measured.unit, measured.within
+    return pair
+
+
+def _whole_loads(loads: ArrayLike) -> NDArray[np.uint64]:
+    return frozen(loads, np.uint64, "loads", most=TOTAL_LOAD, copy=False)
 
 
 def check(run: Run, decision: Decision) -> Verdict:
@@ -105,13 +148,14 @@ def check(run: Run, decision: Decision) -> Verdict:
     no block is above its limit, and no cuts within the limit, with no naming of their blocks, move fewer bytes. That `moves` lists
     the moves of the places is compared here, in Python.
     """
-    d = decision
+    run, d = taken_run(run), taken_decision(decision)
     if isinstance(d, (NearDecision, ReorderedDecision)):
         verdict = check_near(run, d) if isinstance(d, NearDecision) else check_reordered(run, d)
         return verdict if not verdict or _are_moves(run, d) else Verdict(Flaw.MOVES_WRONG)
+    cuts, stops = words(d.cuts, d.stops)
     status = library().tezgumi_check(
         *lists(run.loads, run.bytes, run.places), run.procs, d.pes, *lists(d.places), d.bottleneck, d.moved,
-        *lists(d.cuts, d.stops, d.names, d.block_prices, d.pe_prices))
+        *lists(cuts, stops, d.names, d.block_prices, d.pe_prices))
     if status > 0:
         flaw = flaw_of(status)
         return Verdict(flaw, numbers_of(run, d, flaw))
@@ -133,6 +177,7 @@ def _are_moves(run: Run, decision: Decision) -> bool:
 
 
 def _pes(run: Run, pes: int | None) -> int:
+    run = taken_run(run)
     return run.procs if pes is None else whole_number(pes, 1, PES, "pes")
 
 
@@ -144,16 +189,30 @@ class _Asked(NamedTuple):
     any_order: bool
 
 
-def _asked(tolerance: int | None, keep_order: bool, any_order: bool) -> _Asked | None:
+def _asked(tolerance: float | None, keep_order: bool, any_order: bool) -> _Asked | None:
     """What is asked of a decision within a tolerance; None where there is no tolerance."""
     keeps, changes = truth(keep_order, "keep_order"), truth(any_order, "any_order")
     if keeps and changes:
         raise InputError("keep_order and any_order are two ways to decide: leave one out")
     if tolerance is not None:
-        return _Asked(whole_number(tolerance, 0, TOLERANCE, "tolerance"), keeps, changes)
+        return _Asked(thousandths(tolerance), keeps, changes)
     if keeps or changes:
         raise InputError(f"{'keep_order' if keeps else 'any_order'} is for a decision within a tolerance, which may be 0")
     return None
+
+
+def thousandths(tolerance: Any) -> int:
+    """A tolerance in thousandths, which may be given as a fraction."""
+    wanted = f"it has to be 0 to {TOLERANCE} thousandths, or a fraction of whole thousandths as a float: 20 and 0.02 are two per cent"
+    if isinstance(tolerance, (float, np.floating)):
+        number = round(1000 * float(tolerance)) if 0 <= tolerance <= 1 else -1
+        if number < 0 or abs(1000 * float(tolerance) - number) > 1e-6:
+            raise InputError(f"tolerance is {tolerance!r}; {wanted}")
+        return number
+    try:
+        return whole_number(tolerance, 0, TOLERANCE, "tolerance")
+    except InputError:
+        raise InputError(f"tolerance is {tolerance!r}; {wanted}") from None
 
 
 def _plan_words(

@@ -8,7 +8,7 @@ import numpy as np
 
 from .checking import Verdict, flaw_of
 from .library import library, lists
-from .runs import Decision, NearDecision, Plan, Run
+from .runs import Decision, NearDecision, Plan, Run, words
 from .statuses import hold
 
 STEPS = 8
@@ -74,9 +74,10 @@ def check_near(run: Run, decision: NearDecision) -> Verdict:
     """What the proved checker says of it."""
     d = decision
     first, second = ctypes.c_uint32(), ctypes.c_uint32()
+    cuts, stops, least_cuts, present = words(d.cuts, d.stops, d.least_cuts, d.present)
     status = library().tezgumi_check_refined(
         *lists(run.loads, run.bytes, run.places), run.procs, d.pes, d.tolerance, d.keep_order, *lists(d.places), d.least,
-        d.bottleneck, d.moved, *lists(d.cuts, d.stops, d.names, d.block_prices, d.pe_prices, d.least_cuts, d.order, d.present),
+        d.bottleneck, d.moved, *lists(cuts, stops, d.names, d.block_prices, d.pe_prices, least_cuts, d.order, present),
         *lists(d.step_starts, d.step_places, d.step_rises), ctypes.addressof(first), ctypes.addressof(second))
     if status > 0:
         flaw = flaw_of(status)

@@ -9,7 +9,7 @@ import numpy as np
 from .checking import Flaw, Verdict
 from .library import library, lists
 from .refining import STEPS, Room
-from .runs import Decision, Plan, ReorderedDecision, Run
+from .runs import Decision, Plan, ReorderedDecision, Run, words
 from .statuses import hold
 
 LEVELS = 8
@@ -59,9 +59,10 @@ def check_reordered(run: Run, decision: ReorderedDecision) -> Verdict:
     """What the proved checker says of it."""
     d = decision
     at = [ctypes.c_uint32() for _ in range(3)]
+    cuts, stops, least_cuts = words(d.cuts, d.stops, d.least_cuts)
     status = library().tezgumi_check_reordered(
         *lists(run.loads, run.bytes, run.places), run.procs, d.pes, d.tolerance, *lists(d.places), d.least, d.bottleneck, d.moved,
-        *lists(d.cuts, d.stops, d.names, d.block_prices, d.pe_prices, d.least_cuts, d.level_starts, d.level_places, d.level_bytes),
+        *lists(cuts, stops, d.names, d.block_prices, d.pe_prices, least_cuts, d.level_starts, d.level_places, d.level_bytes),
         *map(ctypes.addressof, at))
     if status > 0:
         flaw = next(flaw for flaw in Flaw if flaw == status)

@@ -2,14 +2,15 @@
 from __future__ import annotations
 
 from dataclasses import InitVar, dataclass, fields, replace
-from typing import TYPE_CHECKING, Any, List, Sized, Tuple
+from typing import TYPE_CHECKING, Any, Dict, List, Sized, Tuple
 
 import numpy as np
 from numpy.typing import ArrayLike, NDArray
 
 from .errors import InputError, LoadError
-from .lists import frozen, same_fields, shown, slices, total, truth, whole, whole_number
-from .scales import are_floats, in_units, scaled, unit_of
+from .frames import frame, html_table, rows_of_ends
+from .lists import are_floats, frozen, refuse_no_list, same_fields, shown, slices, total, truth, whole, whole_number
+from .scales import in_units, scaled, unit_of
 
 ELEMENTS = 4_294_967_295
 """At most so many elements."""
@@ -45,6 +46,13 @@ class _Record:
 
     __hash__ = None  # type: ignore[assignment]
 
+    def __setstate__(self, state: Dict[str, Any]) -> None:
+        # numpy lets anybody write to an array that was pickled, or copied as deep.
+        for value in state.values():
+            if isinstance(value, np.ndarray):
+                value.setflags(write=False)
+        self.__dict__.update(state)
+
     def _keep(self, name: str, value: object) -> None:
         # How a frozen dataclass puts its own fields in order.
         object.__setattr__(self, name, value)
@@ -61,37 +69,44 @@ class Run(_Record):
 
     The lists may be numpy arrays or plain lists of whole numbers, or what else has them in a buffer, as array.array. They are
     copied, and cannot be written to; with copy=False one that has numbers of the same size, 64 bits for loads and 32 for the
-    others, is taken as it is, and must not be written to while the run is in use. `replace(run, procs=4)` of dataclasses makes another run. All loads together are TOTAL_LOAD at
-    most, and all packed sizes TOTAL_BYTES.
+    others, is taken as it is, and must not be written to while the run is in use. `replace(run, procs=4)` of dataclasses makes
+    another run. All loads together are TOTAL_LOAD at most, and all packed sizes TOTAL_BYTES. Without `bytes` each element has 1, so
+    that bytes that move are elements that move; without `places` the PEs hold equally many, in order: element i is on PE
+    i * procs // elements.
 
-    A float is refused, but as a load where it is asked for. With scale=True the loads are measured, in seconds say, and are
-    counted in the finest unit of a power of two that the limit of loads allows, each rounded down; with unit=0.001 floats
-    are counted in that unit, each rounded to the nearest, and whole numbers are counts in it already. `unit` has the unit,
-    or None. A bottleneck times the unit is in seconds again; and for scaled loads it is proved that no division has a
-    heaviest block that is lighter, in seconds, than that of the plan by more than as many units as there are elements.
+    Loads that are floats are measured, in seconds say. They are counted in the finest unit of a power of two that the limit of loads
+    allows, each rounded down. With scale=True whole numbers are counted so too, and with scale=False floats are refused. With
+    unit=0.001 floats are counted in that unit, each rounded to the nearest, and whole numbers are counts in it already. `unit` has
+    the unit, or None. A bottleneck times the unit is in seconds again; and for scaled loads it is proved that no division has a
+    heaviest block that is lighter, in seconds, than that of the plan by more than `within`.
     """
 
     procs: int
     loads: NDArray[np.uint64]
-    bytes: NDArray[np.uint32]
-    places: NDArray[np.uint32]
+    bytes: NDArray[np.uint32] = None  # type: ignore[assignment]
+    places: NDArray[np.uint32] = None  # type: ignore[assignment]
     step: int = 0
     copy: InitVar[bool] = True
     unit: float | None = None
-    scale: InitVar[bool] = False
+    scale: InitVar["bool | None"] = None
 
     if TYPE_CHECKING:
         def __init__(
-                self, procs: int, loads: ArrayLike, bytes: ArrayLike, places: ArrayLike, step: int = 0,
-                copy: bool = True, unit: float | None = None, scale: bool = False) -> None: ...
+                self, procs: int, loads: ArrayLike, bytes: ArrayLike | None = None, places: ArrayLike | None = None, step: int = 0,
+                copy: bool = True, unit: float | None = None, scale: bool | None = None) -> None: ...
 
-    def __post_init__(self, copy: bool, scale: bool) -> None:
+    def __post_init__(self, copy: bool, scale: bool | None) -> None:
         self._keep("procs", whole_number(self.procs, 1, PES, "procs"))
         self._keep("step", whole_number(self.step, 0, _WORD, "step"))
+        has_all = self.bytes is not None and self.places is not None
+        if not has_all:
+            # Then it is the loads that say how many elements there are.
+            self._keep_loads(copy, scale)
+            self._keep_defaults()
         self._keep("bytes", frozen(self.bytes, np.uint32, "bytes", _wrong_bytes, _SIZE, copy))
         self._keep("places", frozen(self.places, np.uint32, "places", self._wrong_place, self.procs - 1, copy))
-        self._count(scale)
-        self._keep("loads", frozen(self.loads, np.uint64, "loads", _wrong_load, TOTAL_LOAD, copy))
+        if has_all:
+            self._keep_loads(copy, scale)
         counts = len(self.loads), len(self.bytes), len(self.places)
         if len(set(counts)) > 1:
             raise InputError("there are {} loads, {} packed sizes and {} places; an element has one of each".format(*counts))
@@ -106,10 +121,22 @@ class Run(_Record):
         if load > TOTAL_LOAD:
             raise LoadError(f"the loads add up to {load}, and at most {TOTAL_LOAD} is taken")
 
-    def _count(self, scale: bool) -> None:
+    def _keep_loads(self, copy: bool, scale: bool | None) -> None:
+        refuse_no_list(self.loads, "loads")
+        self._count(scale)
+        self._keep("loads", frozen(self.loads, np.uint64, "loads", _wrong_load, TOTAL_LOAD, copy))
+
+    def _keep_defaults(self) -> None:
+        count = len(self.loads)
+        if self.bytes is None:
+            self._keep("bytes", np.ones(count, np.uint32))
+        if self.places is None:
+            self._keep("places", (np.arange(count, dtype=np.uint64) * np.uint64(self.procs) // np.uint64(max(count, 1))).astype(np.uint32))
+
+    def _count(self, scale: bool | None) -> None:
         if scale and self.unit is not None:
             raise InputError("scale chooses a unit, and unit gives one: leave one out")
-        if scale:
+        if scale or scale is None and self.unit is None and are_floats(self.loads):
             counts, unit = scaled(self.loads, ELEMENTS)
             self._keep("loads", counts)
             self._keep("unit", unit)
@@ -117,6 +144,12 @@ class Run(_Record):
             self._keep("unit", unit_of(self.unit))
             if are_floats(self.loads):
                 self._keep("loads", in_units(self.loads, self.unit, TOTAL_LOAD))
+
+    @property
+    def within(self) -> float:
+        """How far, in what was measured, the heaviest block of a plan may be above that of another division because the loads were
+        rounded to units: a unit for each element, and 0 where the loads were given as whole numbers."""
+        return 0.0 if self.unit is None else len(self) * self.unit
 
     def _wrong_place(self, index: int, value: Any) -> InputError:
         return on_no_processor(index, value, self.procs)
@@ -126,13 +159,29 @@ class Run(_Record):
 
     def __repr__(self) -> str:
         lists = ", ".join(f"{name}={shown(getattr(self, name))}" for name in ("loads", "bytes", "places"))
-        unit = "" if self.unit is None else f", unit={self.unit!r}"
+        unit = "" if self.unit is None else f", unit={self.unit!r}, least within {self.within:.3g}"
         return f"Run({len(self)} elements, procs={self.procs}, {lists}, step={self.step}{unit})"
 
     def after(self, plan: Plan, step: int | None = None) -> Run:
         """The run as it stands once the elements of a plan or a decision have moved."""
         self.refuse_other_places(plan.places)
         return replace(self, procs=plan.pes, places=plan.places, step=self.step if step is None else step)
+
+    def to_frame(self, plan: Plan | None = None) -> Any:
+        """A DataFrame of pandas with a row for each element: its load, its bytes and its place, and of a plan or a decision where it
+        is planned."""
+        columns = {"load": self.loads, "bytes": self.bytes, "place": self.places}
+        if plan is not None:
+            self.refuse_other_places(plan.places)
+            columns["planned"] = plan.places
+        return frame(columns)
+
+    def _repr_html_(self) -> str:
+        # How a notebook shows it.
+        shown_rows = rows_of_ends(len(self), lambda i: (i, self.loads[i], self.bytes[i], self.places[i]))
+        unit = "" if self.unit is None else f", loads in units of {self.unit!r}"
+        caption = f"Run: {len(self):,} elements on {self.procs:,} PEs, step {self.step:,}{unit}"
+        return html_table(("element", "load", "bytes", "PE"), shown_rows, caption)
 
     def moves_to(self, places: ArrayLike) -> NDArray[np.void]:
         """The elements whose present and planned place differ, in order of index, as an array of MOVE."""
@@ -153,6 +202,29 @@ class Run(_Record):
             raise InputError(f"the plan is for {len(places)} elements, and the run has {len(self)}")
 
 
+def taken_run(run: Any) -> Run:
+    """The run, where it is one."""
+    if isinstance(run, Run):
+        return run
+    hint = "read_dump returns `run, decision`" if hasattr(run, "run") else "Run(procs, loads) makes one"
+    raise InputError(f"run: a tezgumi.Run is wanted, and not a {type(run).__name__}; {hint}")
+
+
+def taken_plan(plan: Any) -> Plan:
+    """The plan or the decision, where it is one."""
+    if isinstance(plan, Plan):
+        return plan
+    raise InputError(f"plan: a Plan or a Decision is wanted, and not a {type(plan).__name__}; plan(run) or decide(run) makes one")
+
+
+def taken_decision(decision: Any) -> Decision:
+    """The decision, where it is one."""
+    if isinstance(decision, Decision):
+        return decision
+    told = "a Plan, which has no certificates" if isinstance(decision, Plan) else f"a {type(decision).__name__}"
+    raise InputError(f"decision: a Decision is wanted, and not {told}; decide(run) makes one")
+
+
 def on_no_processor(index: int, place: Any, pes: int) -> InputError:
     """The refusal of an element's place."""
     return InputError(f"element {index} is on no processor: its place is {place!r}, and with {pes} PEs it is 0 to {pes - 1}")
@@ -161,7 +233,8 @@ def on_no_processor(index: int, place: Any, pes: int) -> InputError:
 def _wrong_load(index: int, value: Any) -> InputError:
     if isinstance(value, int) and not isinstance(value, bool) and value > TOTAL_LOAD:
         return LoadError(f"element {index} has too great a load: {value}, and at most {TOTAL_LOAD} is taken")
-    return InputError(f"element {index} has the load {value!r}, and not a whole number from 0 to {TOTAL_LOAD}")
+    hint = "; scale=True counts measured loads" if isinstance(value, float) else ""
+    return InputError(f"element {index} has the load {value!r}, and not a whole number from 0 to {TOTAL_LOAD}{hint}")
 
 
 def _wrong_bytes(index: int, value: Any) -> InputError:
@@ -211,8 +284,8 @@ class Decision(Plan):
     `dataclasses.replace` makes another decision.
     """
 
-    cuts: NDArray[np.uint32]
-    stops: NDArray[np.uint32]
+    cuts: NDArray[np.int64]
+    stops: NDArray[np.int64]
     names: NDArray[np.uint32]
     block_prices: NDArray[np.int64]
     pe_prices: NDArray[np.int64]
@@ -225,8 +298,9 @@ class Decision(Plan):
 
     def __post_init__(self) -> None:
         super().__post_init__()
-        for name in ("cuts", "stops", "names"):
-            self._keep(name, frozen(getattr(self, name), np.uint32, name))
+        for name in ("cuts", "stops"):
+            self._keep(name, ends(getattr(self, name), name))
+        self._keep("names", frozen(self.names, np.uint32, "names"))
         for name in ("block_prices", "pe_prices"):
             self._keep(name, frozen(getattr(self, name), np.int64, name))
         self._keep("moves", _moves(self.moves))
@@ -234,6 +308,20 @@ class Decision(Plan):
     def __repr__(self) -> str:
         lists = ", ".join(f"{name}={shown(getattr(self, name))}" for name in ("cuts", "names", "stops"))
         return f"Decision({self._shown()}, {lists}, {len(self.moves)} moves)"
+
+    def to_frame(self) -> Any:
+        """A DataFrame of pandas with a row for each block: its first element, the one behind its last, its PE and its price. The
+        cuts, names and prices have to be those of `pes` blocks."""
+        counts = len(self.cuts) - 1, len(self.names), len(self.block_prices)
+        if set(counts) != {self.pes}:
+            raise InputError("there are cuts for {} blocks, {} names and {} prices, and {} PEs".format(*counts, self.pes))
+        return frame({"first": self.cuts[:-1], "end": self.cuts[1:], "pe": self.names, "price": self.block_prices})
+
+    def _repr_html_(self) -> str:
+        count = min(len(self.cuts) - 1, len(self.names))
+        shown_rows = rows_of_ends(count, lambda b: (b, self.cuts[b], self.cuts[b + 1], self.names[b]))
+        caption = f"{type(self).__name__}: bottleneck {self.bottleneck:,}, {self.moved:,} bytes and {len(self.moves):,} elements move"
+        return html_table(("block", "first element", "end", "PE"), shown_rows, caption)
 
 
 @dataclass(frozen=True, eq=False, repr=False)
@@ -243,13 +331,13 @@ class _WithinTolerance(Decision):
 
     tolerance: int
     least: int
-    least_cuts: NDArray[np.uint32]
+    least_cuts: NDArray[np.int64]
 
     def __post_init__(self) -> None:
         super().__post_init__()
         self._keep("tolerance", whole_number(self.tolerance, 0, TOLERANCE, "tolerance"))
         self._keep("least", whole_number(self.least, 0, _LONG, "least"))
-        self._keep("least_cuts", frozen(self.least_cuts, np.uint32, "least_cuts"))
+        self._keep("least_cuts", ends(self.least_cuts, "least_cuts"))
 
     @property
     def limit(self) -> int:
@@ -270,7 +358,7 @@ class NearDecision(_WithinTolerance):
     """
 
     order: NDArray[np.uint32]
-    present: NDArray[np.uint32]
+    present: NDArray[np.int64]
     step_starts: NDArray[np.uintp]
     step_places: NDArray[np.uint32]
     step_rises: NDArray[np.uint64]
@@ -285,8 +373,9 @@ class NearDecision(_WithinTolerance):
 
     def __post_init__(self) -> None:
         super().__post_init__()
-        for name in ("order", "present", "step_places"):
+        for name in ("order", "step_places"):
             self._keep(name, frozen(getattr(self, name), np.uint32, name))
+        self._keep("present", ends(self.present, "present"))
         self._keep("step_starts", frozen(self.step_starts, np.uintp, "step_starts"))
         self._keep("step_rises", frozen(self.step_rises, np.uint64, "step_rises"))
         self._keep("keep_order", truth(self.keep_order, "keep_order"))
@@ -343,6 +432,16 @@ class ReorderedDecision(_WithinTolerance):
 
     def __repr__(self) -> str:
         return f"Reordered{super().__repr__()[:-1]}, tolerance={self.tolerance}, least={self.least})"
+
+
+def ends(values: ArrayLike, name: str) -> NDArray[np.int64]:
+    """Cuts or stops, as numbers whose differences may be below 0."""
+    return frozen(values, np.int64, name, most=_WORD, least=0)
+
+
+def words(*numbers: NDArray[np.int64]) -> List[NDArray[np.uint32]]:
+    """Cuts or stops as the library takes them."""
+    return [part.astype(np.uint32) for part in numbers]
 
 
 def _rows(starts: NDArray[np.uintp], places: NDArray[np.uint32], numbers: NDArray[np.uint64]) -> List[List[Tuple[int, int]]]:

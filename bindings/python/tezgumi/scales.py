@@ -3,24 +3,42 @@ from __future__ import annotations
 
 import ctypes
 import math
-from typing import Any, Tuple
+from typing import Any, NamedTuple
 
 import numpy as np
 from numpy.typing import ArrayLike, NDArray
 
-from .errors import InputError, LoadError, TezgumiError
+from .errors import InputError, LoadError
 from .library import library, lists
+from .lists import refuse_no_list, refuse_times, stay_frozen
+from .statuses import hold
 
 _WRONG = {-4: "which is not a number", -5: "which is negative", -6: "which is infinite"}
 
 
-def scaled(loads: ArrayLike, most: int) -> Tuple[NDArray[np.uint64], float]:
-    """The loads counted in a unit that the library chooses, and the unit.
+class Scaled(NamedTuple):
+    """Loads that were measured, as whole numbers of a unit."""
 
-    It is the least power of two in which no count has more than 47 bits, or so many fewer, where there are more than 65,536
+    counts: NDArray[np.uint64]
+    unit: float
+
+    @property
+    def within(self) -> float:
+        """A unit for each load. Each was rounded down by less than one. So the heaviest block of a division of the counts that is
+        least is above that of any other division by no more than this, in what was measured."""
+        return len(self.counts) * self.unit
+
+
+stay_frozen(Scaled)
+
+
+def scaled(loads: ArrayLike, most: int = 2**32 - 1) -> Scaled:
+    """The loads counted in a unit that the library chooses, and the unit: a list or an array of floats or whole numbers from 0 on.
+
+    The unit is the least power of two in which no count has more than 47 bits, or so many fewer, where there are more than 65,536
     loads, that all counts add up to TOTAL_LOAD at most. Each count is rounded down, which is proved; and that no division's
     heaviest block is lighter, in seconds, than that of a least division of the counts by more than as many units as there are
-    elements. No more than `most` loads are taken.
+    elements. No more than `most` loads are taken. What is not a number, below 0 or infinite is refused: InputError.
     """
     values = measured(loads)
     if values.size > most:
@@ -29,10 +47,9 @@ def scaled(loads: ArrayLike, most: int) -> Tuple[NDArray[np.uint64], float]:
     status = library().tezgumi_scale(*lists(values, counts), ctypes.addressof(unit))
     if status in _WRONG:
         raise _first_wrong(values, status)
-    if status != 0:
-        raise TezgumiError(f"the library answered {status}")
+    hold(status)
     counts.setflags(write=False)
-    return counts, unit.value
+    return Scaled(counts, unit.value)
 
 
 def in_units(loads: ArrayLike, unit: float, most: int) -> NDArray[np.uint64]:
@@ -63,16 +80,14 @@ def unit_of(value: Any) -> float:
     return unit
 
 
-def are_floats(loads: Any) -> bool:
-    """Whether numpy reads these numbers as floats."""
-    try:
-        return np.asarray(loads).dtype.kind == "f"
-    except (ValueError, OverflowError):
-        return False
-
-
 def measured(loads: ArrayLike) -> NDArray[np.float64]:
     """The numbers as doubles."""
+    refuse_no_list(loads, "loads")
+    try:
+        array = np.asarray(loads)
+    except (ValueError, OverflowError) as error:
+        raise InputError(f"loads: a list of numbers is wanted ({error})") from None
+    refuse_times(array, "loads")
     try:
         values = np.ascontiguousarray(loads, dtype=np.float64)
     except (TypeError, ValueError, OverflowError) as error:
@@ -90,4 +105,4 @@ def _is_wrong(values: NDArray[np.float64], status: int) -> NDArray[np.bool_]:
 
 def _first_wrong(values: NDArray[np.float64], status: int) -> InputError:
     index = int(np.argmax(_is_wrong(values, status)))
-    return InputError(f"element {index} has the load {values[index]!s}, {_WRONG[status]}")
+    return InputError(f"element {index} has the load {values[index]!s}, {_WRONG[status]}; scale counts finite loads from 0 on")

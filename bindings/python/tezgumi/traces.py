@@ -7,14 +7,13 @@ their process and thread; instants (i, I); flows (s, t, f), each of which makes 
 from __future__ import annotations
 
 import json
-import os
 from collections import defaultdict
 from typing import Any, Dict, List, Sequence, Tuple, Union
 
 from .columns import block
 from .errors import TraceError
+from .files import Path, read_bytes
 
-_Path = Union[str, "os.PathLike[str]"]
 _Event = Dict[str, Any]
 _Row = Tuple[Any, Any]
 
@@ -22,11 +21,10 @@ MOST_EVENTS = 200_000
 """So many events of a trace are shown at most: the earliest ones."""
 
 
-def read_trace(path: _Path) -> List[_Event]:
-    """The events of a trace, as they stand in the file. TraceError tells what is wrong with it."""
+def read_trace(path: Path) -> List[_Event]:
+    """The events of a trace, as they stand in the file; `-` is the standard input. TraceError tells what is wrong with it."""
     try:
-        with open(path, encoding="utf-8") as file:
-            read = json.load(file)
+        read = json.loads(read_bytes(path).decode("utf-8"))
     except OSError as error:
         raise TraceError(f"read failed ({error})") from None
     except (ValueError, RecursionError) as error:

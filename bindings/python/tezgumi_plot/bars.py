@@ -18,7 +18,7 @@ def draw_bars(axes, run, decision, palette):
     pes = max(run.procs, decision.pes)
     before = tezgumi.pe_loads(run, run.places, pes).astype(float)
     after = tezgumi.pe_loads(run, decision.places, pes).astype(float)
-    unit = axes.figure.scale
+    unit = axes.sheet.scale
     if pes > MANY:
         _draw_groups(axes, before, after, palette)
     elif pes <= PAIRS:
@@ -32,7 +32,7 @@ def draw_bars(axes, run, decision, palette):
     axes.set_ylim(0, top)
     number_axis(axes.yaxis, top)
     _number_pes(axes, pes)
-    axes.set_ylabel("load of a PE", fontsize=axes.figure.text_size, color=INK)
+    axes.set_ylabel("load of a PE", fontsize=axes.sheet.text_size, color=INK)
 
 
 def of_each(pes):
@@ -52,7 +52,7 @@ def _draw_groups(axes, before, after, palette):
 
 def draw_limits(axes, decision, average):
     """The greatest load after as a line, and the average as a broken one, each with its name at the right."""
-    unit, size = axes.figure.scale, axes.figure.text_size * 0.85
+    unit, size = axes.sheet.scale, axes.sheet.text_size * 0.85
     top = axes.get_ylim()[1]
     heights = [decision.bottleneck, average]
     axes.axhline(heights[0], color=INK, linewidth=1.0 * unit)
@@ -68,7 +68,7 @@ def draw_limits(axes, decision, average):
 
 
 def _draw_after(axes, loads, palette, shift, width):
-    unit = axes.figure.scale
+    unit = axes.sheet.scale
     for pe, load in enumerate(loads):
         axes.bar(
             pe + shift, load, width, color=palette.color(pe), edgecolor=palette.pattern_ink(pe), linewidth=0,
@@ -78,6 +78,6 @@ def _draw_after(axes, loads, palette, shift, width):
 
 
 def _number_pes(axes, pes):
-    size = axes.figure.text_size * 0.9
+    size = axes.sheet.text_size * 0.9
     room = points_wide(axes) / text_width(f"{pes}" + "  ", size)
     count_axis(axes.xaxis, pes, min(room, PAIRS))

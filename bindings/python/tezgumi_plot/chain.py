@@ -30,7 +30,7 @@ def draw_loads(axes, run, decision, palette):
     axes.set_ylim(0, top)
     _chain_limits(axes, run)
     number_axis(axes.yaxis, top)
-    axes.set_ylabel("load of an element", fontsize=axes.figure.text_size, color=INK)
+    axes.set_ylabel("load of an element", fontsize=axes.sheet.text_size, color=INK)
     axes.tick_params(bottom=False, labelbottom=False)
     return width
 
@@ -63,7 +63,7 @@ def draw_boxes(axes, edges, tops, colors):
 
 def draw_steps(axes, edges, tops, width):
     """A line along the tops."""
-    axes.plot(np.repeat(edges, 2)[1:-1], np.repeat(tops, 2), color=INK, linewidth=width * axes.figure.scale)
+    axes.plot(np.repeat(edges, 2)[1:-1], np.repeat(tops, 2), color=INK, linewidth=width * axes.sheet.scale)
 
 
 def _outline(axes, run, steps):
@@ -72,7 +72,7 @@ def _outline(axes, run, steps):
         return
     starts, tops = (np.concatenate(part) for part in zip(*steps))
     edges = np.append(starts, len(run) - 0.5)
-    line = {"color": INK, "linewidth": 0.5 * axes.figure.scale}
+    line = {"color": INK, "linewidth": 0.5 * axes.sheet.scale}
     axes.stairs(tops, edges, baseline=None, **line)
     if len(run) <= MARKS:
         lower = np.minimum(run.loads[1:], run.loads[:-1]).astype(float)
@@ -88,7 +88,7 @@ def marked_cuts(run, decision):
 def draw_cuts(axes, run, decision):
     """A mark above each cut between two blocks, and a line down through the loads where there are few."""
     places = marked_cuts(run, decision) - 0.5
-    unit = axes.figure.scale
+    unit = axes.sheet.scale
     above = axes.get_xaxis_transform()
     if len(places) <= MARKS:
         axes.vlines(places, 0, 1, transform=above, color=QUIET, linewidth=0.6 * unit, zorder=0.5)
@@ -119,7 +119,7 @@ def draw_fence(axes, run, decision):
     _chain_limits(axes, run)
     axes.set_ylim(0, 1)
     stops = np.unique(decision.stops).astype(float)
-    unit = axes.figure.scale
+    unit = axes.sheet.scale
     if len(stops) > MARKS:
         axes.vlines(thinned(stops), 0.25, 0.95, color=INK, linewidth=0.5 * unit)
         return
@@ -154,26 +154,26 @@ def draw_moves(axes, run, decision):
         axes.stairs(parts, edges, fill=True, color=INK, linewidth=0)
         if isinstance(decision, tezgumi.NearDecision):
             axes.stairs(np.ones(len(parts)), edges, baseline=parts, fill=True, color=KEPT, linewidth=0)
-    axes.axhline(0, color=FAINT, linewidth=0.8 * axes.figure.scale)
+    axes.axhline(0, color=FAINT, linewidth=0.8 * axes.sheet.scale)
     _label_row(axes, "moves")
 
 
 def number_elements(axes, run):
     """Numbers of elements below a strip, as many as there is room for."""
-    size = axes.figure.text_size * 0.9
+    size = axes.sheet.text_size * 0.9
     axes.set_axis_on()
     for spine in axes.spines.values():
         spine.set_visible(False)
     axes.tick_params(left=False, labelleft=False)
     room = points_wide(axes) / text_width(f"{len(run):,}" + "  ", size)
     count_axis(axes.xaxis, len(run), min(room, 24))
-    axes.set_xlabel("element, in order", fontsize=axes.figure.text_size, color=INK)
+    axes.set_xlabel("element, in order", fontsize=axes.sheet.text_size, color=INK)
 
 
 def _draw_marks(axes, places, height, shape, **how):
-    size = 8 * axes.figure.scale
+    size = 8 * axes.sheet.scale
     heights = np.full(len(places), height)
-    width = axes.figure.scale if how.get("markerfacecolor") == "none" else 0
+    width = axes.sheet.scale if how.get("markerfacecolor") == "none" else 0
     axes.plot(places, heights, shape, color=INK, markersize=size, markeredgewidth=width, clip_on=False, **how)
 
 
@@ -221,7 +221,7 @@ def _draw_stretches(axes, edges, pes, palette):
     # White between the stretches, thinner between narrow ones, so that it hides none of them.
     lines = np.minimum(0.8, 0.2 * np.minimum(widths[1:], widths[:-1]))
     axes.vlines(edges[1:-1], 0, 1, colors="white", linewidths=lines)
-    size = axes.figure.text_size * 0.85
+    size = axes.sheet.text_size * 0.85
     for a, b, width, pe in zip(edges, edges[1:], widths, pes):
         if width > text_width(f"{pe} ", size):
             _write_number(axes, (a + b) / 2, pe, palette, size)
@@ -236,5 +236,5 @@ def _write_number(axes, x, pe, palette, size):
 
 
 def _label_row(axes, label):
-    size = axes.figure.text_size * 0.9
+    size = axes.sheet.text_size * 0.9
     axes.text(-0.008, 0.5, label, transform=axes.transAxes, ha="right", va="center", fontsize=size, color=QUIET)

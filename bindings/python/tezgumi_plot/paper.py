@@ -6,6 +6,7 @@ import os
 from typing import Union
 
 import matplotlib
+from matplotlib.axes import Axes
 from matplotlib.backends.backend_agg import FigureCanvasAgg
 from matplotlib.figure import Figure
 from matplotlib.ticker import FixedLocator, FuncFormatter, MaxNLocator
@@ -18,21 +19,17 @@ MEDIA = {"screen": (12.0, 110, 11.0), "print": (7.0, 300, 7.0)}
 """Of each medium the width in inches, the dots of an inch, and the size of text in points."""
 
 
-class Sheet(Figure):
-    """A figure that a notebook shows by itself. Lengths are told in twelfths of its width, from its top and left."""
+def sheet_of(medium, height, ax):
+    """What a picture is drawn on: a figure of its own, or these axes of the caller's figure, if there are some."""
+    return Sheet(medium, height) if ax is None else Inset(medium, height, ax)
 
-    def __init__(self, medium, height):
-        if medium not in MEDIA:
-            raise InputError(f"medium is {medium!r}, and there are {', '.join(MEDIA)}")
-        width, dots, self.text_size = MEDIA[medium]
-        self.scale = width / 12
-        self.twelfths = height
-        super().__init__(figsize=(width, height * self.scale), dpi=dots, facecolor="white")
-        FigureCanvasAgg(self)
 
-    def panel(self, left, top, width, height):
-        """Axes at this place, with the frame that all pictures have."""
-        axes = self.add_axes((left / 12, 1 - (top + height) / self.twelfths, width / 12, height / self.twelfths))
+class _Paper:
+    """What pictures are drawn on. Lengths are told in twelfths of its width, from its top and left. Axes have it as `sheet`."""
+
+    def on(self, axes):
+        """These axes, with the frame that all pictures have."""
+        axes.sheet = self
         for side in ("top", "right"):
             axes.spines[side].set_visible(False)
         axes.tick_params(labelsize=self.text_size * 0.9, colors=QUIET, length=3 * self.scale, width=0.8 * self.scale)
@@ -40,6 +37,11 @@ class Sheet(Figure):
             spine.set_color(QUIET)
             spine.set_linewidth(0.8 * self.scale)
         return axes
+
+    def panel(self, left, top, width, height):
+        """Axes at this place."""
+        across, down = self.lengths(width, height)
+        return self.on(self.owner.add_axes((*self.point(left, top + height), across, down)))
 
     def bare(self, left, top, width, height):
         """Axes without a frame or ticks."""
@@ -50,7 +52,31 @@ class Sheet(Figure):
     def write(self, left, top, text, size=1.0, **how):
         """Text whose upper left corner is here. It is shown as it is, also where it has a $ in it."""
         how = {"color": INK, "va": "top", "ha": "left", "parse_math": False, **how}
-        return self.text(left / 12, 1 - top / self.twelfths, text, fontsize=self.text_size * size, **how)
+        return self.owner.text(*self.point(left, top), text, fontsize=self.text_size * size, **how)
+
+
+class Sheet(_Paper, Figure):
+    """A figure that a notebook shows by itself."""
+
+    def __init__(self, medium, height):
+        width, dots, self.text_size = _look(medium)
+        self.scale = width / 12
+        self.twelfths = height
+        super().__init__(figsize=(width, height * self.scale), dpi=dots, facecolor="white")
+        FigureCanvasAgg(self)
+
+    @property
+    def owner(self):
+        """The figure that has the axes and texts."""
+        return self
+
+    def point(self, left, top):
+        """A place in fractions of the figure, from its bottom and left."""
+        return left / 12, 1 - top / self.twelfths
+
+    def lengths(self, width, height):
+        """A width and a height in fractions of the figure."""
+        return width / 12, height / self.twelfths
 
     def draw(self, renderer):
         with matplotlib.rc_context({"hatch.linewidth": self.scale}):
@@ -62,6 +88,33 @@ class Sheet(Figure):
         return data.getvalue()
 
 
+class Inset(_Paper):
+    """The room of axes in the caller's figure, which are shown no more. A picture fills it, however wide and high it is."""
+
+    def __init__(self, medium, height, ax):
+        width, _, size = _look(medium)
+        if not isinstance(ax, Axes):
+            raise InputError(f"ax: axes of matplotlib are wanted, and not a {type(ax).__name__}")
+        self.owner, self.box, self.twelfths = ax.figure, ax.get_position(), height
+        ax.set_axis_off()
+        wide = points_wide(ax) / 72
+        self.scale, self.text_size = wide / 12, size * wide / width
+
+    def point(self, left, top):
+        """A place in fractions of the figure, from its bottom and left."""
+        return self.box.x0 + self.box.width * left / 12, self.box.y1 - self.box.height * top / self.twelfths
+
+    def lengths(self, width, height):
+        """A width and a height in fractions of the figure."""
+        return self.box.width * width / 12, self.box.height * height / self.twelfths
+
+
+def _look(medium):
+    if medium not in MEDIA:
+        raise InputError(f"medium is {medium!r}, and there are {', '.join(MEDIA)}")
+    return MEDIA[medium]
+
+
 def save(picture: Figure, path: Union[str, "os.PathLike[str]"]) -> None:
     """Writes a picture into a file, by the end of its name: .png, .pdf or .svg."""
     if not str(path).lower().endswith((".png", ".pdf", ".svg")):
@@ -71,12 +124,12 @@ def save(picture: Figure, path: Union[str, "os.PathLike[str]"]) -> None:
 
 def points_wide(axes):
     """The width of axes in points, of which a digit takes about 0.6 of the size of its text."""
-    return axes.get_position().width * axes.figure.get_figwidth() * 72
+    return axes.bbox.width * 72 / axes.figure.dpi
 
 
 def points_high(axes):
     """The height of axes in points."""
-    return axes.get_position().height * axes.figure.get_figheight() * 72
+    return axes.bbox.height * 72 / axes.figure.dpi
 
 
 def text_width(text, size):

@@ -4,16 +4,18 @@ from __future__ import annotations
 from typing import Iterable
 
 import numpy as np
+from matplotlib.axes import Axes
 from matplotlib.figure import Figure
 from matplotlib.ticker import FixedLocator, FuncFormatter, NullLocator, ScalarFormatter
 
 import tezgumi
+from tezgumi.figures import imbalance
 
 from .bars import PAIRS, draw_bars, draw_limits, of_each
 from .chain import DENSE, MARKS, draw_cuts, draw_fence, draw_loads, draw_moves, draw_places, draw_present, every, marked_cuts
 from .chain import number_elements
 from .palette import COLORS, INK, MANY, QUIET, Palette
-from .paper import Sheet, few_letters, points_wide, text_width
+from .paper import few_letters, points_wide, sheet_of, text_width
 
 LEFT, WIDTH, NOTES = 0.95, 10.75, 8.75
 _ENDINGS = {2: "nd", 3: "rd"}
@@ -21,24 +23,25 @@ _ENDINGS = {2: "nd", 3: "rd"}
 
 def decision(
         run: tezgumi.Run, made: tezgumi.Decision, title: str | None = None, checked: tezgumi.Verdict | bool | None = None,
-        medium: str = "screen") -> Figure:
+        medium: str = "screen", ax: Axes | None = None) -> Figure:
     """A picture of a decision on a run: the chain with its cuts and its fence, and the load of each PE before and after.
 
     Of a decision within a tolerance the present cuts are shown too, and the elements that are kept where they are.
 
     `checked` is what `tezgumi.check` said of the decision, or None where it was not asked. The medium is "screen" or
-    "print". The picture is a matplotlib Figure, which a notebook shows. A decision that is not right is drawn too, unless its
+    "print". The picture is a matplotlib Figure, which a notebook shows; with `ax` it fills the room of these axes, and is their figure.
+    A decision that is not right is drawn too, unless its
     cuts divide other elements, or its stops or places are none: InputError.
     """
     _refuse_undrawable(run, made)
-    sheet = Sheet(medium, 8.3)
+    sheet = sheet_of(medium, 8.3, ax)
     figures = tezgumi.figures(run, made)
     palette = _palette(run, made, sheet.scale)
     sheet.write(LEFT, 0.18, title or f"{len(run):,} elements", size=1.35, weight="bold")
     _draw_chain(sheet, run, made, palette)
     _draw_loads_of_pes(sheet, run, made, palette, figures)
     _write_figures(sheet, made, figures, checked)
-    return sheet
+    return sheet.owner
 
 
 def _palette(run, made, scale):
@@ -50,7 +53,7 @@ def _palette(run, made, scale):
 
 def _refuse_undrawable(run, made):
     run.refuse_other_places(made.places)
-    cuts = made.cuts.astype(np.int64)
+    cuts = made.cuts
     if len(cuts) != made.pes + 1 or cuts[0] != 0 or cuts[-1] != len(run) or (np.diff(cuts) < 0).any():
         raise tezgumi.InputError(f"the cuts do not divide {len(run)} elements into {made.pes} blocks")
     if len(made.names) != made.pes or (made.names >= made.pes).any():
@@ -123,7 +126,9 @@ def _draw_loads_of_pes(sheet, run, made, palette, figures):
 
 def _write_figures(sheet, made, figures, checked):
     rows = [
-        ("imbalance", f"{figures.imbalance_before:.3f} → {figures.imbalance_after:.3f}"),
+        ("imbalance", " → ".join((
+            imbalance(figures.greatest_before, figures.procs, figures.total_load),
+            imbalance(figures.greatest_after, figures.pes, figures.total_load)))),
         ("greatest load", f"{few_letters(figures.greatest_before)} → {few_letters(figures.greatest_after)}"),
         ("average load", few_letters(figures.average_after)),
         ("PEs", f"{figures.procs} → {figures.pes}" if figures.procs != figures.pes else f"{figures.pes}"),
@@ -143,12 +148,14 @@ def _write_figures(sheet, made, figures, checked):
         sheet.write(NOTES, 5.8 + 0.29 * len(rows) + 0.06, text, weight="bold")
 
 
-def sweep(swept: Iterable[tezgumi.Figures], title: str | None = None, medium: str = "screen") -> Figure:
-    """A picture of the figures for several numbers of PEs: the greatest load, the imbalance, and the bytes that move."""
+def sweep(
+        swept: Iterable[tezgumi.Figures], title: str | None = None, medium: str = "screen", ax: Axes | None = None) -> Figure:
+    """A picture of the figures for several numbers of PEs: the greatest load, the imbalance, and the bytes that move. With `ax` it
+    fills the room of these axes, and is their figure."""
     swept = sorted(swept, key=lambda row: row.pes)
     if not swept:
         raise tezgumi.InputError("the sweep has no figures")
-    sheet = Sheet(medium, 5.0)
+    sheet = sheet_of(medium, 5.0, ax)
     sheet.write(LEFT, 0.18, title or f"{swept[0].elements:,} elements", size=1.35, weight="bold")
     panels = [sheet.panel(LEFT + 3.85 * i, 1.0, 2.95, 3.2) for i in range(3)]
     for axes in panels:
@@ -156,7 +163,7 @@ def sweep(swept: Iterable[tezgumi.Figures], title: str | None = None, medium: st
     _sweep_loads(panels[0], swept)
     _sweep_imbalance(panels[1], swept)
     _sweep_moves(panels[2], swept)
-    return sheet
+    return sheet.owner
 
 
 def _sweep_loads(axes, swept):
@@ -171,12 +178,12 @@ def _sweep_loads(axes, swept):
         axes.set_yscale("log")
     axes.yaxis.set_major_formatter(FuncFormatter(lambda number, _: few_letters(number)))
     axes.yaxis.set_minor_formatter(FuncFormatter(lambda *_: ""))
-    axes.legend(fontsize=axes.figure.text_size * 0.85, frameon=False, loc="best", handlelength=2.6)
+    axes.legend(fontsize=axes.sheet.text_size * 0.85, frameon=False, loc="best", handlelength=2.6)
     _head(axes, "load")
 
 
 def _sweep_imbalance(axes, swept):
-    unit = axes.figure.scale
+    unit = axes.sheet.scale
     _draw_line(axes, swept, [row.imbalance_after for row in swept], "s-", COLORS[5])
     axes.axhline(1, color=INK, linewidth=0.8 * unit, linestyle=(0, (4, 3)))
     most = max(row.imbalance_after for row in swept)
@@ -194,7 +201,7 @@ def _sweep_moves(axes, swept):
 
 
 def _draw_line(axes, swept, values, shape, color, **how):
-    unit = axes.figure.scale
+    unit = axes.sheet.scale
     counts = [row.pes for row in swept]
     marked = _apart(axes, counts, lambda *_: 9 * unit)
     axes.plot(
@@ -203,8 +210,8 @@ def _draw_line(axes, swept, values, shape, color, **how):
 
 
 def _head(axes, text):
-    axes.set_title(text, fontsize=axes.figure.text_size, color=INK, loc="left")
-    axes.grid(axis="y", color="#e6e6e6", linewidth=0.6 * axes.figure.scale)
+    axes.set_title(text, fontsize=axes.sheet.text_size, color=INK, loc="left")
+    axes.grid(axis="y", color="#e6e6e6", linewidth=0.6 * axes.sheet.scale)
     axes.set_axisbelow(True)
 
 
@@ -215,11 +222,11 @@ def _number_counts(axes, counts):
     low, high = np.log2(min(counts)), np.log2(max(counts))
     margin = max(0.05 * (high - low), 0.25)
     axes.set_xlim(2 ** (low - margin), 2 ** (high + margin))
-    size = axes.figure.text_size * 0.9
+    size = axes.sheet.text_size * 0.9
     numbered = _apart(axes, counts, lambda one, other: text_width(f"{one}{other}", size) / 2 + 4)
     axes.xaxis.set_major_locator(FixedLocator(sorted(numbered)))
     axes.xaxis.set_major_formatter(FuncFormatter(lambda number, _: f"{number:.0f}"))
-    axes.set_xlabel("PEs", fontsize=axes.figure.text_size, color=INK)
+    axes.set_xlabel("PEs", fontsize=axes.sheet.text_size, color=INK)
 
 
 def _apart(axes, counts, room):

@@ -4,6 +4,7 @@ from __future__ import annotations
 import os
 
 import numpy as np
+from matplotlib.axes import Axes
 from matplotlib.collections import LineCollection, PolyCollection
 from matplotlib.colors import to_rgb
 from matplotlib.figure import Figure
@@ -13,7 +14,7 @@ import tezgumi
 from tezgumi.traces import Timeline, read_trace, row_names, timeline_of
 
 from .palette import COLORS, FAINT, INK, PATTERNS, QUIET, Palette
-from .paper import Sheet, count_axis, few_letters, number_axis, points_high, points_wide, text_width
+from .paper import sheet_of, count_axis, few_letters, number_axis, points_high, points_wide, text_width
 
 LEFT, WIDTH = 1.1, 10.6
 PLAIN = {"parse_math": False}
@@ -30,19 +31,20 @@ LINES = 64
 
 def timeline(
         trace: str | os.PathLike[str] | Timeline, title: str | None = None, medium: str = "screen",
-        unit: str = "microseconds") -> Figure:
+        unit: str = "microseconds", ax: Axes | None = None) -> Figure:
     """A picture of a trace, a file in the Trace Event Format: the handlers of each PE in the colors of their elements, an arrow
     for each letter that goes to another PE and for each element that moves, and a line for each decision.
 
     The unit is what the times of the trace are: those of a run by a seed are numbers of events. A file that is no trace, or that
-    has no handler, is refused: TraceError. The medium is "screen" or "print".
+    has no handler, is refused: TraceError. The medium is "screen" or "print". With `ax` the picture fills the room of these
+    axes, and is their figure.
     """
     told = trace if isinstance(trace, Timeline) else timeline_of(read_trace(trace))
     if not told.slices:
         raise tezgumi.TraceError("there is no handler: no event is complete, X, or has a beginning and an end, B and E")
     shown = Shown(told)
     height = min(max(0.45 * len(shown.rows), 1.2), 7.5)
-    sheet = Sheet(medium, 2.05 + height + 0.3 * _legend_rows(shown))
+    sheet = sheet_of(medium, 2.05 + height + 0.3 * _legend_rows(shown), ax)
     sheet.write(LEFT, 0.18, title or _counted(len(shown.rows), "PE"), size=1.35, weight="bold")
     sheet.write(LEFT, 0.58, shown.text(), color=QUIET, size=0.9)
     axes = sheet.panel(LEFT, 1.2, WIDTH, height)
@@ -52,7 +54,7 @@ def timeline(
     _draw_arrows(axes, shown.letters, 0.7, "letters")
     _draw_arrows(axes, shown.moves, 1.8, "elements")
     _write_legend(sheet, shown, 1.9 + height)
-    return sheet
+    return sheet.owner
 
 
 class Shown:
@@ -101,7 +103,7 @@ def _by_number(key):
 
 
 def _lay_out(axes, shown, unit):
-    size = axes.figure.text_size
+    size = axes.sheet.text_size
     axes.set_xlim(-0.005 * shown.last, 1.005 * shown.last)
     axes.set_ylim(len(shown.rows) - 0.4, -0.6)
     number_axis(axes.xaxis, shown.last)
@@ -130,19 +132,19 @@ def _draw_handlers(axes, shown, palette):
     end = np.maximum(shown.end, shown.begin + 0.8 * across)
     points = (end - shown.begin) / across
     colors = np.array([*(palette.color(kind) for kind in range(len(shown.kinds))), to_rgb(FAINT)])
-    for pattern, ink, chosen in _groups(shown, palette, points > 6 * axes.figure.scale):
+    for pattern, ink, chosen in _groups(shown, palette, points > 6 * axes.sheet.scale):
         x, y, right = shown.begin[chosen], shown.row[chosen], end[chosen]
         boxes = np.stack([x, y - half, x, y + half, right, y + half, right, y - half], axis=1).reshape(-1, 4, 2)
         axes.add_collection(PolyCollection(
             boxes, facecolors=colors[shown.kind[chosen]], edgecolors=ink, hatch=pattern or None, gid="handlers",
-            linewidths=np.minimum(0.6 * axes.figure.scale, 0.1 * points[chosen])), autolim=False)
-    if shown.by_element and 2 * half / down > 1.2 * 0.85 * axes.figure.text_size:
+            linewidths=np.minimum(0.6 * axes.sheet.scale, 0.1 * points[chosen])), autolim=False)
+    if shown.by_element and 2 * half / down > 1.2 * 0.85 * axes.sheet.text_size:
         _write_keys(axes, shown, end, palette)
 
 
 def _write_keys(axes, shown, end, palette):
     """The element of each handler that has room for it, and whose middle is not below a number already."""
-    size, across = axes.figure.text_size * 0.85, _point(axes)[0]
+    size, across = axes.sheet.text_size * 0.85, _point(axes)[0]
     room, ends = (end - shown.begin) / across, np.full(len(shown.rows), -np.inf)
     for k in np.argsort(shown.begin, kind="stable"):
         key, row, middle = shown.kinds[shown.kind[k]], shown.row[k], (shown.begin[k] + end[k]) / 2
@@ -175,7 +177,7 @@ def _draw_arrows(axes, arrows, width, name):
     """Arrows from one row to another: from the lower or the upper edge of a bar to the nearer edge of the other."""
     if not len(arrows):
         return
-    half, unit = _half(axes), axes.figure.scale
+    half, unit = _half(axes), axes.sheet.scale
     below = np.where(arrows[:, 3] > arrows[:, 2], half, -half)
     tails = np.column_stack([arrows[:, 0], arrows[:, 2] + below])
     tips = np.column_stack([arrows[:, 1], arrows[:, 3] - below])
@@ -203,7 +205,7 @@ def _heads(tails, tips, point, long):
 
 def _draw_decisions(axes, shown):
     """A line through all rows for each decision, and its round above it, where there is room."""
-    unit, size = axes.figure.scale, axes.figure.text_size * 0.85
+    unit, size = axes.sheet.scale, axes.sheet.text_size * 0.85
     times = [at for at, _ in shown.decisions]
     if not times:
         return

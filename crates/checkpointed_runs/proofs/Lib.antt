@@ -3,5 +3,4 @@ pub mod Kept
 pub mod Lefts
 pub mod Places
 pub mod Readings
-pub mod Replacing
 pub mod RoundLines

@@ -24,5 +24,5 @@ Replaces name bytes old now (Err _) = AsksFor old now (Made name ∷ [])
 
 -- A checkpoint was written to a new file, which took the name. Where it was not, perhaps nothing was asked for, since memory was refused.
 abbrev pub Keeps : {E : Type 0} → List ℕ → CheckpointView → Option (List FileRequest) → Option (List FileRequest) → Result ⊤ E → Type 0
-Keeps name c old now (Ok _) = Replaces {E = E} name (checkpoint_text c) old now (Ok tt)
+Keeps {E} name c old now (Ok _) = Replaces {E = E} name (checkpoint_text c) old now (Ok tt)
 Keeps name c old now (Err e) = (now ≡ old) ⊎ Replaces name (checkpoint_text c) old now (Err e)

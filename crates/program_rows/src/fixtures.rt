@@ -8,7 +8,6 @@ use std::io::{Read, Write};
 use std::process::Abort;
 use std::sync::Wait;
 use std::thread::Threads;
-use sync_board::Strategy;
 use workload_run::{Driven, RunEnd, drive};
 
 /// The worked workload.
@@ -38,7 +37,7 @@ pub(crate) fn drive_from<
     W: Write,
     A: Allocator + Copy + Send + Sync,
 >(rt: &T, alloc: A, reader: &mut R, writer: &mut W) -> Driven<A> {
-    drive(rt, alloc, reader, writer, TURNS, Strategy::Least)
+    drive(rt, alloc, reader, writer, TURNS)
 }
 
 /// The result of a workload, and what was written.

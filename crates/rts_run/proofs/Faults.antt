@@ -6,9 +6,12 @@ use Rattle.chares.specs.Elements.{Refuses}
 use Rattle.chares.specs.Steps.{Step}
 use Rattle.pe_worker.specs.Causes.{HasCause}
 use Rattle.pe_worker.specs.declared.fault.Fault.{Fault}
-use Rattle.pe_worker.specs.declared.fault.Fault.TheVariants.{Mismatch, Unpack}
+use Rattle.pe_worker.specs.declared.fault.Fault.TheVariants.{Mismatch, Quiet, Unpack}
 use Rattle.pe_worker.proofs.Causes.{caused_unpacks, caused_agrees}
-use Rattle.rts_run.specs.Outcomes.{first_fault}
+use Rattle.rts_run.specs.declared.options.Idle.{Idle}
+use Rattle.rts_run.specs.declared.options.Idle.TheVariants.{Turns}
+use Rattle.rts_run.specs.declared.options.Idle.TheVariants as Idle
+use Rattle.rts_run.specs.Outcomes.{EndsIdle, OutcomeView, first_fault}
 
 -- one more is gathered
 pub next_fault : (fault met new : Option Fault) (others left : List (Option Fault)) (whole : Option Fault) → others ≡ met ∷ left
@@ -35,3 +38,8 @@ module _ {C : Type 0} (step : Step C) (fits : C → Type 0) (pack : C → List �
   pub no_mismatch : (o : Option Fault) → IfSome o (HasCause step pack refuses opened) → o ≢ Some Mismatch
   no_mismatch None h k = cc
   no_mismatch (Some fault) h k = let same : fault ≡ Mismatch = cc in caused_agrees step fits pack refuses opened fault h same
+
+-- where nothing is said of what was left to do, unless workers look for that, a run ends as its options ask
+pub ends_idle : {C A : Type 0} (idle : Idle) (o : OutcomeView C A) → (o.fault ≡ Some Quiet → idle ≡ Idle.Quiet) → EndsIdle idle o
+ends_idle Turns o asked = λ is. absurd (let other : Turns ≡ Idle.Quiet = asked is in cc)
+ends_idle Idle.Quiet o asked = tt

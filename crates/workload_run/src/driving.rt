@@ -91,7 +91,7 @@ pub fn drive_by<T: Threads + Wait + Sync, R: Read, W: Write, A: Allocator + Copy
     )
 }
 
-/// Drives a workload as [`drive_by`] does, with the calls of the reader and those of the writer in logs. Where the end is that the
+/// Runs a workload as [`drive_by`] does, with the calls of the reader and those of the writer in logs. Where the end is that the
 /// workload was not read, the log of the reader has an error, or 134,217,728 calls; where it is that the writer failed, the log of the
 /// writer has an error, or that nothing was taken.
 pub fn drive_logged<T: Threads + Wait + Sync, R: Read, W: Write, A: Allocator + Copy + Send + Sync>(

@@ -40,6 +40,7 @@ public:
     account letters; // of all PEs
     std::vector<round_report> rounds; // under MPI, on rank 0 alone
     std::map<std::uint32_t, std::unique_ptr<C>> elements; // under MPI, those of this rank
+    bool past_limit = false; // whether the run has had as many rounds as elements may move in, and none moved after these
 
     bool is_good() const { return met.kind == fault_kind::none; }
     // 0, or what a program of this project exits with after such a fault.
@@ -49,23 +50,40 @@ public:
         return met.kind == fault_kind::dump ? 5 : 4;
     }
 
-    // What a function makes of each element, in the order of the indices.
+    // What a function makes of each element, in the order of the indices. After a fault some elements may be missing: collect_by_index says
+    // which are there.
     template <class F> auto collect(F &&of) const -> std::vector<typename std::decay<decltype(of(std::declval<const C &>()))>::type>
     {
         std::vector<typename std::decay<decltype(of(std::declval<const C &>()))>::type> all;
         for (const auto &one : elements) all.push_back(of(*one.second));
         return all;
     }
+    // The same, each with the index of its element.
+    template <class F>
+    auto collect_by_index(F &&of) const -> std::map<std::uint32_t, typename std::decay<decltype(of(std::declval<const C &>()))>::type>
+    {
+        std::map<std::uint32_t, typename std::decay<decltype(of(std::declval<const C &>()))>::type> all;
+        for (const auto &one : elements) all.emplace(one.first, of(*one.second));
+        return all;
+    }
 };
 
 namespace detail {
+
+inline constexpr std::size_t most_batch = std::size_t(1) << 30;
+inline constexpr std::uint32_t most_window = std::uint32_t(1) << 20;
+inline constexpr std::uint64_t most_backlog = std::uint64_t(1) << 40;
 
 // What the settings may not be. The same on all PEs.
 inline void must_fit(const settings &how, std::uint32_t pes, std::uint32_t n)
 {
     if (pes < 1 || pes > TEZGUMI_PE_PES) throw std::invalid_argument("there are 1 to " + std::to_string(TEZGUMI_PE_PES) + " PEs");
     if (n > TEZGUMI_PE_ELEMENTS) throw std::invalid_argument("there are at most " + std::to_string(TEZGUMI_PE_ELEMENTS) + " elements");
+    if (!how.within && how.tolerance != 0) throw std::invalid_argument("a tolerance is for rounds that are decided within it: set within");
     if (how.within && how.tolerance > TEZGUMI_BOARD_TOLERANCE) throw std::invalid_argument("a tolerance is at most 1000 thousandths");
+    if (how.batch < 1 || how.batch > most_batch) throw std::invalid_argument("a batch has 1 to 2^30 bytes");
+    if (how.window < 1 || how.window > most_window) throw std::invalid_argument("a window is 1 to 2^20 batches");
+    if (how.backlog > most_backlog) throw std::invalid_argument("a backlog is at most 2^40 bytes");
 }
 
 // Where the letters are not all there, that is a fault of its own.
@@ -127,6 +145,7 @@ private:
         }
         end.met = field_.met();
         end.rounds = std::move(field_.rounds());
+        end.past_limit = !end.rounds.empty() && end.rounds.back().past_limit;
         must_balance(end);
         return end;
     }

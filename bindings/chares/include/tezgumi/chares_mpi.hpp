@@ -30,6 +30,8 @@ namespace mpi {
 
 namespace detail {
 
+using tezgumi::detail::batch;
+using tezgumi::detail::beside;
 using tezgumi::detail::board;
 using tezgumi::detail::decision;
 using tezgumi::detail::note;
@@ -37,7 +39,7 @@ using tezgumi::detail::quiet_question;
 using tezgumi::detail::run_fault;
 
 // What a message is.
-enum tag : int { parcels = 1, used = 2, notes = 3, round_decided = 4, failed = 5, the_end = 6, question = 7, answer = 8 };
+enum tag : int { parcels = 1, used = 2, notes = 3, round_decided = 4, failed = 5, the_end = 6, question = 7, answer = 8, attached = 9 };
 
 // A fault as bytes of a size that is known before, so that telling of it takes no memory.
 struct told_fault {
@@ -68,8 +70,9 @@ struct told_fault {
     }
 };
 
-// The link of a rank. Each message is sent without waiting for it. A rank has at most settings::window batches on their way to another,
-// and what comes is used up before more may come, so that the memory for messages is bounded.
+// The link of a rank. Each message is sent and received without waiting for it. A rank has at most settings::window batches on their way to
+// another, and what comes is used up before more may come, so that the memory for messages is bounded. Of one rank they are read in the order
+// in which they were sent.
 class rank_link final : public tezgumi::detail::link {
 public:
     rank_link(MPI_Comm comm, const settings &how, std::uint32_t n) : how_(how)
@@ -117,27 +120,37 @@ public:
         settle();
         bool came = false;
         for (int i = 0; i < 32 && take_one(); i++) came = true;
-        return came;
+        return read_what_came() || came;
     }
     bool has_news(std::uint32_t round) override { return !inbox_.empty() || (latest_ && latest_->round > round); }
-    bool may_send(std::uint32_t to) override { return outstanding_[to] < std::max(how_.window, 1u); }
-    void send(std::uint32_t to, pup::bytes &&bytes) override
+    bool may_send(std::uint32_t to) override { return outstanding_[to] < how_.window; }
+    // What is shared with a batch follows it, each by itself. The number of these stands behind its bytes.
+    void send(std::uint32_t to, batch &of) override
     {
+        const std::size_t count = of.attached().size();
+        must_fit_a_message(of.bytes().size() + 4);
+        make_room(count + 1);
+        pup::bytes &bytes = of.bytes();
+        bytes.resize(bytes.size() + 4);
+        pup::detail::write_word<std::uint32_t>(&bytes[bytes.size() - 4], static_cast<std::uint32_t>(count));
         outstanding_[to]++;
-        post(to, parcels, std::move(bytes));
+        start(to, parcels, sending{std::move(bytes), nullptr});
+        for (beside &one : of.attached()) start(to, attached, sending{{}, std::move(one)});
+        of.clear();
     }
-    bool receive(std::uint32_t &from, pup::bytes &bytes) override
+    bool receive(std::uint32_t &from, batch &of) override
     {
         if (inbox_.empty()) return false;
-        from = inbox_.front().first;
-        bytes = std::move(inbox_.front().second);
+        message &front = inbox_.front();
+        from = front.from;
+        of = batch(std::move(*front.bytes), std::move(front.attached));
         inbox_.pop_front();
         return true;
     }
     // Half a window is confirmed together.
     void took(std::uint32_t from) override
     {
-        if (++unused_[from] < (std::max(how_.window, 1u) + 1) / 2 || ended_) return;
+        if (++unused_[from] < (how_.window + 1) / 2 || ended_) return;
         pup::bytes bytes;
         pup::pack(unused_[from], bytes);
         unused_[from] = 0;
@@ -189,11 +202,20 @@ public:
         MPI_Alltoall(sent_.data(), 1, MPI_UINT64_T, expected_.data(), 1, MPI_UINT64_T, comm_);
         closing_ = true;
         for (std::uint32_t from = 0; from < ranks_; from++) {
-            while (received_[from] < expected_[from]) take_at_last(static_cast<int>(from));
+            while (found_[from] < expected_[from]) take_at_last(static_cast<int>(from));
+        }
+        for (message &one : coming_) MPI_Wait(&one.request, MPI_STATUS_IGNORE);
+        while (!coming_.empty()) {
+            try {
+                read_what_came();
+            } catch (const std::bad_alloc &) {
+                wait_for_memory(); // it is tried again
+            }
         }
         MPI_Wait(&failed_request_, MPI_STATUS_IGNORE);
         MPI_Waitall(static_cast<int>(ranks_), end_requests_.data(), MPI_STATUSES_IGNORE);
-        for (sending &one : sendings_) MPI_Wait(&one.request, MPI_STATUS_IGNORE);
+        MPI_Waitall(static_cast<int>(requests_.size()), requests_.data(), MPI_STATUSES_IGNORE);
+        requests_.clear();
         sendings_.clear();
     }
     // Runs what may meet a fault as the run ends.
@@ -223,7 +245,9 @@ private:
     {
         try {
             sent_.assign(ranks_, 0);
-            received_.assign(ranks_, 0);
+            found_.assign(ranks_, 0);
+            waits_.assign(ranks_, 0);
+            partial_.resize(ranks_);
             expected_.assign(ranks_, 0);
             outstanding_.assign(ranks_, 0);
             unused_.assign(ranks_, 0);
@@ -239,36 +263,72 @@ private:
         }
     }
 
+    // Bytes that are sent, or those that a batch shares. They stay where they are until they have left.
     struct sending {
-        MPI_Request request;
-        pup::bytes bytes;
+        pup::bytes own;
+        beside shared;
+    };
+    // A message that comes; and of a batch what it shares, which follows it.
+    struct message {
+        std::uint32_t from = 0, follow = 0;
+        int what = 0;
+        MPI_Request request = MPI_REQUEST_NULL;
+        std::shared_ptr<pup::bytes> bytes;
+        std::vector<beside> attached;
     };
 
-    // Sends bytes, which stay where they are until they have left.
-    void post(std::uint32_t to, tag what, pup::bytes &&bytes)
+    // ---- Sending ----
+
+    static void must_fit_a_message(std::size_t bytes)
     {
-        if (bytes.size() > INT_MAX) throw run_fault(fault_kind::toolong, "a message between ranks has more than 2^31 - 1 bytes");
-        sendings_.emplace_back();
-        sending &one = sendings_.back();
-        one.bytes = std::move(bytes);
-        MPI_Isend(one.bytes.data(), static_cast<int>(one.bytes.size()), MPI_BYTE, static_cast<int>(to), what, comm_, &one.request);
+        if (bytes > INT_MAX) throw run_fault(fault_kind::toolong, "a message between ranks has more than 2^31 - 1 bytes");
+    }
+    // Takes memory for so many more messages.
+    void make_room(std::size_t more)
+    {
+        const std::size_t size = requests_.size() + more;
+        if (size <= left_.size()) return;
+        requests_.reserve(2 * size);
+        sendings_.reserve(2 * size);
+        left_.resize(2 * size);
+    }
+    // Sends bytes, for which there is room.
+    void start(std::uint32_t to, tag what, sending &&of) noexcept
+    {
+        sendings_.push_back(std::move(of));
+        requests_.push_back(MPI_REQUEST_NULL);
+        const pup::bytes &bytes = sendings_.back().shared ? *sendings_.back().shared : sendings_.back().own;
+        MPI_Isend(bytes.data(), static_cast<int>(bytes.size()), MPI_BYTE, static_cast<int>(to), what, comm_, &requests_.back());
         sent_[to]++;
         if (what != question && what != answer) counted_sent_++;
     }
-    // Forgets what has left.
-    void settle()
+    void post(std::uint32_t to, tag what, pup::bytes &&bytes)
     {
-        for (auto at = sendings_.begin(); at != sendings_.end();) {
-            int left = 0;
-            MPI_Test(&at->request, &left, MPI_STATUS_IGNORE);
-            if (!left) {
-                // Messages leave nearly in order: the first few that have not left stand for all.
-                if (++at == sendings_.end() || std::distance(sendings_.begin(), at) > 8) return;
-                continue;
-            }
-            at = sendings_.erase(at);
-        }
+        must_fit_a_message(bytes.size());
+        make_room(1);
+        start(to, what, sending{std::move(bytes), nullptr});
     }
+    // Forgets all that has left, in whatever order.
+    void settle() noexcept
+    {
+        if (requests_.empty()) return;
+        int count = 0;
+        MPI_Testsome(static_cast<int>(requests_.size()), requests_.data(), &count, left_.data(), MPI_STATUSES_IGNORE);
+        if (count <= 0) return;
+        std::size_t kept = 0;
+        for (std::size_t i = 0; i < requests_.size(); i++) {
+            if (requests_[i] == MPI_REQUEST_NULL) continue;
+            if (kept != i) {
+                requests_[kept] = requests_[i];
+                sendings_[kept] = std::move(sendings_[i]);
+            }
+            kept++;
+        }
+        requests_.resize(kept);
+        sendings_.erase(sendings_.begin() + static_cast<std::ptrdiff_t>(kept), sendings_.end());
+    }
+
+    // ---- Receiving ----
 
     bool take_one()
     {
@@ -292,48 +352,95 @@ private:
             }
         }
     }
-    // Memory for a message that has come. A message that is not taken stands before all others, the one of the end too. So where memory is
-    // refused again and again, for about a second, all ranks are ended.
-    pup::bytes room_for(int count)
+    // Memory was refused for a message that stands before all others, the one of the end too. Where that happens again and again, for about
+    // a second, all ranks are ended.
+    void wait_for_memory()
+    {
+        if (++refusals_ >= 1000) {
+            std::fprintf(stderr, "tezgumi: rank %u has no memory for its end\n", me_);
+            MPI_Abort(comm_, 5);
+        }
+        if (refusals_ > 1) std::this_thread::sleep_for(std::chrono::milliseconds(1));
+    }
+    std::list<message> room_for(int count)
     {
         try {
-            pup::bytes bytes(static_cast<std::size_t>(count));
+            std::list<message> one(1);
+            one.front().bytes = std::make_shared<pup::bytes>(static_cast<std::size_t>(count));
             refusals_ = 0;
-            return bytes;
+            return one;
         } catch (const std::bad_alloc &) {
-            if (++refusals_ >= 1000) {
-                std::fprintf(stderr, "tezgumi: rank %u has no memory for its end\n", me_);
-                MPI_Abort(comm_, 5);
-            }
-            if (refusals_ > 1) std::this_thread::sleep_for(std::chrono::milliseconds(1));
+            wait_for_memory();
             throw;
         }
     }
-    // Receives a message that was found. Memory is taken before, so that a message is never half received.
+    // Begins to receive a message that was found, which is the first with its tag from its rank. Memory is taken before, so that a message
+    // is never half received. A long one goes on coming while handlers run.
     void take(const MPI_Status &status)
     {
-        int count = 0;
-        MPI_Get_count(&status, MPI_BYTE, &count);
         const std::uint32_t from = static_cast<std::uint32_t>(status.MPI_SOURCE);
         if (status.MPI_TAG == failed || status.MPI_TAG == the_end) {
             told_fault told;
             MPI_Recv(&told, sizeof told, MPI_BYTE, status.MPI_SOURCE, status.MPI_TAG, comm_, MPI_STATUS_IGNORE);
-            received_[from]++;
+            found_[from]++;
             if (status.MPI_TAG == failed) return hear(told);
             end_ = told;
             ended_ = true;
             return;
         }
-        pup::bytes bytes = room_for(count);
-        if (status.MPI_TAG == parcels) inbox_.emplace_back();
-        MPI_Recv(bytes.data(), count, MPI_BYTE, status.MPI_SOURCE, status.MPI_TAG, comm_, MPI_STATUS_IGNORE);
-        received_[from]++;
-        if (status.MPI_TAG != question && status.MPI_TAG != answer) counted_received_++;
-        if (status.MPI_TAG == parcels) {
-            inbox_.back().first = from;
-            inbox_.back().second = std::move(bytes);
-        } else if (!closing_) {
-            read(status.MPI_TAG, from, bytes);
+        int count = 0;
+        MPI_Get_count(&status, MPI_BYTE, &count);
+        std::list<message> one = room_for(count);
+        one.front().from = from;
+        one.front().what = status.MPI_TAG;
+        MPI_Irecv(one.front().bytes->data(), count, MPI_BYTE, status.MPI_SOURCE, status.MPI_TAG, comm_, &one.front().request);
+        found_[from]++;
+        coming_.splice(coming_.end(), one);
+    }
+    // Reads the messages that are there, but none before an earlier one of its rank. Whether there were any.
+    bool read_what_came()
+    {
+        bool did = false;
+        scan_++;
+        for (auto at = coming_.begin(); at != coming_.end();) {
+            const auto one = at++;
+            if (waits_[one->from] == scan_) continue;
+            int is_there = 0;
+            MPI_Test(&one->request, &is_there, MPI_STATUS_IGNORE);
+            if (is_there) {
+                read(one);
+                did = true;
+            } else {
+                waits_[one->from] = scan_;
+            }
+        }
+        return did;
+    }
+    // Reads a message that is there. A batch is read again where memory is refused; of others the run then ends.
+    void read(std::list<message>::iterator one)
+    {
+        const std::uint32_t from = one->from;
+        if (one->what == parcels) {
+            pup::bytes &bytes = *one->bytes;
+            if (bytes.size() < 8) throw run_fault(fault_kind::mismatch, "a batch ends too early");
+            one->follow = pup::detail::read_word<std::uint32_t>(&bytes[bytes.size() - 4]);
+            one->attached.reserve(one->follow);
+            bytes.resize(bytes.size() - 4);
+            counted_received_++;
+            std::list<message> &onto = one->follow == 0 ? inbox_ : partial_[from];
+            onto.splice(onto.end(), coming_, one);
+        } else if (one->what == attached) {
+            std::list<message> &part = partial_[from];
+            if (part.empty()) throw run_fault(fault_kind::mismatch, "what no batch shares came");
+            part.front().attached.push_back(std::move(one->bytes));
+            counted_received_++;
+            coming_.erase(one);
+            if (part.front().attached.size() == part.front().follow) inbox_.splice(inbox_.end(), part);
+        } else {
+            std::list<message> taken;
+            taken.splice(taken.end(), coming_, one);
+            if (one->what != question && one->what != answer) counted_received_++;
+            if (!closing_) read(one->what, from, *one->bytes);
         }
     }
     void read(int what, std::uint32_t from, const pup::bytes &bytes)
@@ -367,10 +474,13 @@ private:
         if (board_->is_complete()) {
             latest_ = std::make_shared<const decision>(board_->decide());
             if (log) log->decide(latest_->round);
-            pup::bytes bytes;
-            pup::pack(*latest_, bytes);
-            for (std::uint32_t to = 1; to < ranks_; to++) post(to, round_decided, pup::bytes(bytes));
+            const auto bytes = std::make_shared<pup::bytes>();
+            pup::pack(*latest_, *bytes);
+            must_fit_a_message(bytes->size());
+            make_room(ranks_);
+            for (std::uint32_t to = 1; to < ranks_; to++) start(to, round_decided, sending{{}, bytes});
             rounds_.push_back(board_->report());
+            board_->write();
             tezgumi::detail::tell(how_.on_round, rounds_.back());
         }
         if (board_->all_finished()) end();
@@ -411,19 +521,29 @@ private:
     void hear_answer(std::uint32_t number, std::uint64_t sent, std::uint64_t received)
     {
         if (!question_->answer(number, sent, received) || ended_) return;
-        end_.kind = static_cast<std::uint32_t>(fault_kind::quiet);
+        fault met;
+        board_->tell_quiet(met);
+        end_ = told_fault::of(met);
         end();
     }
 
     const settings &how_;
     MPI_Comm comm_ = MPI_COMM_NULL;
     std::uint32_t me_ = 0, ranks_ = 1, n_ = 0;
-    // Of each rank: all messages sent to it and received of it; batches that it has not used up, and that are used up here.
-    std::vector<std::uint64_t> sent_, received_, expected_;
+    // Of each rank: all messages sent to it and found of it; batches that it has not used up, and that are used up here.
+    std::vector<std::uint64_t> sent_, found_, expected_;
     std::vector<std::uint32_t> outstanding_, unused_;
     std::uint64_t counted_sent_ = 0, counted_received_ = 0; // but questions and answers
-    std::list<std::pair<std::uint32_t, pup::bytes>> inbox_; // takes no memory before all ranks have agreed that they have theirs
-    std::list<sending> sendings_;
+    // Messages that are coming; of each rank the batch of which something still comes; and batches. They take no memory before all ranks
+    // have agreed that they have theirs.
+    std::list<message> coming_, inbox_;
+    std::vector<std::list<message>> partial_;
+    std::vector<std::uint64_t> waits_; // of each rank: the last scan in which one of its messages was not there
+    std::uint64_t scan_ = 0;
+    // Messages that leave: the bytes, their requests, and room for the numbers of those that have left.
+    std::vector<sending> sendings_;
+    std::vector<MPI_Request> requests_;
+    std::vector<int> left_;
     std::shared_ptr<const decision> latest_;
     told_fault own_, end_;
     MPI_Request failed_request_ = MPI_REQUEST_NULL;
@@ -446,8 +566,20 @@ public:
     explicit outcome(MPI_Comm comm) : comm_(comm) {}
 
     // What a function makes of each element of all ranks, in the order of the indices; on rank 0, and nothing on others. All ranks call
-    // it. What the function makes is packed, so it has a pup. Where something throws on one rank it does so on all.
+    // it. What the function makes is packed, so it has a pup. Where something throws on one rank it does so on all. After a fault some
+    // elements may be missing: collect_by_index says which are there.
     template <class F> auto collect(F &&of) const -> std::vector<typename std::decay<decltype(of(std::declval<const C &>()))>::type>
+    {
+        std::vector<typename std::decay<decltype(of(std::declval<const C &>()))>::type> found;
+        auto by_index = collect_by_index(of);
+        together([&] {
+            for (auto &one : by_index) found.push_back(std::move(one.second));
+        });
+        return found;
+    }
+    // The same, each with the index of its element.
+    template <class F>
+    auto collect_by_index(F &&of) const -> std::map<std::uint32_t, typename std::decay<decltype(of(std::declval<const C &>()))>::type>
     {
         using value = typename std::decay<decltype(of(std::declval<const C &>()))>::type;
         std::vector<std::pair<std::uint32_t, value>> mine;
@@ -457,31 +589,29 @@ public:
             pup::pack(mine, bytes);
         });
         const std::vector<pup::bytes> all = gathered(bytes);
-        std::vector<value> found;
+        std::map<std::uint32_t, value> by_index;
         together([&] {
-            std::map<std::uint32_t, value> by_index;
             for (const pup::bytes &one : all) {
                 pup::unpack(mine, one.data(), one.size());
                 for (auto &item : mine) by_index.emplace(item.first, std::move(item.second));
             }
-            for (auto &one : by_index) found.push_back(std::move(one.second));
         });
-        return found;
+        return by_index;
     }
 
 private:
     // Runs what may throw, and throws on all ranks where one did.
     template <class F> void together(F &&run) const
     {
-        std::exception_ptr met;
+        std::exception_ptr thrown;
         try {
             run();
         } catch (...) {
-            met = std::current_exception();
+            thrown = std::current_exception();
         }
-        int good = met ? 0 : 1;
+        int good = thrown ? 0 : 1;
         MPI_Allreduce(MPI_IN_PLACE, &good, 1, MPI_INT, MPI_MIN, comm_);
-        if (met) std::rethrow_exception(met);
+        if (thrown) std::rethrow_exception(thrown);
         if (!good) throw std::runtime_error("another rank could not collect what its elements have");
     }
     // The bytes of all ranks, on rank 0. They go through a communicator of their own.
@@ -546,6 +676,9 @@ template <class C, class Make> outcome<C> run(MPI_Comm comm, const settings &how
     MPI_Allreduce(MPI_IN_PLACE, sums.data(), 4, MPI_UINT64_T, MPI_SUM, link.comm());
     end.letters = account{sums[0], sums[1], sums[2], sums[3]};
     end.rounds = std::move(link.rounds());
+    int past_limit = !end.rounds.empty() && end.rounds.back().past_limit ? 1 : 0;
+    MPI_Bcast(&past_limit, 1, MPI_INT, 0, link.comm());
+    end.past_limit = past_limit != 0;
     tezgumi::detail::must_balance(end);
     return end;
 }

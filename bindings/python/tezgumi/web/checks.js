@@ -193,7 +193,9 @@ function showCheck(held) {
   document.getElementById("heights-told").hidden = !held.decision.near;
   document.getElementById("prices-told").hidden = held.decision.near && held.decision.keepOrder;
   offerWhere(flaw === null ? null : flawElements(flaw, held.decision, held.run));
-  if (flaw === null) say("✓ The decision holds: every part of it is right.", "good");
+  const who = toldPlannedHere(facts[chosen]);
+  const here = who === "" ? "" : ` It was ${who}.`;
+  if (flaw === null) say(`✓ The decision holds: every part of it is right.${here}`, "good");
   else say(`✗ The decision does not hold. ${flawLine(flaw)}: ${rows.find((one) => one[1] === flawLine(flaw))[2]}.`, "bad");
   const made = table(["step", "verdict", "what was seen"], rows);
   for (const one of made.tBodies[0].rows) {
@@ -253,10 +255,13 @@ function toldVerdicts(verdicts, looked) {
   const wrong = verdicts.map((one, r) => [one, r + 1]).filter(([one]) => !right.includes(one));
   if (looked < verdicts.length) return `checking the decisions: ${told(looked)} of ${told(verdicts.length)} rounds so far`;
   if (decided === 0) return "there is no decision to check";
-  const one = verdicts.length === 1 ? "the decision holds" : "the one decision holds";
+  const planned = page.rounds.filter((one) => one.decision?.new).length;
+  const word = planned === 0 ? "decision" : planned === verdicts.length - count("no decision") ? "plan" : "decision or plan";
+  const words = word.split(" or ").map((each) => `${each}s`).join(" and ");
+  const one = verdicts.length === 1 ? `the ${word} holds` : `the one ${word} holds`;
   if (wrong.length === 0 && decided === 1) return `${one}: this page has checked it`;
-  if (wrong.length === 0) return `all ${told(decided)} decisions hold: this page has checked each of them`;
+  if (wrong.length === 0) return `all ${told(decided)} ${words} hold: this page has checked each of them`;
   const [line, number] = wrong[0];
-  if (verdicts.length === 1) return `the decision does not hold: the check says ${line}`;
-  return `${some(wrong.length, "decision does", "decisions do")} not hold: in round ${told(number)} the check says ${line}`;
+  if (verdicts.length === 1) return `the ${word} does not hold: the check says ${line}`;
+  return `${some(wrong.length, `${word} does`, `${words} do`)} not hold: in round ${told(number)} the check says ${line}`;
 }

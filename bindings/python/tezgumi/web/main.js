@@ -58,7 +58,8 @@ async function choose(r) {
 function toldRound(one) {
   const after = one.after === null ? "" : ` → ${toldQuotient(one.after.imbalance)}`;
   const place = `Round ${told(one.number)} of ${told(facts.length)}, step ${told(one.told.step)}`;
-  return `${place}: imbalance ${toldQuotient(one.before.imbalance)}${after}`;
+  const made = toldPlannedHere(one);
+  return `${place}: imbalance ${toldQuotient(one.before.imbalance)}${after}${made && ` (${made})`}`;
 }
 
 function showElements(held) {
@@ -154,16 +155,35 @@ function tellSummary(done) {
 }
 
 function tellNotes() {
-  const without = page.rounds.map((one, r) => (one.heads ? null : told(r + 1))).filter((one) => one !== null);
   const notes = document.getElementById("notes");
-  notes.hidden = without.length === 0;
-  const listed = without.length > 20 ? `${without.slice(0, 20).join(", ")} and others` : without.join(", ");
-  const all = page.rounds.length;
-  notes.textContent = `The page has the elements of ${told(all - without.length)} of ${told(all)} rounds, as it would be too ` +
-    `large with all. Of the rounds ${listed} it has the loads of the PEs alone, so their chains are not drawn and their ` +
+  const said = [toldLeftOut(), toldPlans(), ...page.notes.map((note) => `${note[0].toUpperCase()}${note.slice(1)}.`)];
+  notes.textContent = said.filter((note) => note !== "").join(" ");
+  notes.hidden = notes.textContent === "";
+  document.getElementById("planned-here").hidden = !facts.some(isPlannedHere);
+  document.getElementById("made").textContent = `Made by tezgumi ${page.version} of ` +
+    `${some(page.rounds.length, "round", "rounds")}. This file needs no network, and nothing leaves it.`;
+}
+
+const listed = (numbers) => (numbers.length > 20 ? `${numbers.slice(0, 20).map(told).join(", ")} and others` : numbers.map(told).join(", "));
+
+function toldLeftOut() {
+  const without = facts.filter((one) => !one.told.heads).map((one) => one.number);
+  const all = facts.length;
+  if (without.length === 0) return "";
+  return `The page has the elements of ${told(all - without.length)} of ${told(all)} rounds, as it would be too ` +
+    `large with all. Of the rounds ${listed(without)} it has the loads of the PEs alone, so their chains are not drawn and their ` +
     "decisions not checked.";
-  document.getElementById("made").textContent =
-    `Made by tezgumi ${page.version} of ${some(all, "round", "rounds")}. This file needs no network, and nothing leaves it.`;
+}
+
+// The rounds that were planned here, by the reason: what is shown as decided need not be what the run did.
+function toldPlans() {
+  const planned = facts.filter(isPlannedHere);
+  return [...new Set(planned.map(toldPlannedHere))].map((made) => {
+    const numbers = planned.filter((one) => toldPlannedHere(one) === made).map((one) => one.number);
+    const rounds = numbers.length === facts.length ? (numbers.length === 1 ? "This round" : "All rounds") :
+      `${numbers.length === 1 ? "Round" : "Rounds"} ${listed(numbers)}`;
+    return `${rounds}: ${made}, so the run may have moved other elements.`;
+  }).join(" ");
 }
 
 // What a decision that does not hold says is the least possible load is not shown as such.

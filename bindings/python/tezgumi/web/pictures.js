@@ -180,9 +180,13 @@ function drawBars(canvas, facts, values, chosen) {
   const top = greatestValueOf(values, 0);
   const { context, scale, y, colors, height } = drawFrame(canvas, facts, top, "", chosen, true);
   context.fillStyle = colors.decided;
+  context.strokeStyle = colors.decided;
   const wide = Math.max(scale.each * 0.7, 1);
   values.forEach((value, r) => {
-    if (value) context.fillRect(scale.middle(r) - wide / 2, y(value), wide, y(0) - y(value));
+    const bar = [scale.middle(r) - wide / 2, y(value), wide, y(0) - y(value)];
+    // What was planned here is an outline, as nobody says that it moved.
+    if (value && isPlannedHere(facts[r])) context.strokeRect(...bar);
+    else if (value) context.fillRect(...bar);
   });
   markRound(context, scale, chosen, 8, height, colors);
 }

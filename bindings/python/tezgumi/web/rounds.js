@@ -52,10 +52,25 @@ function summary(facts) {
 
 const times = (spreadOf) => `${toldQuotient(spreadOf.imbalance)} times`;
 
+// A decision that was made for the page: nobody says that the elements moved by it.
+const isPlannedHere = (one) => one.told.decision?.new === true;
+
+// What moves by the decisions that are recorded, and apart from it what would move by those that were planned here.
 function toldMoves(facts) {
   const decided = facts.filter((one) => one.bytes !== null);
-  if (decided.length === 0) return "";
-  const bytes = decided.reduce((sum, one) => sum + one.bytes, 0n);
-  const moved = decided.reduce((sum, one) => sum + one.moved, 0);
-  return `For that, ${some(moved, "element", "elements")} with ${some(bytes, "byte", "bytes")} ${moved === 1 ? "moves" : "move"}`;
+  const recorded = decided.filter((one) => !isPlannedHere(one));
+  const planned = decided.filter(isPlannedHere);
+  if (planned.length === 0) return recorded.length === 0 ? "" : `For that, ${toldSum(recorded, "moves", "move")}`;
+  const would = `${toldSum(planned, "would move", "would move")} by ${planned.length === 1 ? "a plan" : "plans"} made here`;
+  if (recorded.length === 0) return `For that, ${would}`;
+  return `By what is recorded, ${toldSum(recorded, "moves", "move")}; in the other rounds ${would}`;
 }
+
+function toldSum(facts, one, several) {
+  const bytes = facts.reduce((sum, it) => sum + it.bytes, 0n);
+  const moved = facts.reduce((sum, it) => sum + it.moved, 0);
+  return `${some(moved, "element", "elements")} with ${some(bytes, "byte", "bytes")} ${moved === 1 ? one : several}`;
+}
+
+// What is said of a round whose decision was made for the page, and "" of any other.
+const toldPlannedHere = (one) => (isPlannedHere(one) ? one.told.decision.made : "");

@@ -84,7 +84,7 @@ function roundRow(one, verdict) {
 function decisionKind(decision) {
   if (!decision) return "none";
   const within = decision.tolerance === null ? "" : `, within ${told(decision.tolerance)} thousandths`;
-  return (decision.new ? "made for this page" : "recorded") + within;
+  return decision.made + within;
 }
 
 function peTable(one) {

@@ -16,9 +16,9 @@
 namespace tezgumi {
 namespace detail {
 
-// An element keeps marks of its rounds, and takes them along. After so many rounds they would make its message too long, so
-// nothing moves any more.
-constexpr std::uint32_t last_balanced_round = 20000;
+// An element keeps marks of its rounds, and takes them along. From this round on they would make its message too long, so nothing moves
+// any more.
+inline constexpr std::uint32_t last_balanced_round = 20000;
 
 // The handle of a board, which is not copied. It keeps all rounds that it has decided, so it is opened anew after some of them.
 class board_handle {
@@ -92,7 +92,7 @@ private:
 class board {
 public:
     board(const settings &how, std::uint32_t pes, std::uint32_t n)
-        : how_(how), pes_(pes), n_(n), handle_(how, pes, n), loads_(n), places_(n), reported_(n), finished_(n), given_(n)
+        : how_(how), pes_(pes), n_(n), handle_(how, pes, n), loads_(n), places_(n), reported_(n), finished_(n), given_(n), bytes_(n)
     {
         present_.cuts.resize(pes + 1);
         present_.names.resize(pes);
@@ -118,6 +118,7 @@ public:
         reported_count_++;
         loads_[of.index] = std::min(of.load, TEZGUMI_BOARD_LOAD);
         places_[of.index] = of.pe;
+        bytes_[of.index] = of.bytes;
         given_[of.index] = of.given;
     }
 
@@ -130,39 +131,104 @@ public:
     {
         decision next = present_;
         next.round = present_.round + 1;
-        next.result = contribution();
-        join(next.result);
+        next.results.clear();
+        join(next.results);
         report_ = round_report();
         report_.round = next.round;
-        report_.balanced = is_balanced();
+        report_.balanced = is_balanced() || how_.moves_all;
+        report_.past_limit = how_.every != 0 && next.round >= last_balanced_round;
         weigh();
-        if (report_.balanced) balance(next);
+        if (how_.moves_all) {
+            move_all(next);
+        } else if (report_.balanced) {
+            balance(next);
+        }
         present_ = next;
         reported_count_ = 0;
         std::fill(reported_.begin(), reported_.end(), std::uint8_t(0));
-        std::fill(given_.begin(), given_.end(), contribution());
+        std::fill(given_.begin(), given_.end(), contributions());
         return present_;
     }
     // What is known of the round that was decided last.
     const round_report &report() const { return report_; }
+    // Writes the dump of that round, where there is to be one, by its number in the run.
+    void write()
+    {
+        if (dump_.empty()) return;
+        const std::string path = how_.dumps + "." + std::to_string(report_.round);
+        std::FILE *file = std::fopen(path.c_str(), "wb");
+        bool good = file != nullptr;
+        if (file) good = std::fwrite(dump_.data(), 1, dump_.size(), file) == dump_.size();
+        if (file) good = std::fclose(file) == 0 && good;
+        dump_.clear();
+        if (!good) throw run_fault(fault_kind::dump, "the dump " + path + " was not written");
+    }
+
+    // Nothing is left to do. Makes that a fault, which says how many elements have not finished, and of the first what they wait for.
+    void tell_quiet(fault &met) const noexcept
+    {
+        met.kind = fault_kind::quiet;
+        for (std::uint32_t i = n_; i-- > 0;) {
+            if (!finished_[i]) met.element = i;
+        }
+        if (met.element == fault::no_element) return;
+        for (std::uint32_t b = 0; b < pes_; b++) {
+            if (present_.cuts[b] <= met.element && met.element < present_.cuts[b + 1]) met.pe = present_.names[b];
+        }
+        try {
+            met.what = waiting_text();
+        } catch (const std::bad_alloc &) {
+            met.what.clear(); // there is no memory for words
+        }
+    }
 
 private:
+    std::string waiting_text() const
+    {
+        constexpr std::uint32_t told = 8;
+        std::uint32_t count = 0, at_sync = 0;
+        std::string first;
+        for (std::uint32_t i = 0; i < n_; i++) {
+            if (finished_[i]) continue;
+            at_sync += reported_[i];
+            if (count++ >= told) continue;
+            first += (count == 1 ? ": element " : ", element ") + std::to_string(i);
+            first += reported_[i] ? " waits for round " + std::to_string(present_.round + 1) : std::string(" waits for a message");
+        }
+        std::string text = std::to_string(count) + " of " + std::to_string(n_) + " elements have not finished" + first;
+        if (count > told) text += ", and " + std::to_string(count - told) + " more";
+        if (at_sync != 0 && count != n_) text += "; no round is decided without an element that has finished";
+        return text;
+    }
     // Whether the round that is under way is one in which elements may move.
     bool is_balanced() const
     {
         const std::uint32_t round = present_.round + 1;
-        return how_.every != 0 && round % how_.every == 0 && round < last_balanced_round;
+        return !how_.moves_all && how_.every != 0 && round % how_.every == 0 && round < last_balanced_round;
     }
-    // Folds what the elements contributed, in the order of the indices.
-    void join(contribution &result) const
+    // Folds what the elements contributed, in the order of the indices. All contribute to a round as often, or it is a fault, which names
+    // one of each.
+    void join(contributions &results) const
     {
         for (std::uint32_t i = 0; i < n_; i++) {
-            try {
-                result.join(given_[i]);
-            } catch (const std::invalid_argument &met) {
-                throw run_fault(fault_kind::input, met.what(), i);
+            if (given_[i].size() != given_[0].size()) throw run_fault(fault_kind::input, uneven(i), i);
+            if (i == 0) results.resize(given_[0].size());
+            for (std::size_t k = 0; k < results.size(); k++) {
+                try {
+                    results[k].join(given_[i][k]);
+                } catch (const std::invalid_argument &met) {
+                    throw run_fault(fault_kind::input, met.what(), i);
+                }
             }
         }
+    }
+    std::string uneven(std::uint32_t i) const
+    {
+        const auto gave = [this](std::uint32_t of) {
+            const std::size_t count = given_[of].size();
+            return "element " + std::to_string(of) + " contributes " + (count == 0 ? "nothing" : count == 1 ? "a value" : std::to_string(count) + " values");
+        };
+        return gave(0) + " to round " + std::to_string(present_.round + 1) + ", and " + gave(i);
     }
     void weigh()
     {
@@ -174,27 +240,26 @@ private:
         }
         report_.bottleneck = report_.greatest;
     }
+    // For tests: each block goes to the PE behind the one that it is on.
+    void move_all(decision &next)
+    {
+        for (std::uint32_t &pe : next.names) pe = (pe + 1) % pes_;
+        for (std::uint64_t bytes : bytes_) report_.moved += pes_ > 1 ? bytes : 0;
+    }
     void balance(decision &next)
     {
         handle_.decide(next, report_);
-        if (!how_.dumps.empty()) write(next.round);
+        if (!how_.dumps.empty()) take_dump(next.round);
         if (!handle_.go_on()) return;
         for (std::uint32_t i = 0; i < n_; i++) {
             if (finished_[i]) handle_.finish(i);
         }
     }
-    // Writes the dump of the round, by its number in the run.
-    void write(std::uint32_t round)
+    void take_dump(std::uint32_t round)
     {
         constexpr std::size_t step_at = 4;
-        pup::bytes text = handle_.dump();
-        if (text.size() >= step_at + 4) pup::detail::write_word<std::uint32_t>(&text[step_at], round);
-        const std::string path = how_.dumps + "." + std::to_string(round);
-        std::FILE *file = std::fopen(path.c_str(), "wb");
-        bool good = file != nullptr;
-        if (file) good = std::fwrite(text.data(), 1, text.size(), file) == text.size();
-        if (file) good = std::fclose(file) == 0 && good;
-        if (!good) throw run_fault(fault_kind::dump, "the dump " + path + " was not written");
+        dump_ = handle_.dump();
+        if (dump_.size() >= step_at + 4) pup::detail::write_word<std::uint32_t>(&dump_[step_at], round);
     }
 
     const settings how_;
@@ -203,10 +268,12 @@ private:
     std::vector<std::uint64_t> loads_;
     std::vector<std::uint32_t> places_;
     std::vector<std::uint8_t> reported_, finished_;
-    std::vector<contribution> given_;
+    std::vector<contributions> given_;
+    std::vector<std::uint64_t> bytes_; // that each element packs into
     std::uint32_t reported_count_ = 0;
     decision present_;
     round_report report_;
+    pup::bytes dump_; // of the round that was decided last, until it is written
 };
 
 // Whether all PEs have nothing to do: each is asked by a number, and answers once it has nothing to do, with how many messages it has

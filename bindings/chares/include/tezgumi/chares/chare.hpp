@@ -15,48 +15,87 @@
 
 namespace tezgumi {
 
+namespace detail {
+
+template <class T, class... M> constexpr std::size_t count_of() { return (std::size_t(0) + ... + (std::is_same<T, M>::value ? 1 : 0)); }
+
+} // namespace detail
+
 // The types of the messages of a chare: using messages = tezgumi::messages<cell, stop>;
-template <class... M> struct messages {};
+template <class... M> struct messages {
+    static_assert(sizeof...(M) >= 1 && sizeof...(M) <= 127, "a chare has 1 to 127 types of messages");
+    static_assert(((detail::count_of<M, M...>() == 1) && ...), "a type stands twice among the messages of a chare");
+    static_assert(((std::is_same<M, typename std::decay<M>::type>::value) && ...), "a message is a type without const, reference or array");
+    static_assert(((std::is_default_constructible<M>::value) && ...), "a message is unpacked, so it needs a constructor without arguments");
+};
 
 namespace detail {
 
-// What a handler said besides what it sent.
+// What a handler said besides what it sent; and what the element contributes to the round that it is not yet at sync for, of which so many
+// stood there before this handler.
 struct said {
     bool at_sync = false, finished = false, named = false;
     std::uint64_t units = 0;
-    contribution given;
+    contributions given;
+    std::size_t given_before = 0;
+
+    void begin()
+    {
+        at_sync = finished = named = false;
+        units = 0;
+        given_before = given.size();
+    }
+    // At the end of a handler. Where the element waits already it cannot be at sync anew: that is passed over, with what came beside it.
+    void end(bool waits) noexcept
+    {
+        if (!waits || !at_sync) return;
+        at_sync = false;
+        given.resize(given_before);
+    }
 };
 
 struct said_of;
 
-// The place of a type among others.
+// The place of a type among others, or their number, where it is none of them.
+template <class T, class... M> constexpr std::size_t place_among()
+{
+    std::size_t at = 0;
+    bool is_found = false;
+    ((is_found = is_found || std::is_same<T, M>::value, at += is_found ? 0 : 1), ...);
+    return at;
+}
 template <class T, class List> struct place_of;
-template <class T, class... Rest> struct place_of<T, messages<T, Rest...>> : std::integral_constant<std::size_t, 0> {};
-template <class T, class First, class... Rest>
-struct place_of<T, messages<First, Rest...>> : std::integral_constant<std::size_t, 1 + place_of<T, messages<Rest...>>::value> {};
-template <class T> struct place_of<T, messages<>> {
-    static_assert(sizeof(T) == 0, "this type is not among the messages of the chare");
+template <class T, class... M> struct place_of<T, messages<M...>> {
+    static constexpr std::size_t value = place_among<T, M...>();
+    static constexpr bool is_there = value < sizeof...(M);
 };
 
 // A long body goes beside its letter, of which the body then is a ticket: this bit and the number of the message, the PE that
 // posted it, and a number of that PE.
-constexpr std::uint8_t beside_bit = 0x80;
-constexpr std::size_t ticket_bytes = 13, longest_body = TEZGUMI_PE_BODY_BYTES;
-constexpr std::size_t longest_beside = std::size_t(1) << 30;
+inline constexpr std::uint8_t beside_bit = 0x80;
+inline constexpr std::size_t ticket_bytes = 13, longest_body = TEZGUMI_PE_BODY_BYTES;
+inline constexpr std::size_t longest_beside = std::size_t(1) << 30;
 // So many letters an answer has at most.
-constexpr std::uint64_t most_letters = std::uint64_t(1) << 20;
+inline constexpr std::uint64_t most_letters = std::uint64_t(1) << 20;
 using beside = std::shared_ptr<const pup::bytes>;
 
-// The number of a ticket, by which its body is kept.
+// The number of a ticket, by which its body is kept. Of a body that several letters name the number has this bit.
+inline constexpr std::uint64_t shared_bit = std::uint64_t(1) << 63;
 struct ticket {
     std::uint32_t pe = 0;
     std::uint64_t number = 0;
+    bool is_shared() const { return (number & shared_bit) != 0; }
     bool operator==(const ticket &other) const { return pe == other.pe && number == other.number; }
 };
 struct ticket_hash {
     std::size_t operator()(const ticket &t) const { return std::hash<std::uint64_t>()(t.number * 256 + t.pe); }
 };
-using besides = std::unordered_map<ticket, beside, ticket_hash>;
+// A long body, and how many letters here name it.
+struct kept_body {
+    beside bytes;
+    std::uint64_t letters = 0;
+};
+using besides = std::unordered_map<ticket, kept_body, ticket_hash>;
 
 inline ticket ticket_in(const std::uint8_t *body)
 {
@@ -69,7 +108,7 @@ inline ticket ticket_in(const std::uint8_t *body)
 // The answer of a handler, as it is being made, and what the handler is told.
 class outgoing {
 public:
-    outgoing(std::uint32_t pe, std::uint32_t pes, std::uint32_t n) : pe(pe), pes(pes), n(n) {}
+    outgoing(std::uint32_t own, std::uint32_t of_pes, std::uint32_t elements) : pe(own), pes(of_pes), n(elements) {}
     outgoing(const outgoing &) = delete;
     outgoing &operator=(const outgoing &) = delete;
     ~outgoing() { tezgumi_answer_free(&answer); }
@@ -95,33 +134,57 @@ public:
     // The answer was taken: what it sent is no longer its own.
     void taken() { tickets.clear(); }
 
+    // Packs a message: a long one once, into the bytes that go beside its letters.
     template <class M> void pack(std::size_t place, const M &message)
     {
+        shared.reset();
+        const std::size_t size = pup::size_of(message);
         body.clear();
         body.push_back(static_cast<std::uint8_t>(place));
-        pup::pack(message, body);
-        shared.reset();
-        if (body.size() <= longest_body) return;
-        if (body.size() > longest_beside) throw run_fault(fault_kind::toolong, "a message has more than 2^30 bytes");
-        shared = std::make_shared<const pup::bytes>(body.begin() + 1, body.end());
-        body.resize(ticket_bytes);
-        body[0] = static_cast<std::uint8_t>(place | beside_bit);
-        pup::detail::write_word<std::uint32_t>(&body[1], pe);
+        if (size < longest_body) return pup::pack(message, body);
+        if (size >= longest_beside) throw run_fault(fault_kind::toolong, "a message has more than 2^30 bytes");
+        auto packed = std::make_shared<pup::bytes>();
+        pup::pack(message, *packed);
+        put_beside(std::move(packed));
     }
-    // Sends what was packed.
+    // Sends what was packed. Where it throws, the letters of the answer are those that it had.
     void post(std::uint32_t to)
     {
-        if (to >= n) throw stranger("there is no element " + std::to_string(to) + " in an array of " + std::to_string(n));
-        if (letters == most_letters) throw run_fault(fault_kind::toolong, "a handler sends more than 2^20 letters");
-        if (shared) {
-            const ticket made{pe, next_ticket};
-            pup::detail::write_word<std::uint64_t>(&body[5], next_ticket++);
-            tickets.push_back(made);
-            held->emplace(made, shared);
+        must_be_there(to);
+        if (!shared) return add(to);
+        const ticket made = keep(0, 1);
+        try {
+            add(to);
+        } catch (...) {
+            let_go(made);
+            throw;
         }
-        receivers.push_back(to);
-        check(tezgumi_answer_send(&answer, to, body.data(), static_cast<std::uint32_t>(body.size())));
-        letters++;
+    }
+    // Sends it to all, or to none where that throws. A body that is long, for all together, is there once, and all these letters name it.
+    void post_to_all()
+    {
+        const std::size_t len = answer.len;
+        const std::uint64_t before = letters;
+        if (!shared && body.size() > copied_body && body.size() * n > copied_bodies) {
+            put_beside(std::make_shared<const pup::bytes>(body.begin() + 1, body.end()));
+        }
+        const ticket made = shared ? keep(shared_bit, n) : ticket();
+        try {
+            for (std::uint32_t i = 0; i < n; i++) add(i);
+        } catch (...) {
+            if (shared) let_go(made);
+            receivers.resize(static_cast<std::size_t>(before));
+            letters = before;
+            answer.len = len;
+            tezgumi_answer_put(answer.bytes + letters_at, letters, 4);
+            throw;
+        }
+    }
+    template <class I> void must_be_there(I to) const
+    {
+        if (to < 0 || static_cast<std::uint64_t>(to) >= n) {
+            throw stranger("there is no element " + std::to_string(to) + " in an array of " + std::to_string(n));
+        }
     }
 
     const std::uint32_t pe, pes, n;
@@ -130,14 +193,53 @@ public:
     std::vector<std::uint32_t> receivers; // of these letters, in order
     tezgumi_answer answer = {nullptr, 0, 0};
     besides *held = nullptr;
-    const contribution *result = nullptr;
+    const contributions *results = nullptr;
 
 private:
+    static constexpr std::size_t letters_at = 14; // of an answer, the count of its letters
     static void check(std::int32_t status)
     {
         if (status != TEZGUMI_PE_OK) throw std::bad_alloc();
     }
+    // The body that was packed goes beside its letters, which have a ticket in its place.
+    void put_beside(beside packed)
+    {
+        body.resize(ticket_bytes);
+        body[0] |= beside_bit;
+        pup::detail::write_word<std::uint32_t>(&body[1], pe);
+        shared = std::move(packed);
+    }
+    // Gives it a ticket, which this handler made, for so many letters; or takes that back.
+    ticket keep(std::uint64_t bits, std::uint64_t count)
+    {
+        reserve_one(tickets);
+        const ticket made{pe, next_ticket | bits};
+        held->emplace(made, kept_body{shared, count});
+        pup::detail::write_word<std::uint64_t>(&body[5], made.number);
+        tickets.push_back(made);
+        next_ticket++;
+        return made;
+    }
+    void let_go(const ticket &made)
+    {
+        held->erase(made);
+        tickets.pop_back();
+    }
+    void add(std::uint32_t to)
+    {
+        if (letters == most_letters) throw run_fault(fault_kind::toolong, "a handler sends more than 2^20 letters");
+        reserve_one(receivers);
+        check(tezgumi_answer_send(&answer, to, body.data(), static_cast<std::uint32_t>(body.size())));
+        receivers.push_back(to);
+        letters++;
+    }
+    template <class T> static void reserve_one(std::vector<T> &list)
+    {
+        if (list.size() == list.capacity()) list.reserve(2 * list.size() + 16);
+    }
 
+    // A broadcast copies bodies of so many bytes, and those that come to so many for all its letters.
+    static constexpr std::size_t copied_body = 64, copied_bodies = 64 * 1024;
     pup::bytes body;
     beside shared;
     std::vector<ticket> tickets;
@@ -167,8 +269,9 @@ protected:
         said_.named = true;
         said_.units = units;
     }
-    // With at_sync: a value of this element, for a fold over those of all. The result comes with the round.
-    void contribute(const contribution &value) { said_.given = value; }
+    // A value of this element, for a fold over those of all. It counts for the round that the element is at sync for next, and the result
+    // comes with that round. Several are kept in their order.
+    void contribute(const contribution &value) { said_.given.push_back(value); }
 
 private:
     friend struct detail::said_of;
@@ -179,6 +282,19 @@ namespace detail {
 struct said_of {
     static said &in(chare &of) { return of.said_; }
 };
+} // namespace detail
+
+namespace detail {
+
+// Packs a message of a chare. Whether that compiles is told in one line.
+template <class C, class M> bool pack(outgoing &out, const M &message)
+{
+    using place = place_of<M, typename C::messages>;
+    static_assert(place::is_there, "the type that is sent is not among the messages of the chare; name the one that is meant: send(type(..))");
+    if constexpr (place::is_there) out.pack(place::value, message);
+    return place::is_there;
+}
+
 } // namespace detail
 
 // The array as a handler sees it. It is not kept past the handler.
@@ -192,8 +308,7 @@ public:
         // Sends it a message.
         template <class M> void send(const M &message) const
         {
-            out_->pack(detail::place_of<M, typename C::messages>::value, message);
-            out_->post(index_);
+            if (detail::pack<C>(*out_, message)) out_->post(index_);
         }
         std::uint32_t index() const { return index_; }
 
@@ -204,14 +319,23 @@ public:
         std::uint32_t index_;
     };
 
-    element operator[](std::uint32_t i) const { return element(out_, i); }
+    // A number that is no index of an element is refused, as by `send`.
+    template <class I> element operator[](const I &i) const
+    {
+        static_assert(!std::is_floating_point<I>::value, "the index of an element is a whole number");
+        if constexpr (std::is_integral<I>::value && !std::is_same<I, bool>::value) {
+            out_->must_be_there(i);
+            return element(out_, static_cast<std::uint32_t>(i));
+        } else {
+            return element(out_, i);
+        }
+    }
     element self() const { return element(out_, out_->me); }
 
     // Sends a message to every element, this one too.
     template <class M> void send(const M &message) const
     {
-        out_->pack(detail::place_of<M, typename C::messages>::value, message);
-        for (std::uint32_t i = 0; i < out_->n; i++) out_->post(i);
+        if (detail::pack<C>(*out_, message)) out_->post_to_all();
     }
 
     std::uint32_t me() const { return out_->me; } // the index of the element whose handler this is
@@ -219,16 +343,16 @@ public:
     std::uint32_t pe() const { return out_->pe; } // the PE where it runs
     std::uint32_t pes() const { return out_->pes; } // how many PEs there are
 
-    // In resume after a round: what the contributions of that round came to.
-    bool has_result() const { return out_->result && out_->result->is_there(); }
-    template <class T> std::vector<T> results() const
+    // In resume after a round: what the contributions of that round came to. Which of them is said by its place among those of an element.
+    bool has_result(std::size_t which = 0) const { return out_->results && which < out_->results->size(); }
+    template <class T> std::vector<T> results(std::size_t which = 0) const
     {
-        if (!has_result()) throw std::logic_error("nothing was contributed");
-        return out_->result->values<T>();
+        if (!has_result(which)) throw std::logic_error("nothing was contributed");
+        return (*out_->results)[which].template values<T>();
     }
-    template <class T> T result() const
+    template <class T> T result(std::size_t which = 0) const
     {
-        const std::vector<T> found = results<T>();
+        const std::vector<T> found = results<T>(which);
         if (found.size() != 1) throw std::logic_error("more values than one were contributed");
         return found[0];
     }
@@ -239,31 +363,51 @@ private:
 
 namespace detail {
 
-template <class C, class = void> struct resumes_alone : std::false_type {};
-template <class C> struct resumes_alone<C, decltype(std::declval<C &>().resume(round()))> : std::true_type {};
-template <class C, class M, class = void> struct receives_alone : std::false_type {};
-template <class C, class M> struct receives_alone<C, M, decltype(std::declval<C &>().receive(std::declval<M>()))> : std::true_type {};
+// What becomes an argument of just this type, by value or by reference, and of no type to which that could be converted.
+template <class T> struct just {
+    template <class U, class = typename std::enable_if<std::is_same<U, T>::value>::type> operator U &&() const;
+};
+// Whether there is a handler for these arguments: of just this type, or of a reference to a constant of it.
+template <class C, class... Rest> struct handlers {
+    template <class T, class = void> struct resumes_by : std::false_type {};
+    template <class T>
+    struct resumes_by<T, std::void_t<decltype(std::declval<C &>().resume(just<T>(), std::declval<Rest>()...))>> : std::true_type {};
+    template <class T, class = void> struct receives_by : std::false_type {};
+    template <class T>
+    struct receives_by<T, std::void_t<decltype(std::declval<C &>().receive(just<T>(), std::declval<Rest>()...))>> : std::true_type {};
+
+    static constexpr bool resumes = resumes_by<round>::value || resumes_by<const round>::value;
+    template <class M> static constexpr bool receives = receives_by<M>::value || receives_by<const M>::value;
+};
+template <class C> using handlers_alone = handlers<C>;
+template <class C> using handlers_with_all = handlers<C, array<C> &>;
 template <class C, class = void> struct restores : std::false_type {};
 template <class C> struct restores<C, typename std::enable_if<C::restores>::type> : std::true_type {};
 
+// The handler of a chare C for a message M. What is wrong with it is told in a line that names both.
+template <class C, class M> struct handler_of {
+    static constexpr bool alone = handlers_alone<C>::template receives<M>, with_all = handlers_with_all<C>::template receives<M>;
+    static_assert(alone || with_all, "the chare C has no receive for its message M: receive(const M &), or receive(const M &, tezgumi::array<C> &)");
+    static_assert(!alone || !with_all, "the chare C has two handlers for its message M: receive with the array, and without it");
+};
+
 template <class C> void call_resume(C &object, round r, array<C> &all)
 {
-    if constexpr (resumes_alone<C>::value) {
-        object.resume(r);
-    } else {
-        object.resume(r, all);
-    }
+    constexpr bool alone = handlers_alone<C>::resumes, with_all = handlers_with_all<C>::resumes;
+    static_assert(alone || with_all, "the chare C has no resume(tezgumi::round), or resume(tezgumi::round, tezgumi::array<C> &)");
+    static_assert(!alone || !with_all, "the chare C has two handlers resume: with the array, and without it");
+    if constexpr (alone && !with_all) object.resume(r);
+    if constexpr (with_all && !alone) object.resume(r, all);
 }
 
 template <class M, class C> void call_receive(C &object, const std::uint8_t *body, std::size_t len, array<C> &all)
 {
+    using handler = handler_of<C, M>;
     M message{};
     pup::unpack(message, body, len);
-    if constexpr (receives_alone<C, M>::value) {
-        object.receive(std::move(message));
-    } else {
-        object.receive(std::move(message), all);
-    }
+    if constexpr (handler::alone && !handler::with_all) object.receive(std::move(message));
+    if constexpr (handler::with_all && !handler::alone) object.receive(std::move(message), all);
+    (void)all;
 }
 
 // Calls the handler for the message in these bytes.
@@ -271,7 +415,6 @@ template <class C, class... M>
 void dispatch(messages<M...>, C &object, std::size_t place, const std::uint8_t *body, std::size_t len, array<C> &all)
 {
     using call = void (*)(C &, const std::uint8_t *, std::size_t, array<C> &);
-    static_assert(sizeof...(M) >= 1 && sizeof...(M) <= 127, "a chare has 1 to 127 types of messages");
     static constexpr call calls[] = {&call_receive<M, C>...};
     if (place >= sizeof...(M)) throw pup::error("a letter has a message of no type");
     calls[place](object, body, len, all);
@@ -297,6 +440,10 @@ public:
 };
 
 template <class C> class elements_of final : public elements {
+    static_assert(std::is_base_of<chare, C>::value, "a chare C is a struct C : tezgumi::chare");
+    static_assert(pup::detail::has_pup<C>::value, "the chare C has no public member void pup(tezgumi::pup::er &p)");
+    static_assert(std::is_default_constructible<C>::value, "the chare C is unpacked where it arrives, so it needs a constructor without arguments");
+
 public:
     elements_of(std::uint32_t pe, std::uint32_t pes, std::uint32_t n) : elements(pe, pes, n), all_(out), objects_(n) {}
 
@@ -313,13 +460,17 @@ public:
     void resume(std::uint32_t index, round r) override { call_resume(*objects_[index], r, all_); }
     bool restores() const override { return detail::restores<C>::value; }
     std::uint64_t size(std::uint32_t index) const override { return pup::size_of(*objects_[index]); }
-    void pack(std::uint32_t index, pup::er &p) override { p(*objects_[index]); }
+    void pack(std::uint32_t index, pup::er &p) override
+    {
+        p(*objects_[index], said_of::in(*objects_[index]).given);
+    }
     void unpack(std::uint32_t index, pup::er &p) override
     {
         auto object = std::make_unique<C>();
-        p(*object);
+        said so;
+        p(*object, so.given);
         if (p.left() != 0) throw pup::error("pup: bytes are left over");
-        said_of::in(*object) = said();
+        said_of::in(*object) = std::move(so);
         objects_[index] = std::move(object);
     }
     void remove(std::uint32_t index) override { objects_[index].reset(); }

@@ -2,7 +2,7 @@
 #ifndef TEZGUMI_CHARES_EVENTS_HPP
 #define TEZGUMI_CHARES_EVENTS_HPP
 
-#include "pe.hpp"
+#include "parcels.hpp"
 
 #include <cinttypes>
 #include <cstdio>

@@ -1,4 +1,4 @@
-// A PE of the library behind its handle, and parcels in batches. See tezgumi/chares.hpp.
+// A PE of the library behind its handle. See tezgumi/chares.hpp.
 #ifndef TEZGUMI_CHARES_PE_HPP
 #define TEZGUMI_CHARES_PE_HPP
 
@@ -53,6 +53,24 @@ inline fault fault_under_way(std::uint32_t pe) noexcept
         met.what.clear(); // there is no memory for words
     }
     return met;
+}
+
+// Runs what may throw what a program throws, for an element.
+template <class F> void guarded(std::uint32_t index, F &&run)
+{
+    try {
+        run();
+    } catch (const run_fault &met) {
+        throw run_fault(met.kind, met.what(), met.element == fault::no_element ? index : met.element);
+    } catch (const std::bad_alloc &) {
+        throw run_fault(fault_kind::memory, "memory was refused", index);
+    } catch (const stranger &met) {
+        throw run_fault(fault_kind::stranger, met.what(), index);
+    } catch (const std::exception &met) {
+        throw run_fault(fault_kind::handler, met.what(), index);
+    } catch (...) {
+        throw run_fault(fault_kind::handler, "an exception of a type that is not known", index);
+    }
 }
 
 // The handle of a PE, which is not copied.
@@ -131,116 +149,6 @@ private:
     tezgumi_pe pe_ = {nullptr, false};
     pup::bytes message_;
     std::uint8_t nothing_ = 0;
-};
-
-// A parcel: its message, as docs/RANKS.md has it, and what goes beside it, which is the object of an element or the long body of a letter.
-// What is read of a message here is its kind; of an element its index; of a letter who posted it, its number there, for whom it is, and its
-// body.
-struct parcel {
-    const std::uint8_t *message = nullptr, *beside = nullptr;
-    std::size_t len = 0, beside_len = 0;
-
-    static constexpr std::size_t index_at = 1, poster_at = 1, number_at = 5, receiver_at = 9, body_at = 21;
-    bool is_element() const { return len > 5 && message[0] == 1; }
-    bool is_letter() const { return len >= body_at && message[0] == 0; }
-    std::uint32_t element() const { return pup::detail::read_word<std::uint32_t>(message + index_at); }
-    std::uint32_t poster() const { return pup::detail::read_word<std::uint32_t>(message + poster_at); }
-    std::uint32_t number() const { return pup::detail::read_word<std::uint32_t>(message + number_at); }
-    std::uint32_t receiver() const { return pup::detail::read_word<std::uint32_t>(message + receiver_at); }
-    const std::uint8_t *body() const { return message + body_at; }
-    std::size_t body_len() const { return len - body_at; }
-    bool has_ticket() const { return is_letter() && body_len() == ticket_bytes && (*body() & beside_bit); }
-    ticket its_ticket() const { return ticket_in(body()); }
-};
-
-// Parcels on their way to one PE, and before them the last round that the sender knew.
-class batch {
-public:
-    batch() = default;
-    explicit batch(pup::bytes &&bytes) : bytes_(std::move(bytes)) {}
-
-    // Adds a parcel. A batch that leaves with so many bytes takes little more memory than that.
-    void add(const parcel &of, std::size_t leaves_with)
-    {
-        const std::size_t start = bytes_.empty() ? head : bytes_.size(), size = start + lengths + of.len + of.beside_len;
-        const std::size_t room = std::min(2 * bytes_.capacity(), leaves_with + 2048);
-        if (size > bytes_.capacity()) bytes_.reserve(std::max(size, room));
-        bytes_.resize(size);
-        std::uint8_t *to = bytes_.data() + start;
-        pup::detail::write_word<std::uint32_t>(to, static_cast<std::uint32_t>(of.len));
-        pup::detail::write_word<std::uint64_t>(to + 4, of.beside_len);
-        std::memcpy(to + lengths, of.message, of.len);
-        if (of.beside_len) std::memcpy(to + lengths + of.len, of.beside, of.beside_len);
-    }
-    // The next parcel, which stays where it is until the batch is changed.
-    bool front(parcel &next) const
-    {
-        if (at_ >= bytes_.size()) return false;
-        if (bytes_.size() - at_ < lengths) throw run_fault(fault_kind::mismatch, "a batch ends too early");
-        const std::uint8_t *from = bytes_.data() + at_;
-        const std::uint64_t len = pup::detail::read_word<std::uint32_t>(from), beside_len = pup::detail::read_word<std::uint64_t>(from + 4);
-        const std::uint64_t left = bytes_.size() - at_ - lengths;
-        if (len > left || beside_len > left - len) throw run_fault(fault_kind::mismatch, "a batch ends too early");
-        next.message = from + lengths;
-        next.len = static_cast<std::size_t>(len);
-        next.beside = next.message + next.len;
-        next.beside_len = static_cast<std::size_t>(beside_len);
-        return true;
-    }
-    // The parcel in front was taken.
-    void pop(const parcel &front) { at_ += lengths + front.len + front.beside_len; }
-    bool has_next() const { return at_ < bytes_.size(); }
-    bool is_empty() const { return bytes_.empty(); }
-    std::size_t size() const { return bytes_.size(); }
-    void clear()
-    {
-        bytes_.clear();
-        at_ = head;
-    }
-    // Before it is sent.
-    void stamp(std::uint32_t round) { pup::detail::write_word<std::uint32_t>(bytes_.data(), round); }
-    std::uint32_t round() const { return bytes_.size() < head ? 0 : pup::detail::read_word<std::uint32_t>(bytes_.data()); }
-    pup::bytes take()
-    {
-        pup::bytes given = std::move(bytes_);
-        clear();
-        return given;
-    }
-
-private:
-    static constexpr std::size_t head = 4, lengths = 12;
-    pup::bytes bytes_;
-    std::size_t at_ = head;
-};
-
-class event_log;
-
-// What carries batches between PEs, and has the board. Each PE has one.
-class link {
-public:
-    virtual ~link() = default;
-    // Where the events of this PE are written down, or nothing.
-    event_log *log = nullptr;
-    // Lets messages come in and go out. Whether something came.
-    virtual bool poll() = 0;
-    // Whether a batch is here, or a decision of a round after this one.
-    virtual bool has_news(std::uint32_t round) = 0;
-    // Whether a batch may be sent to this PE now; and sends it. Where that throws the bytes are as they were.
-    virtual bool may_send(std::uint32_t to) = 0;
-    virtual void send(std::uint32_t to, pup::bytes &&bytes) = 0;
-    // The next batch that came; and that it is used up.
-    virtual bool receive(std::uint32_t &from, pup::bytes &bytes) = 0;
-    virtual void took(std::uint32_t from) = 0;
-    // Gives notes to the board.
-    virtual void report(std::vector<note> &notes) = 0;
-    // The last decision, where it is of a round after this one.
-    virtual std::shared_ptr<const decision> decided(std::uint32_t after) = 0;
-    // Whether all are to end, and that this PE has met a fault, for which all end.
-    virtual bool ended() = 0;
-    virtual void fail(const fault &met) = 0;
-    // This PE had nothing to do in a turn, as of this round; or had something.
-    virtual void rest(std::uint32_t round) = 0;
-    virtual void wake() = 0;
 };
 
 } // namespace detail

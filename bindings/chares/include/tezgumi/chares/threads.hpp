@@ -24,22 +24,23 @@ public:
 
     // A batch is outstanding from when it is sent until it is used up.
     bool may_send(std::uint32_t from, std::uint32_t to) const { return boxes_[to]->outstanding[from].load() < std::max(how_.window, 1u); }
-    void send(std::uint32_t from, std::uint32_t to, pup::bytes &&bytes)
+    void send(std::uint32_t from, std::uint32_t to, batch &of)
     {
         box &at = *boxes_[to];
         const std::lock_guard<std::mutex> lock(at.mutex);
-        at.batches.emplace_back(from, std::move(bytes));
+        at.batches.emplace_back(from, batch());
+        std::swap(at.batches.back().second, of);
         at.outstanding[from]++;
         at.count++;
     }
-    bool receive(std::uint32_t me, std::uint32_t &from, pup::bytes &bytes)
+    bool receive(std::uint32_t me, std::uint32_t &from, batch &of)
     {
         box &at = *boxes_[me];
         if (at.count.load() == 0) return false;
         const std::lock_guard<std::mutex> lock(at.mutex);
         if (at.batches.empty()) return false;
         from = at.batches.front().first;
-        bytes = std::move(at.batches.front().second);
+        of = std::move(at.batches.front().second);
         at.batches.pop_front();
         at.count--;
         return true;
@@ -49,18 +50,24 @@ public:
 
     // ---- The board ----
 
+    // Hands in notes. One thread at a time takes them to the board, and decides; the others leave theirs to it, and go on. What takes long
+    // is done outside of the lock: a round is decided, then all are told of it, and then the program is.
     void report(const std::vector<note> &notes, event_log *log)
     {
-        const std::lock_guard<std::mutex> lock(mutex_);
-        for (const note &one : notes) board_.take(one);
-        if (board_.is_complete()) {
-            latest_ = std::make_shared<const decision>(board_.decide());
-            decided_ = latest_->round;
-            if (log) log->decide(latest_->round);
-            rounds_.push_back(board_.report());
-            tell(how_.on_round, rounds_.back());
+        std::vector<note> mine;
+        {
+            const std::lock_guard<std::mutex> lock(mutex_);
+            notes_.insert(notes_.end(), notes.begin(), notes.end());
+            if (is_deciding_) return;
+            is_deciding_ = true;
         }
-        if (board_.all_finished()) ended_ = true;
+        try {
+            while (take_notes(mine)) post(mine, log);
+        } catch (...) {
+            const std::lock_guard<std::mutex> lock(mutex_);
+            is_deciding_ = false;
+            throw;
+        }
     }
     std::shared_ptr<const decision> decided(std::uint32_t after)
     {
@@ -98,10 +105,10 @@ public:
         }
         if (asked_.load() == answered) return;
         const std::lock_guard<std::mutex> lock(mutex_);
-        if (decided_.load() != round || asked_.load() == answered) return;
+        if (is_deciding_ || decided_.load() != round || asked_.load() == answered) return;
         answered = asked_.load();
         if (!question_.answer(answered, sent, received) || ended_.load()) return;
-        fault_.kind = fault_kind::quiet;
+        board_.tell_quiet(fault_);
         ended_ = true;
     }
 
@@ -110,16 +117,45 @@ public:
     std::vector<round_report> &rounds() { return rounds_; }
 
 private:
+    // Takes the notes that were handed in, or ends, where there are none.
+    bool take_notes(std::vector<note> &mine)
+    {
+        const std::lock_guard<std::mutex> lock(mutex_);
+        mine.clear();
+        mine.swap(notes_);
+        if (mine.empty()) is_deciding_ = false;
+        return !mine.empty();
+    }
+    void post(const std::vector<note> &notes, event_log *log)
+    {
+        for (const note &one : notes) board_.take(one);
+        if (board_.is_complete()) {
+            auto next = std::make_shared<const decision>(board_.decide());
+            if (log) log->decide(next->round);
+            {
+                const std::lock_guard<std::mutex> lock(mutex_);
+                latest_ = std::move(next);
+                decided_ = latest_->round;
+                rounds_.push_back(board_.report());
+            }
+            board_.write();
+            tell(how_.on_round, board_.report());
+        }
+        if (board_.all_finished()) ended_ = true;
+    }
+
     struct box {
         explicit box(std::uint32_t pes) : outstanding(pes) {}
         std::mutex mutex;
-        std::deque<std::pair<std::uint32_t, pup::bytes>> batches;
+        std::deque<std::pair<std::uint32_t, batch>> batches;
         std::atomic<std::size_t> count{0};
         std::vector<std::atomic<std::uint32_t>> outstanding; // of each PE that sends here
     };
 
     const settings &how_;
-    std::mutex mutex_; // of all that follows but the queues
+    std::mutex mutex_; // of all that follows but the queues, and the board, which one thread has at a time
+    std::vector<note> notes_; // that the board has not taken
+    bool is_deciding_ = false; // whether a thread has the board
     board board_;
     std::vector<std::unique_ptr<box>> boxes_;
     std::shared_ptr<const decision> latest_;
@@ -139,14 +175,14 @@ public:
     bool poll() override { return false; }
     bool has_news(std::uint32_t round) override { return field_.has_news(me_, round); }
     bool may_send(std::uint32_t to) override { return field_.may_send(me_, to); }
-    void send(std::uint32_t to, pup::bytes &&bytes) override
+    void send(std::uint32_t to, batch &of) override
     {
-        field_.send(me_, to, std::move(bytes));
+        field_.send(me_, to, of);
         sent_++;
     }
-    bool receive(std::uint32_t &from, pup::bytes &bytes) override
+    bool receive(std::uint32_t &from, batch &of) override
     {
-        if (!field_.receive(me_, from, bytes)) return false;
+        if (!field_.receive(me_, from, of)) return false;
         received_++;
         return true;
     }

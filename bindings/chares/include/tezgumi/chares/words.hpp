@@ -19,8 +19,8 @@ using round = std::uint32_t;
 
 // By what the load of a handler is measured that does not name its work.
 enum class clock_kind {
-    cpu, // nanoseconds of processor time of its thread
-    wall, // nanoseconds
+    cpu, // nanoseconds of processor time of its thread, which takes two calls of the system
+    wall, // nanoseconds of time, also of that in which its thread waited for a processor
     none // nothing: a handler that names no work has none
 };
 
@@ -28,6 +28,7 @@ enum class clock_kind {
 struct round_report {
     tezgumi::round round = 0;
     bool balanced = true; // false: all stayed where they were
+    bool past_limit = false; // true: as in all rounds that come, since the run has had as many rounds as elements may move in
     std::uint64_t greatest = 0; // the greatest load of a PE in the round
     std::uint64_t total = 0; // the load of all
     std::uint64_t bottleneck = 0; // the greatest load of a PE as it was decided, for the same loads
@@ -37,17 +38,22 @@ struct round_report {
 // How a run goes. All PEs are given the same.
 struct settings {
     std::uint32_t pes = 1; // on how many PEs, each with a thread; under MPI there is one on each rank
-    clock_kind clock = clock_kind::cpu;
+    clock_kind clock = clock_kind::wall;
     std::uint32_t every = 1; // each so many rounds the elements are balanced, or never where it is 0
     bool within = false; // true: the fewest bytes move within the tolerance; false: the least greatest load
     std::uint32_t tolerance = 0; // in thousandths of the least greatest load
     std::string dumps; // where it is not empty: each round that is balanced is dumped to this name, a dot and the round
     std::string events; // where it is not empty: each PE writes its events to this name, a dot and its number
-    std::size_t batch = 64 * 1024; // a message between PEs is sent once it has so many bytes, or nothing else is to do
-    std::uint32_t window = 4; // so many messages a PE sends to another before that one has used one up
-    std::size_t backlog = 16 * 1024 * 1024; // a PE that cannot get rid of so many bytes runs no handler until it can
+    // A message between PEs is sent once it has so many bytes, 1 to 2^30, or nothing else is to do, or a handler took long.
+    std::size_t batch = 64 * 1024;
+    std::uint32_t window = 4; // so many messages, 1 to 2^20, a PE sends to another before that one has used one up
+    // Where a PE cannot get rid of so many bytes, 0 to 2^40, elements that go on adding to those for a slow PE are held back.
+    std::size_t backlog = 16 * 1024 * 1024;
     std::uint32_t quiet = 20; // after so many milliseconds without anything to do it is asked whether all PEs have nothing
+    bool moves_all = false; // for tests: in each round every element goes to the next PE, and on one PE it is packed and unpacked anew
     std::function<void(const round_report &)> on_round; // after each round, on the PE or the rank that decides
+    // A handler ended by an exception, and its element was restored: which element, and the text of the exception. On the PE's own thread.
+    std::function<void(std::uint32_t element, const std::string &what)> on_failed;
     std::function<void(std::uint32_t pe)> on_turn; // before each turn of a PE, on its own thread; for tests
 };
 
@@ -121,7 +127,8 @@ public:
     contribution() = default;
     template <class T> contribution(fold how, const T *values, std::size_t count) : how_(how), kind_(kind_of<T>()), bits_(count)
     {
-        for (std::size_t i = 0; i < count; i++) bits_[i] = pup::detail::bits_of(wide(values[i]));
+        must_be_number<T>();
+        for (std::size_t i = 0; i < count; i++) bits_[i] = pup::detail::bits_of(static_cast<wide<T>>(values[i]));
     }
 
     bool is_there() const { return how_ != fold::none; }
@@ -141,34 +148,35 @@ public:
         for (std::size_t i = 0; i < bits_.size(); i++) bits_[i] = joined(bits_[i], other.bits_[i]);
     }
 
-    // The values, which are of this type. A sum of int or unsigned may be past that type: ask for 64 bits then.
+    // The values, as this type. A sum of int or unsigned may be past that type: ask for 64 bits then.
     template <class T> std::vector<T> values() const
     {
-        using wide_type = decltype(wide(T()));
+        must_be_number<T>();
         if (!is_there() || kind_ != kind_of<T>()) throw std::logic_error("no contribution of this type came");
         std::vector<T> found(bits_.size());
-        for (std::size_t i = 0; i < bits_.size(); i++) {
-            wide_type number;
-            std::memcpy(&number, &bits_[i], sizeof number);
-            found[i] = static_cast<T>(number);
-            if constexpr (std::is_integral<T>::value) {
-                if (static_cast<wide_type>(found[i]) != number) throw std::range_error("a contribution is past the type that is asked for");
+        if constexpr (std::is_arithmetic<T>::value) {
+            for (std::size_t i = 0; i < bits_.size(); i++) {
+                const auto number = as<wide<T>>(bits_[i]);
+                found[i] = static_cast<T>(number);
+                if (std::is_integral<T>::value && static_cast<wide<T>>(found[i]) != number) {
+                    throw std::range_error("a contribution is past the type that is asked for");
+                }
             }
         }
         return found;
     }
 
 private:
-    static double wide(double x) { return x; }
-    static std::int64_t wide(std::int64_t x) { return x; }
-    static std::uint64_t wide(std::uint64_t x) { return x; }
-    static std::int64_t wide(int x) { return x; }
-    static std::uint64_t wide(unsigned x) { return x; }
+    // Numbers are folded as a double, or in 64 bits.
+    template <class T>
+    using wide = typename std::conditional<std::is_floating_point<T>::value, double,
+        typename std::conditional<std::is_signed<T>::value, std::int64_t, std::uint64_t>::type>::type;
+    template <class T> static constexpr void must_be_number()
+    {
+        static_assert(std::is_arithmetic<T>::value && sizeof(T) <= 8, "contributions are numbers of up to 64 bits: whole ones, float or double");
+    }
     template <class T> static constexpr kind kind_of()
     {
-        static_assert(std::is_same<T, double>::value || std::is_same<T, int>::value || std::is_same<T, unsigned>::value ||
-                          std::is_same<T, std::int64_t>::value || std::is_same<T, std::uint64_t>::value,
-            "contributions are of double, int, unsigned, std::int64_t or std::uint64_t");
         if (std::is_floating_point<T>::value) return kind::f64;
         return std::is_signed<T>::value ? kind::i64 : kind::u64;
     }
@@ -211,6 +219,9 @@ private:
     std::vector<std::uint64_t> bits_;
 };
 
+// What an element contributes to a round, in order.
+using contributions = std::vector<contribution>;
+
 template <class T> contribution sum(T value) { return contribution(contribution::fold::sum, &value, 1); }
 template <class T> contribution least(T value) { return contribution(contribution::fold::least, &value, 1); }
 template <class T> contribution greatest(T value) { return contribution(contribution::fold::greatest, &value, 1); }
@@ -226,8 +237,8 @@ namespace detail {
 // A fault on its way to the end of a run.
 class run_fault : public std::runtime_error {
 public:
-    run_fault(fault_kind kind, const std::string &what, std::uint32_t element = fault::no_element)
-        : std::runtime_error(what), kind(kind), element(element)
+    run_fault(fault_kind of, const std::string &what, std::uint32_t met_by = fault::no_element)
+        : std::runtime_error(what), kind(of), element(met_by)
     {
     }
     fault_kind kind;
@@ -235,11 +246,11 @@ public:
 };
 
 // Tells a function of the program. What that throws is a fault of the run.
-template <class T> void tell(const std::function<void(T)> &of, const typename std::decay<T>::type &what)
+template <class... T> void tell(const std::function<void(T...)> &of, const typename std::decay<T>::type &...what)
 {
     if (!of) return;
     try {
-        of(what);
+        of(what...);
     } catch (const std::exception &met) {
         throw run_fault(fault_kind::handler, met.what());
     } catch (...) {
@@ -252,7 +263,7 @@ struct note {
     bool finished = false;
     std::uint32_t index = 0, round = 0, pe = 0;
     std::uint64_t load = 0, bytes = 0;
-    contribution given;
+    contributions given;
 
     void pup(pup::er &p) { p(finished, index, round, pe, load, bytes, given); }
 };
@@ -261,9 +272,9 @@ struct note {
 struct decision {
     std::uint32_t round = 0;
     std::vector<std::uint32_t> cuts, names;
-    contribution result;
+    contributions results;
 
-    void pup(pup::er &p) { p(round, cuts, names, result); }
+    void pup(pup::er &p) { p(round, cuts, names, results); }
 };
 
 } // namespace detail

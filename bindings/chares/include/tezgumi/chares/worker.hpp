@@ -2,34 +2,25 @@
 #ifndef TEZGUMI_CHARES_WORKER_HPP
 #define TEZGUMI_CHARES_WORKER_HPP
 
+#include "bodies.hpp"
 #include "events.hpp"
+#include "waiting.hpp"
+#include "work_clock.hpp"
 
-#include <time.h>
-
-#include <algorithm>
-#include <chrono>
-#include <deque>
-#include <exception>
-#include <map>
 #include <thread>
 
 namespace tezgumi {
 namespace detail {
 
-// A batch that came, or one of this PE to itself.
-struct arrival {
-    std::uint32_t from = 0;
-    batch parcels;
-};
-
 class worker {
 public:
     worker(link &carrier, const settings &how, elements &objects)
-        : link_(carrier), how_(how), objects_(objects), out_(objects.out), me_(out_.pe), pes_(out_.pes), n_(out_.n), room_(n_), pending_(pes_),
-          ready_(pes_), places_(n_)
+        : link_(carrier), how_(how), objects_(objects), out_(objects.out), me_(out_.pe), pes_(out_.pes), n_(out_.n), room_(n_), outbound_(how, pes_),
+          held_own_(how.batch), held_others_(how.batch), bodiless_(how.batch), clock_(how.clock), bodies_(pes_), places_(n_)
     {
-        out_.held = &besides_;
-        out_.result = &nothing_;
+        own_.from = me_;
+        out_.held = &bodies_.all();
+        out_.results = &nothing_;
         for (std::uint32_t i = 0; i < n_; i++) places_[i] = opening_place(i);
     }
 
@@ -43,11 +34,11 @@ public:
         }
         while (!link_.ended()) {
             try {
-                tell(how_.on_turn, me_);
                 if (has_failed_) {
                     link_.poll();
                     rest(false);
                 } else {
+                    tell(how_.on_turn, me_);
                     turn();
                     if (log_) log_->check();
                 }
@@ -69,8 +60,8 @@ public:
             lost = std::current_exception();
         }
         leave_batches();
-        for (auto &one : leaving_) leave_element(one.first, one.second.data(), one.second.size());
-        if (hand_element_ != fault::no_element) leave_element(hand_element_, hand_beside_.data(), hand_beside_.size());
+        for (auto &one : leaving_) leave_element(one.first, one.second->data(), one.second->size());
+        if (hand_element_ != fault::no_element) leave_element(hand_element_, hand_object_->data(), hand_object_->size());
         held_ += inside_ - gone_ - executed_;
         letters.add(account{posted_, executed_, held_, failed_});
         if (missed_) std::rethrow_exception(missed_);
@@ -82,12 +73,16 @@ private:
     struct slot {
         bool waits = false, finished = false;
         std::uint32_t round = 0, waits_for = 0;
+        std::uint32_t adds_to = nobody; // the PE to which it went on adding letters, where those were over the limit
         std::uint64_t bytes = 0;
-        contribution given;
+        contributions given;
     };
 
     static constexpr int steps_a_turn = 64;
+    static constexpr std::uint32_t nobody = UINT32_MAX;
     static constexpr std::uint64_t unknown = UINT64_MAX;
+    static constexpr std::size_t copied_extra = 16 * 1024; // shorter bytes beside parcels are copied into batches
+    static constexpr std::chrono::microseconds long_turn{200};
 
     std::uint32_t opening_place(std::uint32_t i) const { return static_cast<std::uint32_t>(std::uint64_t(i) * pes_ / n_); }
 
@@ -114,6 +109,7 @@ private:
 
     // ---- A turn ----
 
+    // A turn ends once it is long. What its handlers sent leaves then, at once.
     void turn()
     {
         bool busy = link_.poll();
@@ -123,90 +119,144 @@ private:
             adopt(*next);
             busy = true;
         }
-        const int gate = gate_now();
-        if (gate == 0 || round_ == 0) busy = go_on() || busy;
-        // A turn ends early where the PE is to be held back further.
-        for (int i = 0; i < steps_a_turn && gate_now() <= gate && step(gate); i++) {
-            busy = true;
-            if (grace_ > 0 && --grace_ == 0) break;
-        }
+        turn_began_ = clock_.look();
+        busy = go_on() || busy;
+        for (int i = 0; i < steps_a_turn && (i == 0 || !is_long()) && step(); i++) busy = true;
         empty_outbox();
         busy = report() || busy;
         busy = flush(!busy) || busy;
-        if (busy) {
-            wake();
-            return;
-        }
-        if (gate == 2) ungate();
+        give_way(busy);
+        if (busy) return wake();
         rest(has_nothing());
     }
+    bool is_long() const { return clock_.now() - turn_began_ >= long_turn; }
     // Whether all that this PE could do takes a message that comes. What it sends to itself it has taken in before it looks.
-    bool has_nothing() const { return backlog_ == 0 && due_.empty() && later_.empty() && !has_hand_; }
-
-    // How far the PE is held back: 1, where it cannot get rid of its letters, and runs only handlers for letters of others; 2, where
-    // that is not enough, and it runs none.
-    int gate_now() const
+    bool has_nothing() const
     {
-        if (backlog_ <= how_.backlog) return 0;
-        return backlog_ <= 2 * how_.backlog || grace_ > 0 ? 1 : 2;
+        const bool none_waits = revived_.empty() && held_own_.is_empty() && held_others_.is_empty();
+        return outbound_.total() == 0 && due_.empty() && later_.empty() && !has_hand_ && none_waits;
     }
-    // PEs that hold back each other would wait for ever. So after a while a PE that runs no handler, and for which letters of others
-    // wait, runs some of these. One for which none wait holds back nobody.
-    void ungate()
+    // Sends what is ready, or all, where nothing else is to do, the turn was long, or some has waited for long.
+    bool flush(bool all)
     {
-        if (!has_inbox_ && !has_hand_) has_inbox_ = next_inbox();
-        if (!has_inbox_) return;
-        const auto now = std::chrono::steady_clock::now();
+        if (outbound_.total() == 0) return false;
+        all = all || is_long() || clock_.now() - oldest_ >= long_turn;
+        if (!outbound_.flush(link_, round_, all)) return false;
+        if (all) oldest_ = clock_.now();
+        return true;
+    }
+    // PEs that hold back letters for each other would wait for ever. So after a while a PE that does nothing, and holds back letters of
+    // others, runs some of these; and one that goes on with its own runs one now and then.
+    void give_way(bool busy)
+    {
+        if (busy) is_stalled_ = false;
+        if (held_others_.is_empty()) is_kept_ = false;
+        if (held_others_.is_empty()) return;
+        const auto now = clock_.look();
+        if (!is_kept_) kept_since_ = now;
+        is_kept_ = true;
+        if (busy) {
+            if (now - kept_since_ <= std::chrono::milliseconds(100)) return;
+            grace_ = 1;
+            is_kept_ = false;
+            return;
+        }
         if (is_stalled_ && now - stalled_since_ > std::chrono::milliseconds(1)) grace_ = steps_a_turn;
         if (!is_stalled_) stalled_since_ = now;
         is_stalled_ = grace_ == 0;
     }
 
     // One parcel further. Whether anything was done.
-    bool step(int gate)
+    bool step()
     {
-        if (!has_hand_ && !fetch(gate)) return false;
+        if (!has_hand_ && !fetch()) return false;
         const bool did = act();
         empty_outbox();
         return did;
     }
 
-    // Takes the next parcel into the hand: in turn one of another PE, and one of its own.
-    bool fetch(int gate)
+    // ---- What comes next ----
+
+    // Takes the next parcel into the hand: one that waited, or in turn one of another PE, and one of its own.
+    bool fetch()
     {
-        if (gate >= 2) return false;
+        if (fetch_waiting()) return true;
         others_first_ = !others_first_;
-        if (others_first_ || gate == 1) return fetch_other() || (gate == 0 && fetch_own());
-        return fetch_own() || fetch_other();
+        if (others_first_ ? fetch_other() || fetch_own() : fetch_own() || fetch_other()) return true;
+        return !revived_.empty() && fetch_waiting();
+    }
+    bool fetch_waiting()
+    {
+        while (!revived_.empty()) {
+            const bool is_taken = take_front(revived_.front(), 2);
+            if (!revived_.front().parcels.has_next()) {
+                spent_ = std::move(revived_.front());
+                revived_.pop_front();
+            }
+            if (is_taken) return true;
+        }
+        if (grace_ > 0) {
+            grace_--;
+            if (fetch_held(held_others_, 0)) return true;
+        }
+        if (fetch_held(held_others_, 2)) {
+            is_kept_ = false;
+            return true;
+        }
+        return fetch_held(held_own_, 1);
+    }
+    // One of the letters that were held back, for elements of which a PE gets what it may. With 0 times the limit there is none.
+    bool fetch_held(held_letters &from, std::size_t times)
+    {
+        while (!from.is_empty()) {
+            arrival *const next = from.first([&](std::uint32_t on) { return times == 0 || !outbound_.is_over(on, times); });
+            if (!next) return false;
+            const bool is_taken = take_front(*next, times);
+            if (!next->parcels.has_next()) {
+                spent_ = from.take_first();
+                used_up(spent_);
+            }
+            if (is_taken) return true;
+        }
+        return false;
     }
     bool fetch_own()
     {
-        if (!own_.has_next()) {
-            own_.clear();
+        for (;;) {
+            if (own_.parcels.has_next()) {
+                if (take_front(own_, 1)) return true;
+                continue;
+            }
+            own_.parcels.clear();
             if (own_ready_.empty()) {
-                std::swap(own_, own_next_);
+                if (own_next_.is_empty()) return false;
+                std::swap(own_.parcels, own_next_);
             } else {
-                own_ = std::move(own_ready_.front());
+                own_.parcels = std::move(own_ready_.front());
                 own_ready_.pop_front();
             }
         }
-        return fetch_from(own_, me_);
     }
     bool fetch_other()
     {
-        if (!has_inbox_) has_inbox_ = next_inbox();
-        if (!has_inbox_) return false;
-        if (fetch_from(inbox_.parcels, inbox_.from)) {
-            if (!inbox_.parcels.has_next()) end_inbox();
-            return true;
+        for (;;) {
+            if (!has_inbox_) has_inbox_ = next_inbox();
+            if (!has_inbox_) return false;
+            const bool is_taken = inbox_.parcels.has_next() && take_front(inbox_, 2);
+            if (!inbox_.parcels.has_next()) {
+                has_inbox_ = false;
+                used_up(inbox_);
+            }
+            if (is_taken) return true;
         }
-        end_inbox();
-        return false;
     }
-    void end_inbox()
+    // A batch is used up, or this part of one; with the last part the batch is.
+    void used_up(arrival &of)
     {
-        has_inbox_ = false;
-        link_.took(inbox_.from);
+        const bool is_last = of.owed ? --of.owed->parts == 0 : of.is_whole;
+        of.owed.reset();
+        of.is_whole = false;
+        if (is_last) link_.took(of.from);
     }
     // The next batch whose sender knew no later round than this PE does. One of a later round is kept, until this PE knows that round
     // too: so a letter never comes to a PE that would send it back.
@@ -218,40 +268,76 @@ private:
             later_.erase(at);
             return true;
         }
-        pup::bytes bytes;
         for (;;) {
             later_.reserve(later_.size() + 1); // so that what was received is not lost
-            if (!link_.receive(inbox_.from, bytes)) return false;
-            inbox_.parcels = batch(std::move(bytes));
+            inbox_ = arrival();
+            if (!link_.receive(inbox_.from, inbox_.parcels)) return false;
+            inbox_.is_whole = true;
             if (inbox_.parcels.round() <= round_) return true;
             later_.push_back(std::move(inbox_));
-            inbox_ = arrival();
         }
     }
-    bool fetch_from(batch &of, std::uint32_t from)
+
+    // Takes the parcel in front of these into the hand, or puts it where it waits. Whether it is in the hand.
+    bool take_front(arrival &of, std::size_t times)
     {
         parcel next;
-        if (!of.front(next)) return false;
-        take_in(next);
-        if (log_) log_->deliver(from, next);
-        of.pop(next);
+        if (!of.parcels.front(next)) return false;
+        const bool waits = put_aside(of, next, times);
+        if (!waits) {
+            take_in(next);
+            if (log_) log_->deliver(of.from, next);
+        }
+        of.parcels.pop(next);
+        return !waits;
+    }
+    // A body that letters name is taken in. A letter waits for its body, or where its element goes on adding letters for a PE that has
+    // more of them to come than so many times the limit.
+    bool put_aside(arrival &of, const parcel &next, std::size_t times)
+    {
+        if (next.is_body()) {
+            bodies_.take(me_, next, [this](std::uint32_t to, parcel &more, const beside &body) { put(to, more, body); });
+            for (arrival &one : bodiless_.take(next.its_ticket())) revived_.push_back(std::move(one));
+            return true;
+        }
+        if (!next.is_letter()) return false;
+        if (next.has_ticket() && next.its_ticket().is_shared() && !bodies_.has(next.its_ticket())) {
+            arrival alone;
+            alone.from = of.from;
+            bodiless_.add(next.its_ticket(), alone, next);
+            return true;
+        }
+        const std::uint32_t on = times == 0 ? nobody : held_on(next.receiver(), times);
+        if (on == nobody) return false;
+        if (times == 1) {
+            held_own_.add(on, of, next);
+            return true;
+        }
+        if (of.is_whole && !of.owed) of.owed = std::make_shared<credit>();
+        held_others_.add(on, of, next);
         return true;
+    }
+    // The PE for which this element is held back, with so many times the limit.
+    std::uint32_t held_on(std::uint32_t index, std::size_t times) const
+    {
+        if (index >= n_ || !room_[index]) return nobody;
+        const std::uint32_t on = room_[index]->adds_to;
+        return on != nobody && outbound_.is_over(on, times) ? on : nobody;
     }
     // Takes a parcel into the hand.
     void take_in(const parcel &next)
     {
         if (next.is_element()) {
-            hand_beside_.assign(next.beside, next.beside + next.beside_len);
+            hand_object_ = next.kept();
             pe_->receive(next.message, next.len);
             hand_element_ = next.element();
         } else {
             if (!next.is_letter()) throw run_fault(fault_kind::mismatch, "a message that is no parcel came");
-            if (next.has_ticket()) {
-                besides_.emplace(next.its_ticket(), std::make_shared<const pup::bytes>(next.beside, next.beside + next.beside_len));
-            }
+            if (next.has_ticket() && next.has_extra()) bodies_.put(next.its_ticket(), next.kept(), 1);
             pe_->receive(next.message, next.len);
             inside_++;
             hand_letter_ = next; // it stays in its batch until the next parcel is fetched
+            hand_letter_.attached.reset();
         }
         has_hand_ = true;
     }
@@ -271,8 +357,9 @@ private:
         add_to_outbox(unknown); // the letter is forwarded, or letters that waited for the element go on
         has_hand_ = false;
         if (hand_element_ == fault::no_element) return true;
-        install(hand_element_, hand_beside_.data(), hand_beside_.size());
+        install(hand_element_, hand_object_->data(), hand_object_->size());
         hand_element_ = fault::no_element;
+        hand_object_.reset();
         return true;
     }
 
@@ -293,10 +380,14 @@ private:
         }
     }
 
-    // Gives up what may leave the outbox, in which are so many parcels, or nobody knows how many.
+    // Gives up what may leave the outbox, in which are so many parcels, or nobody knows how many. Bodies that several letters name follow.
     void empty_outbox()
     {
-        if (in_outbox_ == 0) return;
+        if (in_outbox_ != 0) give_up();
+        if (bodies_.has_leaving()) bodies_.follow([this](std::uint32_t to, parcel &next, const beside &body) { put(to, next, body); });
+    }
+    void give_up()
+    {
         std::uint32_t to = 0, index = 0;
         parcel next;
         // The letters of the last handler alone: for whom they are is known.
@@ -336,115 +427,62 @@ private:
             leaving_.erase(at);
             return;
         }
-        if (next.has_ticket()) {
-            const auto at = besides_.find(next.its_ticket());
-            if (at == besides_.end()) throw run_fault(fault_kind::mismatch, "the body of a letter is not there");
-            put(to, next, *at->second);
-            besides_.erase(at);
+        // The body of a letter to this PE stays where it is.
+        if (to == me_ || !next.has_ticket()) return put(to, next, nullptr);
+        const ticket its = next.its_ticket();
+        if (its.is_shared()) {
+            bodies_.leaves(its, to);
+            return put(to, next, nullptr);
+        }
+        put(to, next, bodies_.look(its));
+        bodies_.drop(its, 1);
+    }
+    // Puts a parcel, and what goes beside it, into the batch for this PE.
+    void put(std::uint32_t to, parcel &next, const beside &extra)
+    {
+        next.attached = extra && extra->size() >= copied_extra ? extra : nullptr;
+        next.extra = extra ? extra->data() : nullptr;
+        next.extra_len = extra && !next.attached ? extra->size() : 0;
+        if (to == me_) {
+            if (own_next_.size() >= how_.batch) {
+                own_ready_.emplace_back();
+                std::swap(own_ready_.back(), own_next_);
+            }
+            own_next_.add(next, how_.batch);
         } else {
-            put(to, next, pup::bytes());
+            if (outbound_.total() == 0) oldest_ = clock_.now();
+            outbound_.add(to, next);
         }
-    }
-    // Puts a parcel into the batch for this PE, and that with those that are ready, once it is long enough.
-    void put(std::uint32_t to, parcel &next, const pup::bytes &beside)
-    {
-        next.beside = beside.data();
-        next.beside_len = beside.size();
-        batch &onto = to == me_ ? own_next_ : pending_[to];
-        const std::size_t before = onto.size();
-        onto.add(next, how_.batch);
-        if (!next.is_element()) gone_++;
-        if (to != me_) {
-            if (backlog_ == 0) oldest_ = std::chrono::steady_clock::now();
-            backlog_ += onto.size() - before;
-        }
-        if (onto.size() < how_.batch) return;
-        (to == me_ ? own_ready_ : ready_[to]).push_back(std::move(onto));
-        onto.clear();
-    }
-
-    // Sends what is ready, and, where nothing else is to do or it has waited for long, what is pending.
-    bool flush(bool all)
-    {
-        bool did = false;
-        if (backlog_ == 0) return false;
-        for (std::uint32_t to = 0; to < pes_; to++) {
-            if (all && !pending_[to].is_empty() && ready_[to].empty()) {
-                ready_[to].push_back(std::move(pending_[to]));
-                pending_[to].clear();
-            }
-            while (!ready_[to].empty() && link_.may_send(to)) {
-                batch &front = ready_[to].front();
-                front.stamp(round_);
-                const std::size_t size = front.size();
-                pup::bytes bytes = front.take();
-                try {
-                    link_.send(to, std::move(bytes));
-                } catch (...) {
-                    front = batch(std::move(bytes));
-                    throw;
-                }
-                ready_[to].pop_front();
-                backlog_ -= size;
-                is_stalled_ = false;
-                did = true;
-            }
-        }
-        return did;
+        if (next.is_letter()) gone_++;
     }
 
     // ---- Handlers ----
 
-    // Runs what may throw what a program throws, for an element.
-    template <class F> static void guarded(std::uint32_t index, F &&run)
-    {
-        try {
-            run();
-        } catch (const run_fault &met) {
-            throw run_fault(met.kind, met.what(), met.element == fault::no_element ? index : met.element);
-        } catch (const std::bad_alloc &) {
-            throw run_fault(fault_kind::memory, "memory was refused", index);
-        } catch (const stranger &met) {
-            throw run_fault(fault_kind::stranger, met.what(), index);
-        } catch (const std::exception &met) {
-            throw run_fault(fault_kind::handler, met.what(), index);
-        } catch (...) {
-            throw run_fault(fault_kind::handler, "an exception of a type that is not known", index);
-        }
-    }
-
-    std::uint64_t clock_now() const
-    {
-        if (how_.clock == clock_kind::none) return 0;
-        timespec now;
-        clock_gettime(how_.clock == clock_kind::cpu ? CLOCK_THREAD_CPUTIME_ID : CLOCK_MONOTONIC, &now);
-        return static_cast<std::uint64_t>(now.tv_sec) * 1000000000u + static_cast<std::uint64_t>(now.tv_nsec);
-    }
-
     // Runs a handler, which makes its answer. Where it ends by an exception, the element is as it was, if it asks for that by `restores`,
-    // and the answer is empty; otherwise that is a fault.
-    template <class F> void handle(std::uint32_t index, slot &at, F &&handler)
+    // and the answer is empty; otherwise that is a fault. Want of memory is a fault in any case.
+    template <class F> void handle(std::uint32_t index, slot &at, std::size_t kind, F &&handler)
     {
-        objects_.said_by(index) = said();
+        objects_.said_by(index).begin();
         if (objects_.restores()) {
             copy_.clear();
             pup::er p(copy_);
             guarded(index, [&] { objects_.pack(index, p); });
         }
         out_.begin(index);
-        const std::uint64_t start = clock_now();
+        clock_.start(kind);
         try {
             guarded(index, handler);
-        } catch (const run_fault &) {
-            if (!objects_.restores()) throw;
+        } catch (const run_fault &met) {
+            if (!objects_.restores() || met.kind == fault_kind::memory) throw;
             pup::er p(copy_.data(), copy_.size());
             guarded(index, [&] { objects_.unpack(index, p); });
             out_.begin(index);
             failed_++;
+            tell(how_.on_failed, index, std::string(met.what()));
         }
-        const std::uint64_t end = clock_now();
-        const said &so = objects_.said_by(index);
-        const std::uint64_t units = so.named ? so.units : end - start;
+        said &so = objects_.said_by(index);
+        so.end(at.waits);
+        const std::uint64_t measured = clock_.end(so.named), units = so.named ? so.units : measured;
         if (so.at_sync && !at.waits) guarded(index, [&] { at.bytes = objects_.size(index); });
         out_.end(units, so.at_sync, so.finished, at.bytes);
     }
@@ -452,25 +490,33 @@ private:
     // The answer was taken: what the element said holds.
     void handled(std::uint32_t index, slot &at)
     {
-        const said &so = objects_.said_by(index);
+        said &so = objects_.said_by(index);
         out_.taken();
         posted_ += out_.letters;
         inside_ += out_.letters;
         add_to_outbox(out_.letters, true);
+        mark(at);
         if (so.finished) {
             at.finished = true;
         } else if (so.at_sync && !at.waits && !at.finished) {
             at.waits = true;
             at.waits_for = at.round + 1;
-            at.given = so.given;
+            at.given = std::move(so.given);
+            so.given.clear();
             waiting_.push_back(index);
         }
-        if (backlog_ == 0) return;
-        const auto now = std::chrono::steady_clock::now();
-        if (now - oldest_ <= std::chrono::microseconds(200)) return;
-        empty_outbox();
-        flush(true);
-        oldest_ = now;
+    }
+    // Whether the handler that was run last went on adding letters for a PE that has too many to come, or no longer does.
+    void mark(slot &at) const
+    {
+        if (at.adds_to == nobody && outbound_.total() <= how_.backlog) return;
+        std::uint32_t adds_to = nobody;
+        for (std::uint32_t to : out_.receivers) {
+            const std::uint32_t pe = room_[to] ? me_ : places_[to];
+            if (pe == at.adds_to) return;
+            if (adds_to == nobody && pe != me_ && outbound_.is_over(pe, 1)) adds_to = pe;
+        }
+        at.adds_to = adds_to;
     }
 
     void execute(std::uint32_t index, const std::uint8_t *body, std::size_t len)
@@ -480,12 +526,11 @@ private:
         const std::uint8_t place = body[0];
         beside longer;
         if (place & beside_bit) {
-            const auto one = len == ticket_bytes ? besides_.find(ticket_in(body)) : besides_.end();
-            if (one == besides_.end()) throw run_fault(fault_kind::mismatch, "the body of a letter is not there", index);
-            longer = one->second;
-            besides_.erase(one);
+            if (len != ticket_bytes) throw run_fault(fault_kind::mismatch, "the ticket of a letter has another length", index);
+            longer = bodies_.look(ticket_in(body));
+            bodies_.drop(ticket_in(body), 1);
         }
-        handle(index, at, [&] {
+        handle(index, at, place & 0x7f, [&] {
             objects_.receive(index, place & 0x7f, longer ? longer->data() : body + 1, longer ? longer->size() : len - 1);
         });
         pe_->execute(index, out_.answer);
@@ -496,15 +541,15 @@ private:
 
     void resume(std::uint32_t index, slot &at)
     {
-        out_.result = round_ == 0 ? &nothing_ : &result_;
+        out_.results = round_ == 0 ? &nothing_ : &results_;
         at.waits = false;
         at.round = round_;
-        handle(index, at, [&] { objects_.resume(index, round_); });
+        handle(index, at, work_clock::resumption, [&] { objects_.resume(index, round_); });
         pe_->resume(index, round_, out_.answer);
         if (log_ && round_ == 0) log_->start(index);
         if (log_ && round_ != 0) log_->resume(index, round_);
         handled(index, at);
-        out_.result = &nothing_;
+        out_.results = &nothing_;
     }
 
     // ---- Rounds ----
@@ -518,7 +563,7 @@ private:
             for (std::uint32_t i = next.cuts[b]; i < next.cuts[b + 1]; i++) places_[i] = next.names[b];
         }
         round_ = next.round;
-        result_ = next.result;
+        results_ = next.results;
         std::sort(waiting_.begin(), waiting_.end());
         // Those that leave go first, and letters of the others then follow them.
         std::size_t staying = 0;
@@ -534,35 +579,50 @@ private:
         waiting_.clear();
     }
 
-    // Starts elements, or lets those go on that a decision was made for: they are resumed here, or depart.
+    // Starts elements, or lets those go on that a decision was made for: they are resumed here, or depart. One that is held back is
+    // passed over. One that departs takes no more memory than it had.
     bool go_on()
     {
         bool did = false;
-        for (int i = 0; i < steps_a_turn && !due_.empty() && (gate_now() == 0 || round_ == 0); i++) {
+        std::size_t left = std::min<std::size_t>(due_.size(), steps_a_turn);
+        for (; left != 0 && !(did && is_long()); left--) {
             const std::uint32_t index = due_.front();
-            due_.pop_front();
-            did = true;
             slot &at = here(index);
-            if (places_[index] == me_) {
-                resume(index, at);
-            } else {
+            due_.pop_front();
+            if (places_[index] != me_) {
                 depart(index, at);
+            } else if (round_ != 0 && held_on(index, 1) != nobody) {
+                due_.push_back(index);
+                continue;
+            } else {
+                if (how_.moves_all && pes_ == 1 && round_ > 0) make_anew(index);
+                resume(index, at);
             }
+            did = true;
             empty_outbox();
         }
         return did;
     }
+    // Packs an element and unpacks it where it is, as a move to another PE would.
+    void make_anew(std::uint32_t index)
+    {
+        copy_.clear();
+        pup::er packer(copy_);
+        guarded(index, [&] { objects_.pack(index, packer); });
+        pup::er unpacker(copy_.data(), copy_.size());
+        guarded(index, [&] { objects_.unpack(index, unpacker); });
+    }
     void depart(std::uint32_t index, slot &at)
     {
-        pup::bytes packed;
-        pup::er p(packed);
-        p(at.finished, at.waits_for);
+        const auto packed = std::make_shared<pup::bytes>();
+        pup::er p(*packed);
+        p(index, at.finished, at.waits_for);
         guarded(index, [&] { objects_.pack(index, p); });
-        if (packed.size() > longest_beside) throw run_fault(fault_kind::toolong, "an element packs into more than 2^30 bytes", index);
+        if (packed->size() > longest_beside) throw run_fault(fault_kind::toolong, "an element packs into more than 2^30 bytes", index);
         pe_->depart(index, places_[index]);
         if (log_) log_->depart(index, places_[index], round_);
         add_to_outbox(1);
-        leaving_.emplace(index, std::move(packed));
+        leaving_.emplace(index, packed);
         room_[index].reset();
         objects_.remove(index);
     }
@@ -571,9 +631,11 @@ private:
     {
         if (index >= n_) throw run_fault(fault_kind::mismatch, "an element came that is not there");
         slot at;
+        std::uint32_t packed_index = 0;
         pup::er p(from, len);
         guarded(index, [&] {
-            p(at.finished, at.waits_for);
+            p(packed_index, at.finished, at.waits_for);
+            if (packed_index != index) throw run_fault(fault_kind::mismatch, "an element came with the object of another");
             objects_.unpack(index, p);
         });
         at.waits = true;
@@ -595,7 +657,7 @@ private:
         while (pe_->next_note(owed)) {
             owed.pe = me_;
             owed.bytes = 0;
-            owed.given = contribution();
+            owed.given.clear();
             if (!owed.finished) {
                 slot &at = here(owed.index);
                 if (owed.round != at.waits_for) throw run_fault(fault_kind::mismatch, "a note of another round", owed.index);
@@ -640,28 +702,26 @@ private:
 
     void leave_batches()
     {
-        pup::bytes bytes;
-        for (arrival late; link_.receive(late.from, bytes);) {
-            late.parcels = batch(std::move(bytes));
-            leave_batch(late.parcels);
-        }
-        for (arrival &one : later_) leave_batch(one.parcels);
-        if (has_inbox_) leave_batch(inbox_.parcels);
-        leave_batch(own_);
-        for (batch &one : own_ready_) leave_batch(one);
-        leave_batch(own_next_);
-        for (batch &one : pending_) leave_batch(one);
-        for (std::deque<batch> &all : ready_) {
-            for (batch &one : all) leave_batch(one);
-        }
+        for (arrival late; link_.receive(late.from, late.parcels);) leave_batch(late.parcels);
+        const auto leave = [this](batch &one) { leave_batch(one); };
+        for (arrival &one : later_) leave(one.parcels);
+        for (arrival &one : revived_) leave(one.parcels);
+        if (has_inbox_) leave(inbox_.parcels);
+        leave(own_.parcels);
+        for (batch &one : own_ready_) leave(one);
+        leave(own_next_);
+        outbound_.each(leave);
+        held_own_.each(leave);
+        held_others_.each(leave);
+        bodiless_.each(leave);
     }
     void leave_batch(batch &from)
     {
         parcel next;
         for (; from.front(next); from.pop(next)) {
             if (next.is_element()) {
-                leave_element(next.element(), next.beside, next.beside_len);
-            } else {
+                leave_element(next.element(), next.object(), next.object_len());
+            } else if (next.is_letter()) {
                 held_++;
             }
         }
@@ -684,30 +744,37 @@ private:
     std::unique_ptr<event_log> log_; // where events are to be written down
     std::vector<std::unique_ptr<slot>> room_; // of each element that is here
     // Parcels: those of this PE to itself, the batch that is being used up, those that came too early, and those that leave.
-    batch own_, own_next_;
+    arrival own_;
+    batch own_next_;
     std::deque<batch> own_ready_;
     arrival inbox_;
     bool has_inbox_ = false, others_first_ = false;
     std::vector<arrival> later_;
-    std::vector<batch> pending_;
-    std::vector<std::deque<batch>> ready_;
-    std::size_t backlog_ = 0;
-    std::chrono::steady_clock::time_point oldest_{}, stalled_since_{};
-    bool is_stalled_ = false;
+    outbound outbound_;
+    // Letters that are held back, of this PE and of others; those without a body, and those whose body has come. The batch of the one in
+    // the hand.
+    held_letters held_own_, held_others_;
+    bodiless_letters bodiless_;
+    std::deque<arrival> revived_;
+    arrival spent_;
+    work_clock clock_;
+    work_clock::point turn_began_{}, oldest_{}, stalled_since_{}, kept_since_{};
+    bool is_stalled_ = false, is_kept_ = false;
     int grace_ = 0;
     // What goes beside parcels: the objects of elements that leave, and long bodies.
-    std::map<std::uint32_t, pup::bytes> leaving_;
-    besides besides_;
+    std::map<std::uint32_t, beside> leaving_;
+    body_room bodies_;
     std::uint64_t in_outbox_ = 0;
     bool are_fresh_ = false; // whether what is in the outbox are the letters of the last handler
     parcel hand_letter_;
     bool has_hand_ = false;
     std::uint32_t hand_element_ = fault::no_element;
-    pup::bytes hand_beside_, copy_;
+    beside hand_object_;
+    pup::bytes copy_;
     // Rounds: where each element is, by the last decision, and those that start, go on or wait.
     std::vector<std::uint32_t> places_;
     std::uint32_t round_ = 0;
-    contribution result_, nothing_;
+    contributions results_, nothing_;
     std::deque<std::uint32_t> due_;
     std::vector<std::uint32_t> waiting_;
     std::vector<note> notes_;

@@ -1,6 +1,7 @@
-use Rattle.std.proofs.Common.{◌∙◌, sym}
+use Rattle.std.proofs.Common.{◌≡◌, ◌∙◌, Some, sym}
 use Rattle.std.proofs.lemmas.Bool.{iff_false}
-use Rattle.rts_run.proofs.Faults.{no_unpack, no_mismatch}
+use Rattle.pe_worker.specs.declared.fault.Fault.TheVariants.{Mismatch, Quiet}
+use Rattle.rts_run.proofs.Faults.{ends_idle, no_unpack, no_mismatch}
 use Rattle.rts_run.proofs.running.ended.Goals as goal
 
 pub returns-then-run_agrees-clause-marks : goal.returns-then-run_agrees-clause-marks
@@ -42,3 +43,10 @@ pub returns-clause-mismatch : goal.returns-clause-mismatch
 returns-clause-mismatch g c = λ _ marked. iff_false c.run_agrees.ensures.agree c.if-run_agrees.false
     (rw c.deref.ensures.value (rw c.deref-2.ensures.value (rw c.deref-3.ensures.value (rw (← c.new-2.ensures.left)
     (rw (← c.new-2.ensures.ends) (rw (← c.new-2.ensures.homes) (rw (← c.new-2.ensures.board) marked)))))))
+
+pub returns-then-run_agrees-clause-idle : goal.returns-then-run_agrees-clause-idle
+returns-then-run_agrees-clause-idle g c = ends_idle c.args.idle c.new.result
+    (λ is. c.is_quiet-quiet.ensures.asked (c.fault_at_end-fault.ensures.quiet (sym c.new.ensures.fault ∙ is)))
+
+pub returns-clause-idle : goal.returns-clause-idle
+returns-clause-idle g c = ends_idle c.args.idle c.new-2.result (λ is. absurd (let other : Some Mismatch ≡ Some Quiet = sym c.new-2.ensures.fault ∙ is in cc))

@@ -105,5 +105,6 @@ returns g c =
         all_finished = c.ended.ensures.all_finished;
         quiet = c.ended.ensures.quiet;
       };
+      idle = c.ended.ensures.idle;
       homes = c.ended.ensures.homes;
     }

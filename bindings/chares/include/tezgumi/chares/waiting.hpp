@@ -1,0 +1,93 @@
+// Batches that came, and letters that wait on a PE before their handlers may run. See tezgumi/chares.hpp.
+#ifndef TEZGUMI_CHARES_WAITING_HPP
+#define TEZGUMI_CHARES_WAITING_HPP
+
+#include "outbound.hpp"
+
+#include <map>
+
+namespace tezgumi {
+namespace detail {
+
+// A batch whose letters wait in several parts. Once all these are used up its sender is told that the batch is.
+struct credit {
+    std::size_t parts = 1;
+};
+
+// A batch that came, or letters of it that wait, or a batch of this PE to itself.
+struct arrival {
+    std::uint32_t from = 0;
+    batch parcels;
+    bool is_whole = false; // whether its sender waits to be told of it
+    std::shared_ptr<credit> owed; // shared by its parts, where there are any
+};
+
+// Letters that wait, by what they wait for. Those of one batch, or of many where none is owed, stay together.
+template <class Key, class Map> class waiting_letters {
+public:
+    explicit waiting_letters(std::size_t batch) : batch_(batch) {}
+    bool is_empty() const { return queues_.empty(); }
+
+    // Where memory is refused all is as it was.
+    void add(const Key &key, const arrival &of, const parcel &next)
+    {
+        std::deque<arrival> &queue = queues_[key];
+        if (queue.empty() || queue.back().from != of.from || queue.back().owed != of.owed || queue.back().parcels.whole_size() >= batch_) {
+            queue.emplace_back();
+            queue.back().from = of.from;
+            queue.back().owed = of.owed;
+            if (of.owed) of.owed->parts++;
+        }
+        queue.back().parcels.add(next, batch_);
+    }
+    // The first letters of which this holds, by key.
+    template <class F> arrival *first(F &&holds)
+    {
+        for (auto &one : queues_) {
+            if (!holds(one.first)) continue;
+            key_ = one.first;
+            return &one.second.front();
+        }
+        return nullptr;
+    }
+    // Takes these away.
+    arrival take_first()
+    {
+        const auto at = queues_.find(key_);
+        arrival taken = std::move(at->second.front());
+        at->second.pop_front();
+        if (at->second.empty()) queues_.erase(at);
+        return taken;
+    }
+    // Takes away all that wait for this.
+    std::deque<arrival> take(const Key &key)
+    {
+        std::deque<arrival> taken;
+        const auto at = queues_.find(key);
+        if (at == queues_.end()) return taken;
+        taken.swap(at->second);
+        queues_.erase(at);
+        return taken;
+    }
+    // All, at the end.
+    template <class F> void each(F &&of)
+    {
+        for (auto &one : queues_) {
+            for (arrival &more : one.second) of(more.parcels);
+        }
+    }
+
+private:
+    const std::size_t batch_;
+    Map queues_;
+    Key key_{};
+};
+
+// By the PE to which their elements go on adding; and by the body that they name.
+using held_letters = waiting_letters<std::uint32_t, std::map<std::uint32_t, std::deque<arrival>>>;
+using bodiless_letters = waiting_letters<ticket, std::unordered_map<ticket, std::deque<arrival>, ticket_hash>>;
+
+} // namespace detail
+} // namespace tezgumi
+
+#endif
