@@ -19,10 +19,11 @@ COMMAND = re.compile(r"(cd|mkdir|rt|printf|python3|pip|apt-get|tar|export|cc|mpi
                      r"|\./\S+|(?:bindings|benches|docs|examples|runs|packaging|\.ci|tezgumi-VERSION\S*)/\S+)(?= |$)")
 # What is not run here, and why.
 LEFT = {
+    r"\./plan \S|\./run \S": "the test of README.md in examples/test runs those of a clone",
     r"rt new |rt lemma ": "the tutorial's crates, which test makes",
     r"cd crates/lb_sim && rt run|rt ci|rt check": "it proves crates, which the gate does",
     r"tar |tezgumi-VERSION|\./install|pip |bindings/(build|install|dist)|bindings/mpi/build|apt-get ": "packaging/test installs what is built",
-    r"export |cc |mpicc |mpirun |\./plan|\./p4est|\./beside": "bindings/test compiles and runs these",
+    r"export |cc |mpicc |mpirun |\./plan$|\./p4est|\./beside": "bindings/test compiles and runs these",
     r"\./workload |python3 merge_events.py |charm_run --replay run.list ": "bindings/test runs the chares in C++",
 }
 NUMBERS = re.compile(r"[a-z_]+ +[\d.]+( |$)")
