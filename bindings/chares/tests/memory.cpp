@@ -307,6 +307,7 @@ struct catcher : tezgumi::chare {
     void receive(const std::string &) { got++; }
 };
 
+#ifndef WITH_MPI
 void caught()
 {
     std::uint32_t failures = 0;
@@ -357,6 +358,7 @@ void long_message()
     std::cerr << "a message of " << bytes / 1000 << " kB took " << taken / 1000 << " kB" << std::endl;
     tests::expect("a long message on one PE takes twice its bytes", end.is_good() && end.elements.at(1)->sum == 3 && taken < 2 * bytes + 1000000);
 }
+#endif
 
 } // namespace
 

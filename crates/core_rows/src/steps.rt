@@ -25,9 +25,9 @@ pub(crate) fn take<C: Chare<Global>, H: Openings<C>>(
     world: &mut World<C, H>,
     lines: &[Line],
 ) {
-    for (at, (step, want)) in lines.iter().enumerate() {
-        let event = event_of(*step).expect(rt, "no such event");
-        assert_for(rt, is_answered(world, event, *want), (at, event));
+    for (at, line) in lines.iter().enumerate() {
+        let event = event_of(line.0).expect(rt, "no such event");
+        assert_for(rt, is_answered(world, event, line.1), at);
     }
 }
 

@@ -320,7 +320,10 @@ fn is_quiet<C: Chare<A>, A: Allocator>(
     ensures quiet { IsTrue result → IsQuiet board.now ends.now (map (λ q. q.items) left.now) }
     ensures all { idle ≡ Idle.Quiet → met ≡ Some Quiet → IsQuiet board.now ends.now (map (λ q. q.items) left.now) → IsTrue result }
 {
-    idle == Idle::Quiet && met == Some(Fault::Quiet) && run_is_quiet(board, ends, left)
+    match (idle, met) {
+        (Idle::Quiet, Some(Fault::Quiet)) => run_is_quiet(board, ends, left),
+        _ => false,
+    }
 }
 
 // The fault of a run whose first worker that met a fault met this one. That nothing was left to do has to show in what was left. Where
