@@ -20,7 +20,6 @@ use Rattle.rts_core.specs.Orders.{AreInOrder}
 use Rattle.run_account.specs.RunAccounts.{IsRunAccount, left_world}
 use Rattle.rts_run.specs.declared.options.Idle.{Idle}
 use Rattle.rts_run.specs.declared.options.Idle.TheVariants.{Turns}
-use Rattle.rts_run.specs.declared.options.Idle.TheVariants as Idle
 
 -- the PE on which each element opened; its PEs, in order; what is left in the queue of each, front first; the board, with what was
 -- kept of each round that was decided; and the fault that ended it, if one did
