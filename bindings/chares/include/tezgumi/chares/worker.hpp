@@ -301,7 +301,7 @@ private:
             return true;
         }
         if (!next.is_letter()) return false;
-        if (next.has_ticket() && next.its_ticket().is_shared() && !bodies_.has(next.its_ticket())) {
+        if (next.has_ticket() && next.its_ticket().is_shared() && !next.has_extra() && !bodies_.has(next.its_ticket())) {
             arrival alone;
             alone.from = of.from;
             bodiless_.add(next.its_ticket(), alone, next);
@@ -317,10 +317,11 @@ private:
         held_others_.add(on, of, next);
         return true;
     }
-    // The PE for which this element is held back, with so many times the limit.
+    // The PE for which this element is held back, with so many times the limit. None is in a run whose events are written down: its letters
+    // come in the order in which they were sent, as those of a world do.
     std::uint32_t held_on(std::uint32_t index, std::size_t times) const
     {
-        if (index >= n_ || !room_[index]) return nobody;
+        if (log_ || index >= n_ || !room_[index]) return nobody;
         const std::uint32_t on = room_[index]->adds_to;
         return on != nobody && outbound_.is_over(on, times) ? on : nobody;
     }
@@ -427,10 +428,11 @@ private:
             leaving_.erase(at);
             return;
         }
-        // The body of a letter to this PE stays where it is.
+        // The body of a letter to this PE stays where it is. Where events are written down each letter takes its own along, so that none waits
+        // for one and is overtaken.
         if (to == me_ || !next.has_ticket()) return put(to, next, nullptr);
         const ticket its = next.its_ticket();
-        if (its.is_shared()) {
+        if (its.is_shared() && !log_) {
             bodies_.leaves(its, to);
             return put(to, next, nullptr);
         }
