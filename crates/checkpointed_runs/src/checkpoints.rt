@@ -131,7 +131,8 @@ impl<'a, F: CheckpointFiles + Drop, A: Allocator + Copy> Checkpoints<'a, F, A> {
             KeepsNoted (option_map (λ name. name.now) self.old.name) self.old.workload (all_decided self.old.before.items outcome.now.board.rounds)
             (last_places outcome.now.board) (F.asked self.old.files) (F.asked self.new.files) self.old.failed self.new.failed }
         ensures counted { IsSome outcome.now.fault → outcome.now.fault ≢ Some Mismatch → IsSome self.old.name
-            → IsDue self.old.written 1 (length outcome.now.board.rounds) → self.new ≡ record self.old { files = self.new.files; written = length outcome.now.board.rounds; failed = self.new.failed } }
+            → IsDue self.old.written 1 (length outcome.now.board.rounds)
+            → self.new ≡ record self.old { files = self.new.files; written = length outcome.now.board.rounds; failed = self.new.failed } }
     {
         match outcome.fault() {
             None | Some(Fault::Mismatch) => {}
