@@ -14,7 +14,7 @@ use Rattle.workload_run.specs.Driving.{EndsDrive, IsLeftBy, IsOfWorkload, IsRefu
 use Rattle.workload_run.specs.Internal.{EndsRun}
 use Rattle.workload_run.specs.Lines.{fault_line, memory_line}
 use Rattle.workload_run.specs.Tallies.{tallies_of}
-use Rattle.workload_run.specs.Telling.{HasUnread, ReportsFault, TellsOutcome, WritesText}
+use Rattle.workload_run.specs.Telling.{HasUnread, ReportsFault, WritesText}
 use Rattle.workload_run.specs.declared.ended.RunEnd.{RunEnd}
 use Rattle.workload_run.specs.declared.ended.RunEnd.TheVariants.{OutOfMemory, Ran, Refused, WriteFailed}
 use Rattle.sync_board.specs.declared.strategy.Strategy.{Strategy}
