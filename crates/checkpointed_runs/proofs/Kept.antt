@@ -1,11 +1,18 @@
 -- What is asked of the files of a run that keeps checkpoints, and of one that does not.
-use Rattle.std.proofs.Common.{◌≡◌, ◌∙◌, ℕ, List, Option, None, Some, Result, Ok, false, refl, subst}
+use Rattle.std.proofs.Common.{◌≡◌, ◌∙◌, inr, ℕ, List, Option, None, Some, Result, Ok, Err, false, refl, subst}
 use Rattle.std.specs.Prelude.{⊤, ◌↔◌, IsSome, IsTrue}
 use Rattle.std.specs.Option.{option_map}
-use Rattle.checkpointed_runs.specs.Keeping.{FileRequest}
+use Rattle.checkpointed_runs.specs.Keeping.{FileRequest, Keeps, Replaces}
 use Rattle.checkpointed_runs.specs.Pausing.{KeepsAt, KeepsNoted, first_failure}
 use Rattle.run_checkpoint.specs.declared.checkpoint.DecidedRound.{DecidedRound}
+use Rattle.run_checkpoint.specs.Text.{CheckpointView, checkpoint_text}
 use Rattle.workload.specs.Text.{WorkloadView}
+
+-- where the new file took the name, or did not, the checkpoint was kept, or it was not
+pub keeps_replaced : {E : Type 0} (name : List ℕ) (c : CheckpointView) (old now : Option (List FileRequest)) (kept : Result ⊤ E)
+    → Replaces name (checkpoint_text c) old now kept → Keeps name c old now kept
+keeps_replaced name c old now (Ok u) replaced = replaced
+keeps_replaced name c old now (Err e) replaced = inr replaced
 
 -- a name that is not there is none
 unmapped : {T : Type 0} (at : T → List ℕ) (held : Option T) → (IsTrue false ↔ IsSome held) → option_map at held ≡ None
