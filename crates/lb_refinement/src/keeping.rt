@@ -137,8 +137,8 @@ fn with_order<A: Allocator + Copy, B: Allocator>(
     })
 }
 
-// No prices.
-fn unpriced<A: Allocator + Copy>(alloc: A) -> Prices<A>
+/// No prices, of names that no prices prove.
+pub fn unpriced<A: Allocator + Copy>(alloc: A) -> Prices<A>
     ensures no_u { result.u ≡ [] }
     ensures no_v { result.v ≡ [] }
 {

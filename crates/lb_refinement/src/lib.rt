@@ -4,7 +4,7 @@
 //!   several threads.
 //! - [`Refined`]: what they decide: a decision, and its [`Nearness`], which is what proves it; [`as_planned`], of a plan.
 //! - [`OrderProof`], [`AnyOrderProof`]: the proofs that no cuts move fewer bytes in the order of the PEs, or in any order.
-//! - [`refine_keeping_order`]: decides so that the PEs keep their order.
+//! - [`refine_keeping_order`]: decides so that the PEs keep their order; [`unpriced`]: the prices of names that no prices prove.
 //! - [`block_around`]: the block that contains an element.
 //! - [`greatest_load`], [`moved_by`]: the load of the heaviest block, and the bytes that names move.
 //! - [`laws`]: what the definitions imply.
@@ -40,7 +40,7 @@ mod refined;
 mod refining;
 
 pub use heaviest::greatest_load;
-pub use keeping::refine_keeping_order;
+pub use keeping::{refine_keeping_order, unpriced};
 pub use moved::moved_by;
 pub use nearness::{AnyOrderProof, Nearness, OrderProof};
 pub use places::block_around;
