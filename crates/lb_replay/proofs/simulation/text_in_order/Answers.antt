@@ -3,8 +3,8 @@ use Rattle.lb_replay.proofs.simulation.text_in_order.Goals as goal
 
 pub returns-in-Ok-clause-text : goal.returns-in-Ok-clause-text
 returns-in-Ok-clause-text g c =
-    IfOk-weaker c.ordered_text.result _ _ (λ text printed. record {
+    IfOk-weaker c.refined_text.result _ _ (λ text printed. record {
       decision = c.in-Ok.decision;
       refined = c.in-Ok.ensures.refined;
       printed = printed;
-    }) (rw c.get.ensures.value at c.ordered_text.ensures.text)
+    }) (rw c.get.ensures.value at c.refined_text.ensures.text)
