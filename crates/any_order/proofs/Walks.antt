@@ -174,7 +174,7 @@ none_ahead claim y here level x low high within light (inr (edge, ends)) =
       | inr at ↦ here x low (omega (arith, at)) within light (inr (edge, ends))
     ]
 
--- the same at one more place
+-- bounds that rise as they should as far as a place also do at the next one
 pub next_risen : (claim : Claimed) (y x : ℕ) → RisesFrom claim y (x + 1) → (IsFalse (is_high_level claim x) → RisesAt claim y (x + 1)) → y ≤ x → RisesFrom claim y (x + 1 + 1)
 next_risen claim y x before here onward z low high within light corner =
     elim (leb_tells z x) [

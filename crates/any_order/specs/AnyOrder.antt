@@ -41,7 +41,7 @@ pub record RisesTo (sizes : List (ℕ × ℕ)) (any free next_any next_free : �
   pub of_any : (pe : ℕ) → next_any x ≤ (if home sizes y == pe then free y else any y) + brought sizes y x pe
   pub of_free : (pe : ℕ) → home sizes x ≢ pe → next_free x ≤ (if (home sizes y == pe) || (home sizes y == home sizes x) then free y else any y) + brought sizes y x pe
 
--- the same for each block within the limit
+-- bounds rise by no more than that for each block within the limit
 abbrev pub IsRise : List ℕ → List (ℕ × ℕ) → ℕ → (ℕ → ℕ) → (ℕ → ℕ) → (ℕ → ℕ) → (ℕ → ℕ) → Type 0
 IsRise loads sizes limit any free next_any next_free =
     (y x : ℕ) → y ≤ x → x ≤ length loads → load loads y x ≤ limit → RisesTo sizes any free next_any next_free y x

@@ -1,3 +1,5 @@
+//! A chain with a limit and the bounds on the bytes that cuts move, as the checker reads them.
+
 ghost use Rattle.std.specs.Prelude.{◌≡◌, ◌+◌, ◌<◌, length};
 ghost use Rattle.any_order.specs.Internal.{claim_at};
 

@@ -1,3 +1,5 @@
+//! Checks cuts and names that may give the PEs any order: the limit, the bytes moved, and the proof that no others move fewer.
+
 ghost use Rattle.std.specs.Prelude.{◌≡◌, ◌+◌, ◌<◌, ◌≤◌, ◌↔◌, IsOk, IfErr, OnOk, length};
 ghost use Rattle.lb_certificates.specs.Certificate.{IsCertified};
 ghost use Rattle.lb_certificates.specs.Chain.{IsLeastDivision, peak};
@@ -43,7 +45,7 @@ pub fn check_reordered<A: Allocator, B: Allocator>(
     check_parts(snapshot, pes, reordered)
 }
 
-// The same, part by part.
+// Runs the checks of `check_reordered` one after another.
 fn check_parts<A: Allocator, B: Allocator>(
     snapshot: &Snapshot<A>,
     pes: u32,

@@ -1,3 +1,5 @@
+//! What can be wrong with cuts and names that may give the PEs any order, in the order in which it is checked.
+
 use lb_certificates::Flaw;
 
 /// What is wrong with a [`Reordered`](crate::Reordered) division. Flaws are reported in this order.

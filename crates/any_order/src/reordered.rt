@@ -1,3 +1,5 @@
+//! Cuts and names that may give the PEs any order, with the proof that no others within the limit move fewer bytes.
+
 use crate::levels::ByteBounds;
 use chain_refinement::Tolerance;
 use lb_certificates::{Cuts, Division, Naming};
@@ -19,6 +21,6 @@ pub struct Reordered<A: Allocator = Global> {
     /// For 0 to as many blocks as there are PEs: at each place a lower bound on the bytes that this number of blocks move which
     /// end there.
     pub any: ByteBounds<A>,
-    /// The same where none of these blocks runs on the PE of the element behind them.
+    /// Lower bounds as in `any`, where none of these blocks runs on the PE of the element behind them.
     pub free: ByteBounds<A>,
 }

@@ -1,34 +1,24 @@
-//! Where a chare array comes together to be balanced: elements report at AtSync, and once all have, one decision
-//! says where each runs next.
+//! AtSync: where the elements of a chare array come together to be balanced.
 //!
-//! - [`Board`]: the reports of the present round, the snapshot and the decision of each round before it, and who
-//!   has finished.
-//! - [`Strategy`]: how each round is decided.
-//! - [`BoardError`]: why a call was refused.
-//!
-//! Nothing here waits. The board that the threads of a run share, under a lock, is `Barrier` of the crate `barrier`.
+//! - [`Board`], from `sync_board`: the reports, the decision of each round, and who has finished. Nothing in it waits. A
+//!   [`Strategy`] says how it decides, and a [`BoardError`] why a call was refused.
+//! - [`Barrier`], from `barrier`: the board that the threads of a run share, under a lock.
 //!
 //! ```
-//! use at_sync::{Board, Strategy};
+//! use at_sync::Board;
 //! use chare_index::{Index, Pe, Round};
 //!
-//! // Three elements on two PEs report their units and bytes in round 1.
+//! // Two elements on two PEs report their units and bytes in round 1.
 //! let (zero, one) = (Pe::new(0).unwrap(), Pe::new(1).unwrap());
 //! let round = Round::new(1).unwrap();
-//! let mut board = Board::new(alloc, 3, 2, Strategy::Least)?;
-//! board.report(0, round, 1, 10, zero)?;
-//! board.report(1, round, 1, 9, one)?;
+//! let mut board = Board::new(alloc, 2, 2)?;
+//! board.report(0, round, 3, 5, zero)?;
 //! assert!(rt; !board.is_complete());
-//! board.report(2, round, 2, 8, zero)?;
+//! board.report(1, round, 3, 5, one)?;
 //! assert!(rt; board.decide() == Ok(round));
-//! assert!(rt; board.place_for(round, Index::new(2).unwrap()) == Some(zero));
+//! assert!(rt; board.place_for(round, Index::new(1).unwrap()) == Some(one));
 //! ```
 #![tactic(auto)]
 
-mod board;
-mod error;
-mod strategy;
-
-pub use board::Board;
-pub use error::BoardError;
-pub use strategy::Strategy;
+pub use barrier::Barrier;
+pub use sync_board::{Board, BoardError, Strategy};

@@ -3,8 +3,8 @@ use Rattle.std.proofs.Common.{◌≡◌, ◌∙◌, ℕ, ◌<◌, true, nat_lt, 
 use Rattle.std.specs.Option.{option_map}
 use Rattle.std.specs.Prelude.{slice_index}
 use Rattle.std.proofs.lemmas.Bool.{lt-ltb}
-use Rattle.at_sync.proofs.Places.{has_place, place_below}
-use Rattle.at_sync.specs.Boards.{BoardState, IsKeptIn, decision_of, place_in}
+use Rattle.sync_board.proofs.Places.{has_place, place_below}
+use Rattle.sync_board.specs.Boards.{BoardState, IsKeptIn, decision_of, place_in}
 use Rattle.lb_certificates.specs.Naming.{blocks_between}
 use Rattle.lb_database.specs.Measuring.{elements}
 use Rattle.lb_strategy.specs.Moves.{planned_pe}

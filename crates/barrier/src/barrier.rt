@@ -1,16 +1,18 @@
+//! The lock around the board of a run. Every thread of the run calls the board through it.
+
 ghost use Rattle.std.specs.Prelude.{◌≡◌, ◌<◌, ◌≤◌, IfErr, IfSome};
 ghost use Rattle.lb_database.specs.Measuring.{elements};
-ghost use Rattle.at_sync.specs.Boards.{IsBoard};
+ghost use Rattle.sync_board.specs.Boards.{IsBoard};
 ghost use Rattle.barrier.specs.Refusals.{IsRefusedDecision};
 
 use crate::board_size::BoardSize;
 use crate::run_board::RunBoard;
-use at_sync::{Board, BoardError};
 use chare_index::{Gate, Index, Limits, Pe, Round};
 use lb_snapshot::Units;
 use std::alloc::{Allocator, Global};
 use std::sync::{Mutex, MutexGuard, Wait};
 use std::thread::Threads;
+use sync_board::{Board, BoardError};
 
 /// The board of a run, which threads share. Each call waits for the lock, makes one call of the [`RunBoard`] under
 /// it, and releases the lock; [`lock`](Barrier::lock) is for several calls under one lock. A call returns what the

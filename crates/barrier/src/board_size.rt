@@ -1,5 +1,7 @@
+//! A type that names the size of a run's board and its strategy, so that each thread knows both.
+
 ghost use Rattle.std.specs.Prelude.{ℕ};
-ghost use Rattle.at_sync.specs.declared.strategy.Strategy.{Strategy};
+ghost use Rattle.sync_board.specs.declared.strategy.Strategy.{Strategy};
 
 use std::marker::Brand;
 
@@ -10,7 +12,7 @@ pub trait RunStrategy {
 }
 
 impl RunStrategy for Brand {
-    ghost use Rattle.at_sync.specs.declared.strategy.Strategy.TheVariants.{Least};
+    ghost use Rattle.sync_board.specs.declared.strategy.Strategy.TheVariants.{Least};
 
     ghost strategy = { Least };
 }
@@ -30,7 +32,7 @@ pub trait BoardSize {
 }
 
 impl BoardSize for Brand {
-    ghost use Rattle.at_sync.specs.declared.strategy.Strategy.TheVariants.{Least};
+    ghost use Rattle.sync_board.specs.declared.strategy.Strategy.TheVariants.{Least};
 
     ghost elements = { 0 };
 

@@ -2,7 +2,7 @@
 //! other.
 //!
 //! - [`Barrier`]: the lock with the board under it. Each call takes the lock for itself.
-//! - [`RunBoard`]: what is under the lock, with the calls of a [`Board`](at_sync::Board).
+//! - [`RunBoard`]: what is under the lock, with the calls of a [`Board`](sync_board::Board).
 //! - [`BoardSize`]: how many elements and PEs that board has, and by which strategy it decides ([`RunStrategy`]), as a type.
 //! - [`RoundPlaces`]: the places of one round, copied under the lock and read without it.
 #![tactic(auto)]

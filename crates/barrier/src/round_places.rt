@@ -1,3 +1,5 @@
+//! A copy of one round's places, which a worker reads without taking the lock.
+
 ghost use Rattle.std.specs.Prelude.{◌≡◌, ◌+◌, ◌<◌, ◌≤◌, length, vec_capacity, IfOk, IfSome};
 ghost use Rattle.barrier.specs.Places.{ArePlaces, no_places, place_among};
 

@@ -1,21 +1,23 @@
+//! The board of a run, of the size that its type names: what the lock of the barrier guards.
+
 ghost use Rattle.std.specs.Prelude.{◌≡◌, ℕ, ◌<◌, ◌≤◌, ◌↔◌, IfOk, IfErr, IfSome, IsTrue, IsFalse, IsSome, None, MatchResult, OnOk, OnErr};
 ghost use Rattle.std.specs.Option.{option_copied};
 ghost use Rattle.lb_database.specs.Measuring.{IsComplete, elements};
 ghost use Rattle.lb_database.specs.Refusals.{IsReport, RefusesReport};
-ghost use Rattle.at_sync.specs.Boards.{Decides, HaveFinished, IsBoard, after_finish, after_report, decision_of, kept_of, place_in};
-ghost use Rattle.at_sync.specs.Refusals.{RefusesDecision, RefusesFinish, database_error_of};
+ghost use Rattle.sync_board.specs.Boards.{Decides, HaveFinished, IsBoard, after_finish, after_report, decision_of, kept_of, place_in};
+ghost use Rattle.sync_board.specs.Refusals.{RefusesDecision, RefusesFinish, database_error_of};
 ghost use Rattle.barrier.specs.Places.{place_among, places_by};
 ghost use Rattle.barrier.specs.Refusals.{IsRefusedDecision};
 
 use crate::board_size::BoardSize;
 use crate::round_places::RoundPlaces;
-use at_sync::{Board, BoardError};
 use chare_index::{Gate, Index, Limits, Pe, Round};
 use lb_refinement::Refined;
 use lb_snapshot::{Snapshot, Units};
 use std::alloc::{Allocator, Global};
 use std::marker::{Model, PhantomData};
 use std::thread::Threads;
+use sync_board::{Board, BoardError};
 
 /// The [`Board`] of a run, of the size that the type `J` names. Contracts see it as the record of that board. Its calls
 /// are those of the board, and so are their errors. A call that is refused leaves it unchanged.
@@ -27,7 +29,7 @@ pub struct RunBoard<J: BoardSize, A: Allocator = Global> {
 
 impl<J: BoardSize, A: Allocator> Model for RunBoard<J, A> {
     ghost use Rattle.std.specs.Prelude.{◌≡◌};
-    ghost use Rattle.at_sync.specs.Boards.{BoardState};
+    ghost use Rattle.sync_board.specs.Boards.{BoardState};
     ghost use Rattle.lb_database.specs.Measuring.{elements};
 
     ghost Value = { BoardState A };

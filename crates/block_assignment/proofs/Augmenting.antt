@@ -164,7 +164,7 @@ augmenting_more s names holders pe b few path augmenting e named =
         let other : k ≢ b = λ same. absurd (omega (arith, before, ap (λ q. slice_index s.rank q) earlier.0, ap (λ n. slice_index s.rank (slice_index s.names n)) same)) in
         there k other ∙ augmenting.kept k inside (omega (arith, before, earlier.1))
 
--- the same, where the next PE was read before
+-- the path after one step, where the next PE was read before it
 pub augmenting_next : (s : State) (names : List ℕ) (holders : List (Option ℕ)) (pe b before : ℕ) → s.named ≤ s.table.blocks → IsPath s
     → IsAugmenting s names holders pe → b ≡ slice_index s.from pe → b < s.named → before ≡ slice_index names b
     → IsAugmenting s (set names b pe) (set holders pe (Some b)) before

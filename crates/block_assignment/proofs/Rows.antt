@@ -30,7 +30,7 @@ pub record HasRowsOf (most : ℕ) (cost : ℕ → ℕ → ℕ) (blocks b : ℕ) 
   pub small : All (λ cost. cost ≤ most) costs
   pub exact : (k p : ℕ) → k < b → p < blocks → slice_index costs (k * blocks + p) ≡ cost k p
 
--- the same, of blocks of elements
+-- the rows of the first b blocks of elements
 abbrev pub HasRows : ℕ → List (ℕ × ℕ) → List ℕ → ℕ → ℕ → List ℕ → Type 0
 HasRows most sizes cuts = HasRowsOf most (block_cost sizes cuts)
 

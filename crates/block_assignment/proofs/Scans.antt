@@ -317,7 +317,7 @@ nearest_left rank pes distance (Some place) least end k known unscanned some far
       far = known.far;
     }
 
--- the same, where this PE may have come nearer just before
+-- the nearest PE after one more was looked at, which may have come nearer just before
 taken : (rank pes distance new : List ℕ) (nearest : Option ℕ) (least end place : ℕ)
     → Nearest rank pes distance nearest least end (slice_index pes place + 1)
     → ((p : ℕ) → p ≢ slice_index pes place → slice_index new p ≡ slice_index distance p) → slice_index pes place < end

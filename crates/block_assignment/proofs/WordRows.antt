@@ -8,7 +8,7 @@ use Rattle.std.proofs.lemmas.Nat.Bits.{bit_at_set_same, bit_at_set_other}
 use Rattle.block_assignment.specs.Least.{member, may_have, rows, AreRows}
 use Rattle.block_assignment.proofs.BlockBits.{no_member, written_here, written_others}
 
--- there are so many sets
+-- there are this many sets
 pub rows_counted : (width count : ℕ) (words : List ℕ) → length (rows width count words) ≡ count
 rows_counted width zero words = refl
 rows_counted width (suc count) words = ap suc (rows_counted width count (drop width words))
@@ -27,7 +27,7 @@ row_is width (suc count) words (suc p) inside =
 pub row_inside : (width count p : ℕ) → p < count → p * width + width ≤ count * width
 row_inside width count p inside = omega (arith, mul-le-mul_right width inside)
 
--- and so many
+-- and this many
 pub row_counted : (width count : ℕ) (words : List ℕ) (p : ℕ) → AreRows width count words → p < count → length (slice_index_or (rows width count words) p []) ≡ width
 row_counted width count words p flat inside =
     ap length (row_is width count words p inside) ∙ length-take-le width (drop (p * width) words)

@@ -18,14 +18,14 @@ abbrev pub rows : ℕ → ℕ → List ℕ → List (List ℕ)
 rows width zero words = []
 rows width (suc count) words = take width words ∷ rows width count (drop width words)
 
--- the words of so many sets, each with a bit for as many blocks
+-- the words of this many sets, each with a bit for as many blocks
 pub record AreRows (width count : ℕ) (words : List ℕ) : Type 0 where
   pub counted : length words ≡ count * width
   pub wide : count ≤ 64 * width
   pub few : count ≤ BLOCKS
   pub narrow : width ≤ BLOCKS
 
--- words for one set of so many blocks
+-- words for one set of this many blocks
 pub record IsRoom (blocks : ℕ) (words : List ℕ) : Type 0 where
   pub wide : blocks ≤ 64 * length words
   pub narrow : length words ≤ BLOCKS

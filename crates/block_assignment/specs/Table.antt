@@ -4,7 +4,7 @@ use Rattle.chare_index.specs.declared.limits.TheConstants.Limits.{PES}
 use Rattle.lb_certificates.specs.Naming.{block_cost}
 use Rattle.block_assignment.specs.declared.limits.TheConstants.MatrixLimits.{BLOCKS, BYTES}
 
--- so many blocks and as many PEs, and the costs of the first block on each PE, of the second, and so on
+-- this many blocks and as many PEs, and the costs of the first block on each PE, of the second, and so on
 pub record Table : Type 0 where
   pub blocks : ℕ
   pub costs : List ℕ
@@ -13,7 +13,7 @@ pub record Table : Type 0 where
 abbrev pub cost_at : Table → ℕ → ℕ → ℕ
 cost_at t b p = slice_index t.costs (b * t.blocks + p)
 
--- 1 to so many blocks, and no cost above a bound: the limits that the maker of a table states
+-- 1 to this many blocks, and no cost above a bound: the limits that the maker of a table states
 pub record IsWithin (most_blocks most_cost : ℕ) (t : Table) : Type 0 where
   pub some_block : 1 ≤ t.blocks
   pub few_blocks : t.blocks ≤ most_blocks

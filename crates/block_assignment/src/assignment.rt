@@ -1,3 +1,5 @@
+//! The search for the cheapest naming of the blocks: of all cheapest ones, the first in dictionary order.
+
 ghost use Rattle.std.specs.Prelude.{◌≡◌, ℕ, ◌+◌, ◌*◌, ◌<◌, ◌≤◌, List, IfOk, IfErr, OnOk, length, slice_index, pos, neg_ℤ};
 ghost use Rattle.lb_certificates.specs.Naming.{IsFirstCheapest, IsNaming, Proves, naming_cost, price_at};
 ghost use Rattle.block_assignment.specs.declared.error.NameError.TheVariants.{OutOfMemory};
@@ -134,7 +136,7 @@ fn rename<A: Allocator + Copy>(
     Ok(())
 }
 
-// The same with room for sets of so many words: one for each PE, and two for the search, all of no block.
+// Renames as `rename` does. `sets` is room for `width` words for each PE, and twice as many for the search; all bits are 0.
 fn rename_with(
     table: &Costs<'_>,
     price: &[u64],

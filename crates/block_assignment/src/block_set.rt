@@ -6,7 +6,7 @@ ghost use Rattle.block_assignment.specs.declared.limits.TheConstants.MatrixLimit
 
 use std::marker::Model;
 
-/// How many words a set of so many blocks takes.
+/// How many words a set of this many blocks takes.
 pub(crate) fn words_for(blocks: u32) -> usize
     ensures wide { blocks ≤ 64 * result }
     ensures narrow { 64 * result < blocks + 64 }
@@ -79,7 +79,7 @@ impl<'a> Model for BlockSets<'a> {
 }
 
 impl<'a> BlockSets<'a> {
-    /// So many sets with these words.
+    /// This many sets with these words.
     pub(crate) fn new(count: u32, width: usize, words: &'a [u64]) -> Self
         requires rows { AreRows width count words.now }
         ensures value { result ≡ rows width count words.now }

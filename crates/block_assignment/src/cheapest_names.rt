@@ -13,14 +13,14 @@ use crate::search::Search;
 use chare_index::Limits;
 use std::alloc::{AllocError, Allocator};
 
-// So many blocks, as a dump has at most, are always named without an auction. So the prices in dumps are those of the
+// This many blocks, as a dump has at most, are always named without an auction. So the prices in dumps are those of the
 // search alone.
 const FEW: u32 = Limits::PES;
 
 // A search that names half of the blocks scans fewer PEs for each block of the table, where they want different PEs.
 const EARLY: u64 = 4;
 
-// Past so many an auction takes no longer than was spent.
+// After this many scans for each block an auction takes no longer than the search so far.
 const LATE: u64 = 64;
 
 /// A cheapest naming, the price of each block and the discount of each PE. `to_scan` is room for the PEs that a tree has
@@ -75,7 +75,7 @@ fn name_while_short<A: Allocator>(
     true
 }
 
-// Whether an auction is worth its time, where so many PEs were scanned to name so many of the blocks.
+// Whether an auction is worth its time, where this many PEs were scanned to name this many of the blocks.
 fn is_long(named: u32, blocks: u32, scanned: u64) -> bool {
     let most = if named < blocks / 2 { EARLY } else { LATE };
     blocks > FEW && scanned > u64::from(blocks) * most

@@ -27,7 +27,7 @@ impl<'a> Model for Costs<'a> {
 }
 
 impl<'a> Costs<'a> {
-    /// The costs of so many blocks.
+    /// The costs of this many blocks.
     pub(crate) fn new(count: u32, costs: &'a [u64]) -> Self
         requires matrix { IsMatrix (record { blocks = count; costs = costs.now }) }
         ensures value { result ≡ record { blocks = count; costs = costs.now } }

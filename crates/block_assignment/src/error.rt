@@ -1,3 +1,5 @@
+//! Why blocks are not named, and why a table of costs is refused.
+
 ghost use Rattle.std.specs.Prelude.{◌≡◌};
 
 use std::alloc::AllocError;

@@ -1,3 +1,5 @@
+//! The limits of a table of costs that comes from plain lists.
+
 /// The limits of an assignment problem that keeps none of a snapshot's. Each quantity goes from the lowest value given
 /// here up to the constant, both included.
 #[derive(Clone, Copy, Debug, PartialEq, Eq)]

@@ -1,3 +1,5 @@
+//! The table of what each block costs on each PE: the bytes that would move.
+
 ghost use Rattle.std.specs.Prelude.{◌≡◌, ℕ, ◌+◌, ◌-◌, ◌^◌, ◌<◌, ◌≤◌, length, slice_index, sum_by, IfOk, OnOk, []};
 ghost use Rattle.lb_certificates.specs.Chain.{IsDivision};
 ghost use Rattle.lb_snapshot.specs.Measured.{IsSizes};

@@ -8,7 +8,7 @@ ghost use Rattle.block_assignment.specs.declared.limits.TheConstants.MatrixLimit
 use crate::costs::Costs;
 
 /// Writes for each PE the set of blocks whose price is just their cost there plus the PE's discount. The words of the
-/// sets stand one set after the other, each of so many words.
+/// sets stand one set after the other, each of this many words.
 #[tactic(auto, using(crate::proofs::Sums::cost_within))]
 pub(crate) fn write_takers(
     table: &Costs<'_>,

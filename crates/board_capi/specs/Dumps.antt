@@ -5,12 +5,12 @@ use Rattle.board_handle.specs.Owning.{BoardView}
 use Rattle.board_handle.specs.declared.error.HandleError.{HandleError}
 use Rattle.board_capi.specs.Statuses.{status_of}
 
--- so many bytes of a list are the dump of a round
+-- this many bytes of a list are the dump of a round
 pub record IsWritten (b : BoardView) (round : ℕ) (text : List ℕ) (len : ℕ) : Type 0 where
   pub inside : len ≤ length text
   pub dump : IsDump b round (take len text)
 
--- the dump of a round has so many bytes, more than there is room for
+-- the dump of a round has this many bytes, more than there is room for
 pub record IsLonger (b : BoardView) (round room len : ℕ) : Type 0 where
   pub text : List ℕ
   pub dump : IsDump b round text

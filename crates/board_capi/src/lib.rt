@@ -4,7 +4,7 @@
 //! done. The questions [`tezgumi_board_is_complete`] and [`tezgumi_board_all_finished`] return 1 for yes and 0 for no. Under every
 //! status but 0 the board is as it was, and nothing is written but the length of a dump (status 2).
 //!
-//! `board` of a handle is ghost data, which only contracts see: the board as [`at_sync`](at_sync) sees it.
+//! `board` of a handle is ghost data, which only contracts see: the board as [`sync_board`](sync_board) sees it.
 #![tactic(auto)]
 
 mod dumping;

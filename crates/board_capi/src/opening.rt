@@ -1,8 +1,8 @@
 //! Opening and closing.
 
 ghost use Rattle.std.specs.Prelude.{◌≡◌, ◌≢◌, None, Some, pos, true, false};
-ghost use Rattle.at_sync.specs.Boards.{new_board};
-ghost use Rattle.at_sync.specs.declared.strategy.Strategy.TheVariants.{Least, Refine};
+ghost use Rattle.sync_board.specs.Boards.{new_board};
+ghost use Rattle.sync_board.specs.declared.strategy.Strategy.TheVariants.{Least, Refine};
 ghost use Rattle.board_handle.specs.Calls.{AreCounts, IsSame, RefusesClosed, RefusesOpen};
 ghost use Rattle.board_capi.specs.Statuses.{IsStatus};
 

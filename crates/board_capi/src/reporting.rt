@@ -1,7 +1,7 @@
 //! What elements tell the board, what it is asked, and the decision of a round.
 
 ghost use Rattle.std.specs.Prelude.{◌≡◌, ◌≢◌, ◌<◌, pos, true, false};
-ghost use Rattle.at_sync.specs.Boards.{Decides, HaveFinished, after_finish, after_report};
+ghost use Rattle.sync_board.specs.Boards.{Decides, HaveFinished, after_finish, after_report};
 ghost use Rattle.lb_database.specs.Measuring.{IsComplete, elements};
 ghost use Rattle.lb_database.specs.Refusals.{HasNextRound};
 ghost use Rattle.board_handle.specs.Calls.{IsSame, IsTaken, RefusesClosed, RefusesDecision, RefusesFinish, RefusesReport};
@@ -38,7 +38,7 @@ pub extern "C" fn tezgumi_board_report(
     status(handle.report(alloc, report))
 }
 
-/// Takes it that an element has finished. A second time changes nothing.
+/// Marks an element as finished. Idempotent.
 #[unsafe(no_mangle)]
 pub extern "C" fn tezgumi_board_finish(alloc: Global, handle: &mut BoardHandle, element: u32) -> i32
     ensures status { IsStatus ((handle.old.is_open ≡ true) × (element < elements handle.old.board.database))

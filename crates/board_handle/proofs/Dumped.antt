@@ -4,10 +4,10 @@ use Rattle.std.specs.List.{range_with_len}
 use Rattle.std.proofs.lemmas.List.Elements.{All-filter, All-from_get_or, All-map}
 use Rattle.std.proofs.lemmas.List.FromFn.{get_or-range_with_len, length-map-range_with_len, length-range_with_len}
 use Rattle.std.proofs.lemmas.List.Sums.{count_by-le-length, length-filter}
-use Rattle.at_sync.specs.Boards.{IsBoard, IsDecided, Kept, kept_of}
-use Rattle.at_sync.specs.Strategies.{IsDecidedBy}
-use Rattle.at_sync.specs.declared.strategy.Strategy.{Strategy}
-use Rattle.at_sync.specs.declared.strategy.Strategy.TheVariants.{Least, Refine}
+use Rattle.sync_board.specs.Boards.{IsBoard, IsDecided, Kept, kept_of}
+use Rattle.sync_board.specs.Strategies.{IsDecidedBy}
+use Rattle.sync_board.specs.declared.strategy.Strategy.{Strategy}
+use Rattle.sync_board.specs.declared.strategy.Strategy.TheVariants.{Least, Refine}
 use Rattle.dump_format.specs.Dumps.{IsRecorded, MayRecord}
 use Rattle.lb_certificates.specs.Certificate.{HoldsFor, MatchFloor}
 use Rattle.lb_certificates.specs.Naming.{blocks_between}

@@ -1,8 +1,8 @@
 -- The reasons of a board are those of a call.
 use Rattle.std.proofs.Common.{ℕ, true, refl}
-use Rattle.at_sync.specs.Refusals.{RefusesDecision as RefusesRound, database_error_of}
-use Rattle.at_sync.specs.declared.error.BoardError.{BoardError}
-use Rattle.at_sync.specs.declared.error.BoardError.TheVariants.{Stranger, WrongRound, Twice, TooLarge, Incomplete, OutOfMemory, Worn}
+use Rattle.sync_board.specs.Refusals.{RefusesDecision as RefusesRound, database_error_of}
+use Rattle.sync_board.specs.declared.error.BoardError.{BoardError}
+use Rattle.sync_board.specs.declared.error.BoardError.TheVariants.{Stranger, WrongRound, Twice, TooLarge, Incomplete, OutOfMemory, Worn}
 use Rattle.lb_database.specs.Refusals.{RefusesReport as RefusesMeasured}
 use Rattle.board_handle.specs.Calls.{AreNumbers, RefusesDecision, RefusesReport, call_error_of}
 use Rattle.board_handle.specs.Owning.{BoardView}

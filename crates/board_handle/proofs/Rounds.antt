@@ -2,7 +2,7 @@
 use Rattle.std.proofs.Common.{◌≡◌, ℕ, zero, suc, ◌+◌, ◌<◌, length, None, Some, IfSome, subst, arith}
 use Rattle.std.proofs.lemmas.Option.{slice_get_past}
 use Rattle.chare_index.specs.declared.limits.TheConstants.Limits.{ROUND}
-use Rattle.at_sync.specs.Boards.{IsBoard, IsDecided, IsKeptIn, Kept, kept_of}
+use Rattle.sync_board.specs.Boards.{IsBoard, IsDecided, IsKeptIn, Kept, kept_of}
 use Rattle.lb_database.specs.Measuring.{IsMeasured, elements}
 use Rattle.lb_refinement.specs.Refined.{refined_cuts, refined_names}
 use Rattle.lb_refinement.specs.declared.refined.Refined.{Refined}

@@ -1,10 +1,10 @@
 -- What a program asks of a board behind a handle: when a call is refused, and for which reason, the first that applies.
 use Rattle.std.specs.Prelude.{◌≡◌, ◌⊎◌, ℕ, ◌+◌, ◌<◌, ◌≤◌, Bool, true, false, Option, None, Some, IfSome, IsSome}
-use Rattle.at_sync.specs.Boards.{decision_of, kept_of, place_in}
-use Rattle.at_sync.specs.declared.error.BoardError.{BoardError}
-use Rattle.at_sync.specs.declared.error.BoardError.TheVariants as Board
-use Rattle.at_sync.specs.declared.strategy.Strategy.{Strategy}
-use Rattle.at_sync.specs.declared.strategy.Strategy.TheVariants.{Least, Refine}
+use Rattle.sync_board.specs.Boards.{decision_of, kept_of, place_in}
+use Rattle.sync_board.specs.declared.error.BoardError.{BoardError}
+use Rattle.sync_board.specs.declared.error.BoardError.TheVariants as Board
+use Rattle.sync_board.specs.declared.strategy.Strategy.{Strategy}
+use Rattle.sync_board.specs.declared.strategy.Strategy.TheVariants.{Least, Refine}
 use Rattle.chare_index.specs.declared.limits.TheConstants.Limits.{ELEMENTS, PES, ROUND}
 use Rattle.lb_database.specs.Measuring.{IsComplete, elements}
 use Rattle.lb_database.specs.Refusals.{HasNextRound, IsReport}
@@ -80,7 +80,7 @@ RefusesDecision is b Worn = (is ≡ true) × IsComplete b.database × (b.databas
 RefusesDecision is b OutOfMemory = (is ≡ true) × HasNextRound b.database
 RefusesDecision is b _ = ⊥
 
--- lists of so many entries have room for the cuts and the names of a decision
+-- lists of this many entries have room for the cuts and the names of a decision
 abbrev pub HaveRoom : BoardView → ℕ → ℕ → Type 0
 HaveRoom b cuts names = (b.pes + 1 ≤ cuts) × (b.pes ≤ names)
 
@@ -102,7 +102,7 @@ RefusesDump is b round Undecided = (is ≡ true) × (kept_of b.rounds round ≡ 
 RefusesDump is b round OutOfMemory = (is ≡ true) × IsSome (kept_of b.rounds round)
 RefusesDump is b round _ = ⊥
 
--- lists of so many entries have room for what was reported of each element
+-- lists of this many entries have room for what was reported of each element
 abbrev pub HaveRoomForAll : BoardView → ℕ → ℕ → ℕ → Type 0
 HaveRoomForAll b loads bytes places = (elements b.database ≤ loads) × (elements b.database ≤ bytes) × (elements b.database ≤ places)
 

@@ -1,6 +1,6 @@
 -- The dump of a round.
 use Rattle.std.specs.Prelude.{◌≡◌, ℕ, List, Option, None, Some}
-use Rattle.at_sync.specs.Boards.{kept_of}
+use Rattle.sync_board.specs.Boards.{kept_of}
 use Rattle.dump_format.specs.Text.{IsLbd2}
 use Rattle.dump_format.specs.declared.recorded.Recorded.{Recorded}
 use Rattle.lb_refinement.specs.declared.refined.Refined.{Refined}

@@ -6,9 +6,9 @@ use denote.RawPtr.{Ptr}
 use Rattle.std_heap.specs.declared.Global.{Global}
 use Rattle.std_heap.specs.contracts.Global as heap
 use Rattle.std_heap.specs.contracts.GlobalAllocator.TheImpl.{ghosts}
-use Rattle.at_sync.specs.Boards.{BoardState, new_board}
-use Rattle.at_sync.specs.declared.strategy.Strategy.TheVariants.{Least}
-use Rattle.at_sync.specs.contracts.board.Board as board
+use Rattle.sync_board.specs.Boards.{BoardState, new_board}
+use Rattle.sync_board.specs.declared.strategy.Strategy.TheVariants.{Least}
+use Rattle.sync_board.specs.contracts.board.Board as board
 use Rattle.loose_box.specs.Owning.{boxed_if}
 
 -- a board whose lists are on the C library's heap, and one to name where there is none

@@ -1,6 +1,6 @@
 -- What is read of a round that was decided.
 use Rattle.std.specs.Prelude.{◌≡◌, ℕ, ◌+◌, ◌<◌, List, map, take, drop, Some}
-use Rattle.at_sync.specs.Boards.{IsKeptIn, kept_of, place_in}
+use Rattle.sync_board.specs.Boards.{IsKeptIn, kept_of, place_in}
 use Rattle.lb_database.specs.Measuring.{elements}
 use Rattle.lb_refinement.specs.Refined.{refined_bottleneck, refined_cuts, refined_moved, refined_names}
 use Rattle.lb_refinement.specs.declared.refined.Refined.{Refined}

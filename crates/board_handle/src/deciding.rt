@@ -1,13 +1,13 @@
 //! Deciding a round.
 
 ghost use Rattle.std.specs.Prelude.{◌≡◌, IfErr, IfOk, MatchResult, OnOk, OnErr, true};
-ghost use Rattle.at_sync.specs.Boards.{Decides};
+ghost use Rattle.sync_board.specs.Boards.{Decides};
 ghost use Rattle.board_handle.specs.Calls.{IsSame, RefusesDecision};
 
 use crate::error::HandleError;
 use crate::handle::BoardHandle;
-use at_sync::Board;
 use std::alloc::Global;
+use sync_board::Board;
 
 impl BoardHandle {
     /// Decides the present round, in which every element has to have reported, and begins the next one. Returns the round that was

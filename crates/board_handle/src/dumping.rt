@@ -7,12 +7,12 @@ ghost use Rattle.board_handle.specs.Dumps.{IsDump, recorded_of};
 use crate::error::HandleError;
 use crate::handle::BoardHandle;
 use crate::reading::round_of;
-use at_sync::Board;
 use dump_format::{Dump, Recorded};
 use dump_writing::encode_dump;
 use lb_refinement::Refined;
 use lb_snapshot::Snapshot;
 use std::alloc::{AllocError, Global};
+use sync_board::Board;
 
 impl BoardHandle {
     /// The dump of a round that is decided, in the format LBD2: what was reported, and the decision with its certificates where that

@@ -3,7 +3,7 @@
 ghost use Rattle.std.specs.Prelude.{◌≡◌};
 ghost use Rattle.board_handle.specs.Calls.{call_error_of};
 
-use at_sync::BoardError;
+use sync_board::BoardError;
 
 /// Why a call has done nothing. Where several reasons apply, each call says which comes first.
 #[derive(Clone, Copy, Debug, PartialEq, Eq)]

@@ -3,12 +3,12 @@
 ghost use Rattle.std.specs.Prelude.{◌≡◌, MatchOption, true, false};
 ghost use Rattle.board_handle.specs.Owning.{BoardView};
 
-use at_sync::Board;
 use loose_box::Loose;
 use std::alloc::Global;
 use std::marker::Model;
 use std::mem::replace;
 use std::ptr::null_mut;
+use sync_board::Board;
 
 /// A pointer that a program in C keeps, to a board. A handle of zeros is closed. It may be moved, and is never copied.
 #[repr(C)]

@@ -6,7 +6,7 @@
 //! - [`HandleError`]: why a call has done nothing.
 //!
 //! The program promises nothing but to keep the handle: all that a call needs is tested. Each call does what the board of
-//! [`at_sync`] does, and says so in its words; under an error the board is as it was.
+//! [`sync_board`] does, and says so in its words; under an error the board is as it was.
 #![tactic(auto)]
 
 mod deciding;

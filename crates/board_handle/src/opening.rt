@@ -1,15 +1,15 @@
 //! Opening and closing.
 
 ghost use Rattle.std.specs.Prelude.{◌≡◌, ◌≤◌, ◌↔◌, IfOk, IfSome, IsSome, MatchResult, OnOk, OnErr, true, false};
-ghost use Rattle.at_sync.specs.Boards.{new_board};
+ghost use Rattle.sync_board.specs.Boards.{new_board};
 ghost use Rattle.board_handle.specs.Calls.{AreCounts, IsSame, RefusesClosed, RefusesOpen, strategy_in};
 
 use crate::error::HandleError;
 use crate::handle::BoardHandle;
-use at_sync::{Board, Strategy};
 use chain_refinement::Tolerance;
 use chare_index::Limits;
 use std::alloc::Global;
+use sync_board::{Board, Strategy};
 
 impl BoardHandle {
     /// Opens a closed handle: it has a board for `n` elements on `pes` PEs, in round 1. Rounds are decided for the least bottleneck, or
@@ -63,7 +63,7 @@ fn made(alloc: Global, n: u32, pes: u32, within: Option<u32>) -> Result<Box<Boar
     let Some(strategy) = strategy_of(within) else {
         return Err(HandleError::BadInput);
     };
-    let Ok(board) = Board::new(alloc, n, pes, strategy) else {
+    let Ok(board) = Board::with_strategy(alloc, n, pes, strategy) else {
         return Err(HandleError::OutOfMemory);
     };
     match Box::new(alloc, board) {

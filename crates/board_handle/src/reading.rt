@@ -1,17 +1,17 @@
 //! Reading what is kept of the rounds that were decided.
 
 ghost use Rattle.std.specs.Prelude.{◌≡◌, ◌≤◌, IfErr, IfOk, MatchResult, None, OnErr, length, map, take, drop, true};
-ghost use Rattle.at_sync.specs.Boards.{kept_of};
+ghost use Rattle.sync_board.specs.Boards.{kept_of};
 ghost use Rattle.lb_database.specs.Measuring.{elements};
 ghost use Rattle.board_handle.specs.Calls.{IsSame, RefusesBlocks, RefusesPlace, RefusesSnapshot};
 ghost use Rattle.board_handle.specs.Reading.{AreBlocks, AreReported, IsBehindBlocks, IsPlace};
 
 use crate::error::HandleError;
 use crate::handle::BoardHandle;
-use at_sync::Board;
 use chare_index::{Index, Pe, Round};
 use lb_snapshot::Snapshot;
 use std::alloc::Global;
+use sync_board::Board;
 
 /// What a decision comes to.
 #[derive(Clone, Copy, Debug)]

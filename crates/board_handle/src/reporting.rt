@@ -1,15 +1,15 @@
 //! What elements tell the board, and what it is asked.
 
 ghost use Rattle.std.specs.Prelude.{◌≡◌, ◌<◌, ◌↔◌, IsTrue, MatchResult, OnOk, OnErr, true};
-ghost use Rattle.at_sync.specs.Boards.{HaveFinished, after_finish, after_report};
+ghost use Rattle.sync_board.specs.Boards.{HaveFinished, after_finish, after_report};
 ghost use Rattle.lb_database.specs.Measuring.{IsComplete, elements};
 ghost use Rattle.board_handle.specs.Calls.{IsSame, IsTaken, RefusesClosed, RefusesFinish, RefusesReport};
 
 use crate::error::HandleError;
 use crate::handle::BoardHandle;
-use at_sync::Board;
 use chare_index::{Pe, Round};
 use std::alloc::Global;
+use sync_board::Board;
 
 /// What an element tells as it begins to wait for the end of a round: which element and round, the work units that it did in it, up
 /// to [`Limits::LOAD`](chare_index::Limits::LOAD), the bytes that it packs into, and the PE that it is on.
@@ -52,7 +52,7 @@ impl BoardHandle {
         taken
     }
 
-    /// Takes it that an element has finished. A second time changes nothing.
+    /// Marks an element as finished. Idempotent.
     ///
     /// # Errors
     ///

@@ -2,14 +2,14 @@
 
 ghost use Rattle.std.specs.Prelude.{◌≡◌, ◌≤◌, IfOk, MatchResult, length};
 ghost use Rattle.rts_run.specs.Configs.{IsWithin, MayBegin, RefusesRun};
-ghost use Rattle.rts_run.specs.Outcomes.{IsOutcome};
+ghost use Rattle.rts_run.specs.Outcomes.{EndsIdle, IsOutcome};
 
 use crate::opening::opened_again;
 use barrier::RunStrategy;
 use chare_index::{Gate, Limits};
 use chares::{Chare, Openings};
 use pe_worker::Watch;
-use rts_run::{Config, Outcome, RunError, run_opened};
+use rts_run::{Config, Options, Outcome, RunError, run_opened};
 use std::alloc::{AllocError, Allocator};
 use std::marker::Brand;
 use std::snapshot::Snapshot;
@@ -38,27 +38,31 @@ pub fn carry_on<
     rt: &R,
     alloc: A,
     config: &Config,
+    options: &Options,
     gate: &G,
     watch: &V,
     opening: &Snapshot<Vec<C, A>>,
     outcome: Outcome<C, A>,
 ) -> Result<Outcome<C, A>, RunError>
-    requires earlier { IsOutcome C.step C.fits C.pack C.refuses opening.now.value.items config.now.pes config.now.strategy outcome }
+    requires earlier { IsOutcome C.step C.fits C.pack C.refuses opening.now.value.items config.now.pes options.now.strategy outcome }
     ensures answer { MatchResult result (λ _. MayBegin config.now (length opening.now.value.items))
         (RefusesRun config.now (length opening.now.value.items)) }
-    ensures outcome { IfOk result (IsOutcome C.step C.fits C.pack C.refuses opening.now.value.items config.now.pes config.now.strategy) }
+    ensures outcome { IfOk result (IsOutcome C.step C.fits C.pack C.refuses opening.now.value.items config.now.pes options.now.strategy) }
+    ensures idle { IfOk result (EndsIdle options.now.idle) }
     ensures homes { IfOk result (λ o. o.homes ≡ outcome.homes) }
 {
     if let Some(setting) = config.first_outside(outcome.board().len()) {
         return Err(RunError::Config(setting));
     }
-    match carry_on_as::<C, Brand, G, V, R, A>(rt, alloc, config, gate, watch, opening, outcome) {
+    match carry_on_as::<C, Brand, G, V, R, A>(
+        rt, alloc, config, options, gate, watch, opening, outcome,
+    ) {
         Ok(outcome) => Ok(outcome),
         Err(_) => Err(RunError::OutOfMemory),
     }
 }
 
-// The same, for the chares that `H` names.
+// Carries a run on. `H` is the type that names the chares with which the run opened.
 fn carry_on_as<
     C: Chare<A> + Send,
     H: Openings<C> + RunStrategy + Send + Sync,
@@ -70,6 +74,7 @@ fn carry_on_as<
     rt: &R,
     alloc: A,
     config: &Config,
+    options: &Options,
     gate: &G,
     watch: &V,
     _opening: &Snapshot<Vec<C, A>>,
@@ -81,8 +86,9 @@ fn carry_on_as<
     requires run { config.now.pes ≡ H.pes }
     requires earlier { IsOutcome C.step C.fits C.pack C.refuses H.opened H.pes H.strategy outcome }
     ensures outcome { IfOk result (IsOutcome C.step C.fits C.pack C.refuses H.opened H.pes H.strategy) }
+    ensures idle { IfOk result (EndsIdle options.now.idle) }
     ensures homes { IfOk result (λ o. o.homes ≡ outcome.homes) }
 {
     let (opened, homes) = opened_again::<C, H, A>(alloc, config, outcome)?;
-    run_opened(rt, alloc, config, gate, watch, opened, homes)
+    run_opened(rt, alloc, config, options, gate, watch, opened, homes)
 }

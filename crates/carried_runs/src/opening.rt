@@ -12,7 +12,6 @@ ghost use Rattle.rts_run.specs.Openings.{AreNewSeats};
 ghost use Rattle.rts_run.specs.Outcomes.{IsOutcome};
 
 use crate::reopening::{places_of, reopen_all};
-use at_sync::Board;
 use barrier::RunStrategy;
 use chare_index::{Limits, Pe, Pes};
 use chares::{Chare, Openings};
@@ -21,6 +20,7 @@ use pe_state::{HeldParcel, Parcel, PeEnd, PeState};
 use pe_worker::OfRun;
 use rts_run::{Config, OpenedRun, Outcome, open_post};
 use std::alloc::{AllocError, Allocator};
+use sync_board::Board;
 
 /// What goes on from what an earlier run of the chares that `H` names has left, and where its elements opened. The only error is that
 /// memory was refused.
@@ -41,7 +41,7 @@ pub(crate) fn opened_again<C: Chare<A>, H: Openings<C> + RunStrategy, A: Allocat
     Ok((opened, homes))
 }
 
-// The same, from the parts of an outcome.
+// What the next run begins with, made from the parts of an outcome.
 fn opened_from<C: Chare<A>, H: Openings<C> + RunStrategy, A: Allocator + Copy>(
     alloc: A,
     config: &Config,

@@ -3,14 +3,14 @@
 ghost use Rattle.std.specs.Prelude.{◌≡◌, IfOk, MatchResult, length};
 ghost use Rattle.rts_core.specs.Worlds.{opening_words};
 ghost use Rattle.rts_run.specs.Configs.{MayBegin, RefusesRun};
-ghost use Rattle.rts_run.specs.Outcomes.{IsOutcome};
+ghost use Rattle.rts_run.specs.Outcomes.{EndsIdle, IsOutcome};
 
 use crate::carrying::carry_on;
 use crate::pausing::Pausing;
 use chare_index::{Gate, Limits};
 use chares::Chare;
 use pe_worker::{Fault, Watch};
-use rts_run::{Config, Outcome, RunError, run_watched};
+use rts_run::{Config, Options, Outcome, RunError, run_watched};
 use std::alloc::Allocator;
 use std::snapshot::Snapshot;
 use std::sync::Wait;
@@ -58,22 +58,26 @@ pub fn run_in_parts<
     rt: &R,
     alloc: A,
     config: &Config,
+    options: &Options,
     gate: &G,
     watch: &V,
     pauses: &mut P,
     chares: Vec<C, A>,
 ) -> Result<Outcome<C, A>, RunError>
     ensures answer { MatchResult result (λ _. MayBegin config.now (length chares.items)) (RefusesRun config.now (length chares.items)) }
-    ensures outcome { IfOk result (IsOutcome C.step C.fits C.pack C.refuses chares.items config.now.pes config.now.strategy) }
+    ensures outcome { IfOk result (IsOutcome C.step C.fits C.pack C.refuses chares.items config.now.pes options.now.strategy) }
+    ensures idle { IfOk result (EndsIdle options.now.idle) }
     ensures homes { IfOk result (λ o. o.homes ≡ opening_words (length chares.items) config.now.pes) }
 {
     if !pauses.are_wanted() {
-        return run_watched(rt, alloc, config, gate, watch, chares);
+        return run_watched(rt, alloc, config, options, gate, watch, chares);
     }
     let opening = Snapshot::of(&chares);
     let pausing = Pausing::beside(watch);
-    let outcome = run_watched(rt, alloc, config, gate, &pausing, chares)?;
-    go_on(rt, alloc, config, gate, &pausing, pauses, &opening, outcome)
+    let outcome = run_watched(rt, alloc, config, options, gate, &pausing, chares)?;
+    go_on(
+        rt, alloc, config, options, gate, &pausing, pauses, &opening, outcome,
+    )
 }
 
 /// Carries a run on as [`carry_on`] does, and pauses after each round, where pauses are wanted, as [`run_in_parts`] does.
@@ -92,24 +96,28 @@ pub fn carry_on_in_parts<
     rt: &R,
     alloc: A,
     config: &Config,
+    options: &Options,
     gate: &G,
     watch: &V,
     pauses: &mut P,
     opening: &Snapshot<Vec<C, A>>,
     outcome: Outcome<C, A>,
 ) -> Result<Outcome<C, A>, RunError>
-    requires earlier { IsOutcome C.step C.fits C.pack C.refuses opening.now.value.items config.now.pes config.now.strategy outcome }
+    requires earlier { IsOutcome C.step C.fits C.pack C.refuses opening.now.value.items config.now.pes options.now.strategy outcome }
     ensures answer { MatchResult result (λ _. MayBegin config.now (length opening.now.value.items))
         (RefusesRun config.now (length opening.now.value.items)) }
-    ensures outcome { IfOk result (IsOutcome C.step C.fits C.pack C.refuses opening.now.value.items config.now.pes config.now.strategy) }
+    ensures outcome { IfOk result (IsOutcome C.step C.fits C.pack C.refuses opening.now.value.items config.now.pes options.now.strategy) }
+    ensures idle { IfOk result (EndsIdle options.now.idle) }
     ensures homes { IfOk result (λ o. o.homes ≡ outcome.homes) }
 {
     if !pauses.are_wanted() {
-        return carry_on(rt, alloc, config, gate, watch, opening, outcome);
+        return carry_on(rt, alloc, config, options, gate, watch, opening, outcome);
     }
     let pausing = Pausing::beside(watch);
-    let outcome = carry_on(rt, alloc, config, gate, &pausing, opening, outcome)?;
-    go_on(rt, alloc, config, gate, &pausing, pauses, opening, outcome)
+    let outcome = carry_on(rt, alloc, config, options, gate, &pausing, opening, outcome)?;
+    go_on(
+        rt, alloc, config, options, gate, &pausing, pauses, opening, outcome,
+    )
 }
 
 // Carries a run on after each pause, to its end.
@@ -124,6 +132,7 @@ fn go_on<
     rt: &R,
     alloc: A,
     config: &Config,
+    options: &Options,
     gate: &G,
     pausing: &Pausing<'_, V>,
     pauses: &mut P,
@@ -131,10 +140,12 @@ fn go_on<
     outcome: Outcome<C, A>,
 ) -> Result<Outcome<C, A>, RunError>
     requires may_begin { MayBegin config.now (length opening.now.value.items) }
-    requires earlier { IsOutcome C.step C.fits C.pack C.refuses opening.now.value.items config.now.pes config.now.strategy outcome }
+    requires earlier { IsOutcome C.step C.fits C.pack C.refuses opening.now.value.items config.now.pes options.now.strategy outcome }
+    requires earlier_idle { EndsIdle options.now.idle outcome }
     ensures answer { MatchResult result (λ _. MayBegin config.now (length opening.now.value.items))
         (RefusesRun config.now (length opening.now.value.items)) }
-    ensures outcome { IfOk result (IsOutcome C.step C.fits C.pack C.refuses opening.now.value.items config.now.pes config.now.strategy) }
+    ensures outcome { IfOk result (IsOutcome C.step C.fits C.pack C.refuses opening.now.value.items config.now.pes options.now.strategy) }
+    ensures idle { IfOk result (EndsIdle options.now.idle) }
     ensures homes { IfOk result (λ o. o.homes ≡ outcome.homes) }
 {
     let mut outcome = outcome;
@@ -143,7 +154,7 @@ fn go_on<
             break;
         }
         pauses.paused(&outcome);
-        outcome = carry_on(rt, alloc, config, gate, pausing, opening, outcome)?;
+        outcome = carry_on(rt, alloc, config, options, gate, pausing, opening, outcome)?;
     }
     Ok(outcome)
 }

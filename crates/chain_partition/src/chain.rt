@@ -1,3 +1,5 @@
+//! A chain of up to 2^32 - 1 loads with running sums, from which the load of any range is read.
+
 ghost use Rattle.std.specs.Prelude.{◌≡◌, ◌+◌, ◌/◌, ◌<◌, ◌≤◌, ◌^◌, ◌↔◌, [], IsTrue, IfErr, IfOk, OnOk, length, sum, vec_len, vec_capacity};
 ghost use Rattle.lb_snapshot.specs.Measured.{load};
 ghost use Rattle.chain_partition.specs.Sums.{AppendsSamples, IsChain, IsRefused, IsSampled};

@@ -1,3 +1,5 @@
+//! Finds the least division by bisection over running sums, and the fence that proves it least.
+
 ghost use Rattle.std.specs.Prelude.{◌≡◌, ◌≤◌, IfOk};
 ghost use Rattle.lb_certificates.specs.Chain.{IsLeastDivision, IsLeastPeak};
 ghost use Rattle.lb_certificates.specs.Certificate.{IsCertified};
@@ -34,7 +36,7 @@ pub fn divide<A: Allocator + Copy, B: Allocator>(
     divide_chain(alloc, &chain, pes)
 }
 
-/// The same as [`divide`], for a [`Chain`], into `pes` blocks, 1 or more.
+/// Divides a [`Chain`] as [`divide`] divides loads, into `pes` blocks, 1 or more.
 ///
 /// # Errors
 ///

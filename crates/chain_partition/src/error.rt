@@ -1,3 +1,5 @@
+//! Why loads are not accepted as a chain.
+
 ghost use Rattle.std.specs.Prelude.{◌≡◌};
 ghost use Rattle.chain_partition.specs.declared.error.ChainError.TheVariants.{OutOfMemory};
 

@@ -1,3 +1,5 @@
+//! A copy of a snapshot's loads with running sums, for callers that probe several limits.
+
 ghost use Rattle.std.specs.Prelude.{◌≡◌, ◌≤◌, ◌↔◌, [], IsTrue, IfOk, length};
 ghost use Rattle.lb_snapshot.specs.Measured.{load};
 ghost use Rattle.chain_partition.specs.Sums.{IsSampled};

@@ -1,3 +1,5 @@
+//! The probe: whether a number of blocks within a limit can hold all elements.
+
 ghost use Rattle.std.specs.Prelude.{◌≡◌, ◌≤◌, IfOk};
 ghost use Rattle.chain_partition.specs.Chosen.{IsProbe};
 ghost use Rattle.chain_partition.specs.Sums.{IsSampled};
@@ -32,7 +34,7 @@ pub fn probe<A: Allocator + Copy, B: Allocator>(
     probe_chain(alloc, &chain, pes, limit)
 }
 
-/// The same as [`probe`], on running sums: each block's end is found by binary search.
+/// Probes as [`probe`] does, on running sums: each block's end is found by binary search.
 ///
 /// # Errors
 ///
@@ -50,7 +52,7 @@ pub fn probe_on<A: Allocator, B: Allocator>(
     probe_sums(alloc, prefix.loads(), prefix.samples(), pes, limit)
 }
 
-/// The same as [`probe`], for a [`Chain`] and `pes` blocks, 1 or more.
+/// Probes a [`Chain`] as [`probe`] probes loads, with `pes` blocks, 1 or more.
 ///
 /// # Errors
 ///
@@ -67,7 +69,7 @@ pub fn probe_chain<A: Allocator, B: Allocator>(
     probe_sums(alloc, chain.loads(), chain.samples(), pes, limit)
 }
 
-// The same, for loads and the running sums that are kept of them.
+// Probes loads by the running sums that are kept of them.
 fn probe_sums<A: Allocator>(
     alloc: A,
     loads: &[Units],

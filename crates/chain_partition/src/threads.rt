@@ -1,4 +1,4 @@
-//! The same search with several limits tried at a time, each by a worker in a thread of its own.
+//! The search for the least division by several threads, each of which tries another limit.
 
 ghost use Rattle.std.specs.Prelude.{◌≡◌, ℕ, ◌-◌, ◌<◌, ◌≤◌, IfOk, length, slice_index_or};
 ghost use Rattle.lb_certificates.specs.Chain.{IsLeastDivision, IsLeastPeak};
@@ -19,8 +19,8 @@ use std::thread::{self, Threads};
 // A place for each worker, of the most that are allowed.
 const MOST_WORKERS: usize = Limits::PROBE_WORKERS as usize;
 
-/// The same division as that of [`divide`](crate::divide), found by 1 to 64 workers: each round of the search gives each of
-/// them a limit of its own, and keeps the range between the greatest limit that stops and the least that fits. Inside each
+/// Finds the division that [`divide`](crate::divide) finds, by 1 to 64 workers: each round of the search gives each of them
+/// a limit of its own, and keeps the range between the greatest limit that stops and the least that fits. Inside each
 /// probe a worker calls the gate's [`pass`](Gate::pass) with its number, from 0. If a thread cannot be started, the others do
 /// its work.
 ///
@@ -48,7 +48,7 @@ pub fn divide_with<R: Threads + Sync, G: Gate + Sync, A: Allocator + Copy, B: Al
     divide_chain_with(rt, alloc, &chain, pes, workers, gate)
 }
 
-/// The same as [`divide_with`], for a [`Chain`], into `pes` blocks, 1 or more.
+/// Divides a [`Chain`] as [`divide_with`] divides loads, into `pes` blocks, 1 or more.
 ///
 /// # Errors
 ///

@@ -58,7 +58,7 @@ walk_is_enough claim present b from to start paired apart within early late insi
       ]
     ]
 
--- the same, from what the test knows
+-- a walk past the present cut is enough, by what the test knows
 pub few_are_enough : (claim : Claimed) (present : List ℕ) (b to bottom : ℕ) (base : Base) (low : Climb) → IsClaim claim
     → StandInOrder claim.sizes claim.names present → b + 1 < length claim.names → IsBase claim base
     → low.height ≡ height_at claim.heights b base.window.start → bottom ≡ height_at claim.heights b 0 → low.height ≤ bottom

@@ -56,7 +56,7 @@ IsGentle claim b x =
 abbrev pub AllGentle : Claimed → ℕ → ℕ → Type 0
 AllGentle claim b places = (x : ℕ) → x < places → x ≤ length claim.loads → IsGentle claim b x
 
--- the same to each place of the chain, for the cuts behind the first `blocks` blocks
+-- the height rises so to each place of the chain, for the cuts behind the first `blocks` blocks
 abbrev pub AreGentle : Claimed → ℕ → Type 0
 AreGentle claim blocks = (b : ℕ) → b < blocks → AllGentle claim b (length claim.loads + 1)
 

@@ -25,7 +25,7 @@ pub record ArePartsApart (sizes : List (ℕ × ℕ)) (from to cut : ℕ) : Type 
   pub before : (i : ℕ) → i < cut → i < length sizes → place_of sizes i ≢ to
   pub behind : (i : ℕ) → cut ≤ i → i < length sizes → place_of sizes i ≢ from
 
--- the same at the present cut between block b and the next
+-- the elements stand so at the present cut between block b and the next
 abbrev pub AreApartAt : List (ℕ × ℕ) → List ℕ → List ℕ → ℕ → Type 0
 AreApartAt sizes names present b =
     ArePartsApart sizes (slice_index names b) (slice_index names (b + 1)) (slice_index present (b + 1))

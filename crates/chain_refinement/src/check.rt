@@ -1,3 +1,5 @@
+//! Checks cuts that keep an order of the PEs: the limit, the bytes moved, and the proof that no others move fewer.
+
 ghost use Rattle.std.specs.Prelude.{◌≡◌, ℕ, ◌+◌, ◌-◌, ◌<◌, ◌≤◌, ◌↔◌, IsOk, IfErr, OnOk, MatchBool, MatchOption, length, slice_index};
 ghost use Rattle.lb_snapshot.specs.Measured.{IsLoads, IsSizes};
 ghost use Rattle.lb_certificates.specs.Certificate.{IsCertified, NoneAbove};
@@ -49,7 +51,7 @@ pub fn check_refinement<A: Allocator, B: Allocator>(
     check_parts(snapshot, pes, refinement)
 }
 
-// The same, part by part.
+// Runs the checks of `check_refinement` one after another.
 fn check_parts<A: Allocator, B: Allocator>(
     snapshot: &Snapshot<A>,
     pes: u32,

@@ -1,3 +1,5 @@
+//! The heights of a refinement with the chain, limit and order that they are claimed for.
+
 use crate::heights::Steps;
 use chare_index::Pe;
 use lb_snapshot::Units;

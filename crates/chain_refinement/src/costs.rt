@@ -52,7 +52,7 @@ fn cost_of_cut<A: Allocator>(
     behind + held_by(&claim.sizes[..x], claim.names[b + 1])
 }
 
-/// The same, where elements are in order: the bytes between the cut and the present one.
+/// What a cut costs where the elements are in order: the bytes between it and the present cut.
 pub(crate) fn cost_nearby<A: Allocator>(
     claim: &HeightsClaim<'_, A>,
     present: &[u32],

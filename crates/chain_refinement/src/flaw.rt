@@ -1,3 +1,5 @@
+//! What can be wrong with a refinement, in the order in which it is checked.
+
 use lb_certificates::Flaw;
 
 /// What is wrong with a [`Refinement`](crate::Refinement). Flaws are reported in this order.

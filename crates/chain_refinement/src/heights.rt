@@ -1,3 +1,5 @@
+//! Step functions along the chain, one for each block. They prove that no other cuts move fewer bytes.
+
 ghost use Rattle.std.specs.Prelude.{◌≡◌, ℕ, List};
 
 use std::alloc::{Allocator, Global};

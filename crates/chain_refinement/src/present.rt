@@ -1,3 +1,5 @@
+//! Finds the order in which the PEs now stand along the chain, and the cuts between them.
+
 ghost use Rattle.std.specs.Prelude.{IfOk, MatchOption};
 ghost use Rattle.chain_refinement.specs.Orders.{IsPresentOrder};
 ghost use Rattle.chain_refinement.specs.NoOrders.{HasNoOrder};

@@ -1,3 +1,5 @@
+//! Cuts within a limit that move the fewest bytes in a given order of the PEs, with the proof of that.
+
 use crate::heights::Heights;
 use crate::tolerance::Tolerance;
 use lb_certificates::{Cuts, Division, Naming};

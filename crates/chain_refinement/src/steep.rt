@@ -28,7 +28,7 @@ pub(crate) fn first_steep<A: Allocator>(
     first_steep_anywhere(claim)
 }
 
-// The same, where elements are in order.
+// The first steep place, where the elements are in order.
 fn first_steep_in_order<A: Allocator>(
     claim: &HeightsClaim<'_, A>,
     present: &[u32],
@@ -70,7 +70,7 @@ fn first_steep_from<A: Allocator>(
     first_steep_place(claim, b)
 }
 
-// The same, wherever elements are.
+// The first steep place, wherever the elements are.
 fn first_steep_anywhere<A: Allocator>(claim: &HeightsClaim<'_, A>) -> Option<(u32, u32)>
     requires claimed { IsClaim claim.now }
     ensures first { MatchOption result (AreGentle claim.now (length claim.now.names - 1)) (IsFirstSteep claim.now) }

@@ -1,3 +1,5 @@
+//! How far above the least possible load the greatest load may be.
+
 ghost use Rattle.std.specs.Prelude.{◌≡◌, ◌<◌, ◌≤◌, ◌↔◌, ◌^◌, ℕ, IsSome, IfSome};
 ghost use Rattle.chain_refinement.specs.Tolerances.{limit_of};
 

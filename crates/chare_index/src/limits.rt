@@ -1,3 +1,5 @@
+//! The limits of the runtime, all in one place.
+
 /// The limits of the runtime. Each quantity ranges from the lowest value given here to the constant, both included.
 #[derive(Clone, Copy, Debug, PartialEq, Eq)]
 pub struct Limits;

@@ -1,3 +1,5 @@
+//! The PE on which each element begins.
+
 ghost use Rattle.std.specs.Prelude.{◌≡◌, ◌*◌, ◌/◌, ◌<◌, ◌≤◌};
 
 use crate::index::Index;

@@ -1,3 +1,5 @@
+//! The number of a PE.
+
 ghost use Rattle.std.specs.Prelude.{◌≡◌, ℕ, ◌<◌, SomeIff};
 ghost use Rattle.chare_index.specs.declared.limits.TheConstants.Limits.{PES};
 

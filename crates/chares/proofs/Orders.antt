@@ -39,7 +39,7 @@ pub in_order_opening : {C : Type 0} (index : ℕ) (chare : C)
     → IsInOrder (opening_element index chare).journal (opening_element index chare).progress (opening_element index chare).marks
 in_order_opening index chare = record { first = tt; fresh = λ h. (refl, refl); stops = refl; resumed = refl }
 
--- the same of an element that has started
+-- the stop at which an element waits, if it does
 abbrev pub waiting : Progress → List Stop
 waiting p = if p.synced then AtSync (p.round + 1) ∷ [] else []
 

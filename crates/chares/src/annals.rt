@@ -16,7 +16,7 @@ use std::marker::Model;
 /// How many letters an element keeps at most whose history is dropped: so its buffer of them stays below a kilobyte.
 const MOST_LETTERS: usize = 16;
 
-/// A body of so many bytes is dropped before another letter is handled, while its memory is still in the processor's cache: the next
+/// A body of this many bytes is dropped before another letter is handled, while its memory is still in the processor's cache: the next
 /// message can have it.
 const LONG_BODY: usize = 64;
 
@@ -62,7 +62,7 @@ impl<A: Allocator> Annals<A> {
         }
     }
 
-    /// Annals of so many entries, all of them settled, which keep those to come.
+    /// Annals of this many entries, all of them settled, which keep those to come.
     pub(crate) fn arrived(alloc: A, past: Past, settled: u64) -> Self
     where
         A: Copy,

@@ -1,3 +1,5 @@
+//! The body of a letter. A short one is stored in the letter itself, a longer one on the heap.
+
 ghost use Rattle.std.specs.Prelude.{◌≡◌, ◌≤◌, length, IfOk};
 
 use std::alloc::{AllocError, Allocator, Global};

@@ -1,3 +1,5 @@
+//! The most bytes that the body of a letter may have in a run.
+
 ghost use Rattle.std.specs.Prelude.{◌≡◌, ℕ, ◌≤◌, SomeIff};
 ghost use Rattle.chare_index.specs.declared.limits.TheConstants.Limits.{BODY_BYTES, STATE_BYTES};
 
@@ -21,7 +23,7 @@ impl Model for BodyLimit {
 }
 
 impl BodyLimit {
-    /// Bodies of up to so many bytes, or `None` where these are fewer than 1,024 or more than 1,048,576.
+    /// Bodies of up to this many bytes, or `None` where these are fewer than 1,024 or more than 1,048,576.
     pub fn new(bytes: u32) -> Option<Self>
         ensures made { SomeIff result ((Limits.BODY_BYTES ≤ bytes) × (bytes ≤ Limits.STATE_BYTES)) bytes }
     {

@@ -1,3 +1,5 @@
+//! What travels from PE to PE: a letter or an element, with an address if it has one.
+
 use chare_index::Pe;
 
 /// What goes from PE to PE: a letter, or an element.

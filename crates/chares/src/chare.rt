@@ -1,3 +1,5 @@
+//! The traits of a chare: its handlers, what a handler is given and returns, and how a run opens.
+
 ghost use Rattle.std.specs.Prelude.{◌≡◌, ◌≢◌, ℕ, ◌+◌, ◌<◌, ◌≤◌, List, length, OnOk, OnErr, IfErr, IfOk};
 ghost use Rattle.chare_index.specs.declared.limits.TheConstants.Limits.{STATE_BYTES};
 ghost use Rattle.chares.specs.declared.entry.Entry.{Entry};

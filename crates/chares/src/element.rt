@@ -21,6 +21,7 @@ use crate::sends::{SendError, Sends};
 use crate::state_bytes::StateBytes;
 use crate::trace_entry::TraceEntry;
 use chare_index::{Gate, Index, Limits, Pe, Round};
+use lb_snapshot::Units;
 use std::alloc::{Allocator, Global};
 use std::marker::Model;
 
@@ -104,6 +105,42 @@ impl<C: Chare<A>, A: Allocator> Element<C, A> {
         ensures before_last_round { result.round < Limits.ROUND }
     {
         self.progress
+    }
+
+    /// The round after which it was resumed last, 0 from its start on.
+    pub fn round(&self) -> Round
+        ensures value { result ≡ self.now.progress.round }
+        ensures before_last_round { result < Limits.ROUND }
+    {
+        self.progress.round
+    }
+
+    /// Whether it has started.
+    pub fn started(&self) -> bool
+        ensures value { result ≡ self.now.progress.started }
+    {
+        self.progress.started
+    }
+
+    /// Whether it waits for the end of the round after [`round`](Element::round).
+    pub fn synced(&self) -> bool
+        ensures value { result ≡ self.now.progress.synced }
+    {
+        self.progress.synced
+    }
+
+    /// Whether it has finished.
+    pub fn finished(&self) -> bool
+        ensures value { result ≡ self.now.progress.finished }
+    {
+        self.progress.finished
+    }
+
+    /// The work units of its handlers since it began to wait last.
+    pub fn load(&self) -> Units
+        ensures value { result ≡ self.now.progress.load }
+    {
+        self.progress.load
     }
 
     /// Its marks of the rounds that it has seen.

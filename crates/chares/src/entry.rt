@@ -1,3 +1,5 @@
+//! One entry of an element's journal: a letter that it handled, or its resumption after a round.
+
 use chare_index::Round;
 
 /// What an element handles, and so an entry of its journal: a letter, or its resumption after a round. Its start

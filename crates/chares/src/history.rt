@@ -1,3 +1,5 @@
+//! Whether elements keep a journal of what they have handled.
+
 /// Whether elements keep what they have handled.
 #[derive(Clone, Copy, Debug, Default, PartialEq, Eq)]
 pub enum History {

@@ -1,3 +1,5 @@
+//! A mark of a round, stored in 16 bytes.
+
 ghost use Rattle.std.specs.Prelude.{◌≡◌, SomeIff};
 ghost use Rattle.chares.specs.Keeping.{IsLight};
 ghost use Rattle.chares.specs.declared.note.Mark.TheVariants.{Resumed, Synced};

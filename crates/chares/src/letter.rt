@@ -1,3 +1,5 @@
+//! A letter, with its number, its address, its body and its count of hops.
+
 ghost use Rattle.std.specs.Prelude.{◌≡◌, ℕ, ◌+◌, min, IfOk};
 ghost use Rattle.chares.specs.Letters.{LetterView, hopped};
 

@@ -1,3 +1,5 @@
+//! What a PE still has to report to the board, and the mark that an element keeps of it.
+
 ghost use Rattle.std.specs.Prelude.{◌≡◌};
 ghost use Rattle.chares.specs.Progressing.{is_finish};
 

@@ -1,3 +1,5 @@
+//! The packed size of a state in bytes.
+
 ghost use Rattle.std.specs.Prelude.{◌≡◌, ℕ, ◌≤◌, SomeIff};
 ghost use Rattle.chare_index.specs.declared.limits.TheConstants.Limits.{STATE_BYTES};
 

@@ -1,3 +1,5 @@
+//! One entry of the trace that the events of a run leave.
+
 use crate::letter::LetterId;
 use chare_index::{Index, Round};
 

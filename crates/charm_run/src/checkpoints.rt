@@ -4,7 +4,6 @@ ghost use Rattle.std.specs.Prelude.{IfOk, None};
 ghost use Rattle.run_checkpoint.specs.Text.{IsWithin};
 
 use crate::{ADVICE, TURNS, history_of};
-use at_sync::Strategy;
 use chare_index::Pes;
 use checkpointed_runs::{
     CheckpointFiles, Checkpoints, drive_from, finish_kept, on_pes, opening_of, read_checkpoint,
@@ -21,6 +20,7 @@ use std::sync::Wait;
 use std::thread::Threads;
 use std::time::Clock;
 use streams::Advice;
+use sync_board::Strategy;
 use workload_run::report_memory;
 
 /// What to do about a checkpoint with a fault.
@@ -155,7 +155,7 @@ fn open_checkpoint<R: Files + AllocGlobal, E: Write, W: Write>(
     }
 }
 
-// The same run on the number of PEs that is asked for, if one is. A command line has no other than a run may have.
+// Moves the run to the number of PEs that was asked for, if one was. The command line has already checked that number.
 fn on_asked_pes(
     alloc: Global,
     checkpoint: Checkpoint<Global>,

@@ -24,7 +24,6 @@ use crate::checkpoints::{has_checkpoints, run_kept};
 use crate::files::{early_dumps, finish_dumps, write_dumps};
 use crate::one_thread::{run_by_list, run_by_seed, run_by_seeds};
 use crate::traces::{Onlookers, keep_recorded, lose_trace};
-use at_sync::Strategy;
 use program_words::{BAD_FILE, on_words, refused};
 use progress_line::ShownProgress;
 use rts_run::History;
@@ -37,6 +36,7 @@ use std::sync::Wait;
 use std::thread::Threads;
 use std::time::Clock;
 use streams::Advice;
+use sync_board::Strategy;
 use workload_run::{drive_file, status_beside};
 
 /// The number of idle turns in a row after which a worker gives up.

@@ -6,8 +6,8 @@ use Rattle.std.proofs.lemmas.List.{append-nil, drop_all, drop_more}
 use Rattle.std.proofs.lemmas.List.FromFn.{map-range_with_len_more}
 use Rattle.std.proofs.lemmas.Option.{IfSome_then}
 use denote.Ref.{Bor}
-use Rattle.at_sync.proofs.Places.{has_place}
-use Rattle.at_sync.specs.Boards.{BoardState, IsBoard, IsKeptIn}
+use Rattle.sync_board.proofs.Places.{has_place}
+use Rattle.sync_board.specs.Boards.{BoardState, IsBoard, IsKeptIn}
 use Rattle.chare_index.specs.declared.limits.TheConstants.Limits.{ROUND}
 use Rattle.lb_database.specs.Measuring.{IsMeasured, elements}
 use Rattle.lb_refinement.specs.Refined.{refined_cuts, refined_names}

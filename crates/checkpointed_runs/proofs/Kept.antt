@@ -38,7 +38,7 @@ module _ {E : Type 0} (name : Option (List ℕ)) (workload : Option WorkloadView
       → (IsTrue false ↔ IsSome held) → KeepsNoted name workload decided places asked asked failed failed
   noted_off at held asked failed is off = noted_unnamed asked failed (is ∙ unmapped at held off)
 
-  -- the same, of rounds and places that are equal
+  -- what is kept depends only on the values of the rounds and the places
   pub kept_as : (rounds : List DecidedRound) (spots : List ℕ) (old now : Option (List FileRequest)) (kept : Result ⊤ E) → rounds ≡ decided → spots ≡ places
       → KeepsAt name workload rounds spots old now kept → KeepsAt name workload decided places old now kept
   kept_as rounds spots old now kept same_rounds same_places keeps =

@@ -1,7 +1,7 @@
 -- What a run from a checkpoint left.
 use Rattle.std.proofs.Common.{◌≡◌, ◌<◌, ◌^◌, ◌∙◌, ℕ, List, length, subst, sym}
 use Rattle.std.proofs.lemmas.List.FromFn.{length-map-range_with_len}
-use Rattle.at_sync.specs.declared.strategy.Strategy.{Strategy}
+use Rattle.sync_board.specs.declared.strategy.Strategy.{Strategy}
 use Rattle.checkpointed_runs.specs.Driving.{IsLeftFrom}
 use Rattle.rts_run.specs.Outcomes.{IsOutcome, OutcomeView}
 use Rattle.run_checkpoint.specs.Tallies.{tallies_after, tally_after}

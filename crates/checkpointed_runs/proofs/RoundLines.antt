@@ -5,7 +5,7 @@ use Rattle.std.proofs.lemmas.Grind.{flat_map-append}
 use Rattle.std.proofs.lemmas.List.{append-nil, map-id}
 use Rattle.std.proofs.lemmas.List.FromFn.{map-range_with_len_more}
 use Rattle.std.proofs.lemmas.Option.{slice_get-get_or, slice_get_read}
-use Rattle.at_sync.specs.Boards.{Kept}
+use Rattle.sync_board.specs.Boards.{Kept}
 use Rattle.checkpointed_runs.specs.Whole.{earlier_line, later_line}
 use Rattle.lb_refinement.specs.Refined.{refined_bottleneck, refined_moved}
 use Rattle.run_checkpoint.specs.declared.checkpoint.DecidedRound.{DecidedRound}

@@ -1,6 +1,6 @@
 -- What a run from a checkpoint left, and what its writer holds then.
 use Rattle.std.specs.Prelude.{◌≡◌, ℕ, List, Option, None, Some, length}
-use Rattle.at_sync.specs.declared.strategy.Strategy.{Strategy}
+use Rattle.sync_board.specs.declared.strategy.Strategy.{Strategy}
 use Rattle.checkpointed_runs.specs.Whole.{whole_text}
 use Rattle.rts_run.specs.Outcomes.{IsOutcome, OutcomeView}
 use Rattle.run_checkpoint.specs.Tallies.{tallies_after}

@@ -2,7 +2,7 @@
 use Rattle.std.specs.Prelude.{◌≡◌, ℕ, ◌+◌, ◌<◌, ◌≤◌, List, [], ◌++◌, length, map, Option, None, Some, Result, Ok, Err, ⊤}
 use Rattle.std.specs.List.{range_with_len}
 use Rattle.std.specs.Option.{option_map_or}
-use Rattle.at_sync.specs.Boards.{BoardState, Kept, decision_of}
+use Rattle.sync_board.specs.Boards.{BoardState, Kept, decision_of}
 use Rattle.checkpointed_runs.specs.Keeping.{FileRequest, Keeps}
 use Rattle.lb_database.specs.Measuring.{elements}
 use Rattle.lb_refinement.specs.Refined.{refined_bottleneck, refined_cuts, refined_moved, refined_names}
@@ -27,7 +27,7 @@ places_by d n = map (λ e. planned_pe (refined_cuts d) (refined_names d) e) (ran
 abbrev pub last_places : {A : Type 0} → BoardState A → List ℕ
 last_places b = option_map_or (λ d. places_by d (elements b.database)) (decision_of b (length b.rounds)) []
 
--- a checkpoint is due once n rounds of a run were decided: some since the last one, which came after this many, and at least so many
+-- a checkpoint is due once n rounds of a run were decided: at least one since the last, which came after `written`, and at least `least`
 pub record IsDue (written least n : ℕ) : Type 0 where
   pub some : written < n
   pub enough : written + least ≤ n

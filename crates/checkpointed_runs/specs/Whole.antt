@@ -2,7 +2,7 @@
 use Rattle.std.specs.Prelude.{ℕ, ◌+◌, ◌*◌, ◌-◌, List, ◌++◌, [], length, slice_get}
 use Rattle.std.specs.List.{flat_map, range_with_len}
 use Rattle.std.specs.Option.{option_map_or}
-use Rattle.at_sync.specs.Boards.{Kept, kept_of}
+use Rattle.sync_board.specs.Boards.{Kept, kept_of}
 use Rattle.lb_refinement.specs.Refined.{refined_bottleneck, refined_moved}
 use Rattle.rts_core.specs.Accounts.{posted_count, executed_count, held_count}
 use Rattle.rts_run.specs.Outcomes.{OutcomeView}

@@ -34,7 +34,7 @@ pub fn opening_of<A: Allocator + Copy>(
     })
 }
 
-/// The same run on this number of PEs. Where it is another than that of the checkpoint, each chare is on the PE on which a run opens it.
+/// Moves the run to this number of PEs. If the number changes, each chare is on the PE on which a new run would open it.
 ///
 /// # Errors
 ///

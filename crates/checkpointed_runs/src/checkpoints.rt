@@ -3,7 +3,7 @@
 ghost use Rattle.std.specs.Prelude.{◌≡◌, ◌<◌, ◌≤◌, None, Some, IfOk, IfSome, IsFalse, IsTrue, IsSome, ◌↔◌, ℕ, length};
 ghost use Rattle.std.specs.Option.{option_copied, option_map};
 ghost use Rattle.std.specs.String.{string_bytes};
-ghost use Rattle.at_sync.specs.Boards.{decision_of};
+ghost use Rattle.sync_board.specs.Boards.{decision_of};
 ghost use Rattle.checkpointed_runs.specs.Keeping.{Keeps, new_name};
 ghost use Rattle.checkpointed_runs.specs.Lines.{not_kept_line};
 ghost use Rattle.checkpointed_runs.specs.Pausing.{IsDue, KeepsAt, KeepsNoted, all_decided, first_failure, last_places, places_by};
@@ -13,7 +13,6 @@ ghost use Rattle.lb_strategy.specs.Moves.{HasPlace};
 ghost use Rattle.streams.specs.Writing.{WritesPrefix};
 
 use crate::files::{CheckpointFiles, replace};
-use at_sync::Board;
 use carried_runs::Pauses;
 use chare_index::{Index, Limits, Pe, Round};
 use chares::Chare;
@@ -24,6 +23,7 @@ use run_checkpoint::DecidedRound;
 use std::alloc::{AllocError, Allocator, Global};
 use std::io::{self, Write};
 use streams::write_out;
+use sync_board::Board;
 use workload::Workload;
 
 /// The line where a checkpoint was not kept.
@@ -32,8 +32,8 @@ const NO_CHECKPOINT: &str = "checkpoint: write failed\n";
 /// The status where a checkpoint was not kept.
 const NO_OUTPUT: u8 = 5;
 
-/// Writes checkpoints of a run of a workload: of before the run, where the run pauses after each so many rounds, and where it ends
-/// early.
+/// Writes checkpoints of a run of a workload: one before the run, one at each pause, which comes after a given number of rounds,
+/// and one where the run ends early.
 #[derive(Drop)]
 pub struct Checkpoints<'a, F, A: Allocator = Global> {
     alloc: A,
@@ -52,8 +52,8 @@ pub struct Checkpoints<'a, F, A: Allocator = Global> {
 }
 
 impl<'a, F: CheckpointFiles + Drop, A: Allocator + Copy> Checkpoints<'a, F, A> {
-    /// Checkpoints in the file of this name, or none without a name, of which one is written after each so many rounds. Rounds that are
-    /// decided while the run pauses come with those before.
+    /// Checkpoints in the file of this name, or none without a name, written each time `every` more rounds were decided. Rounds that are
+    /// decided while the run pauses count with those before.
     pub fn new(alloc: A, files: F, name: Option<&'a str>, every: u32) -> Self
         ensures files { result.files ≡ files }
         ensures name { result.name ≡ name.entry }
@@ -208,7 +208,7 @@ impl<F: CheckpointFiles + Drop, C: Chare<A>, A: Allocator + Copy> Pauses<C, A>
     }
 }
 
-// Whether a checkpoint is due once this many rounds of a run were decided: some since the last one, and at least so many.
+// Whether a checkpoint is due once this many rounds of a run were decided: at least one since the last checkpoint, and at least `least` in all.
 fn is_due(written: usize, least: usize, rounds: usize) -> bool
     ensures value { IsTrue result ↔ IsDue written least rounds }
 {

@@ -12,16 +12,16 @@ ghost use Rattle.workload_run.specs.declared.ended.RunEnd.TheVariants.{OutOfMemo
 use crate::checkpoints::Checkpoints;
 use crate::files::CheckpointFiles;
 use crate::whole::whole_text;
-use at_sync::Strategy;
 use chare_index::{Limits, NoGate, Pe};
 use placed_runs::run_placed;
 use pup_pack::Pup;
-use rts_run::{BodyLimit, Config, History, Outcome};
+use rts_run::{Config, History, Options, Outcome};
 use run_checkpoint::{Checkpoint, DecidedRound, tallies_after};
 use std::alloc::{AllocError, Allocator};
 use std::io::Write;
 use std::sync::Wait;
 use std::thread::Threads;
+use sync_board::Strategy;
 use tally::Tally;
 use workload::Workload;
 use workload_run::{Driven, Onlooker, RunEnd, report_memory, report_text};
@@ -90,7 +90,7 @@ fn rounds_left<A: Allocator>(decided: &[DecidedRound], workload: &Workload<A>) -
     workload.rounds - decided.len() as u32
 }
 
-// The same, of a run with these parts.
+// Runs the rest of a checkpointed run, whose parts are given one by one.
 fn run_rest<
     T: Threads + Wait + Sync,
     W: Write,
@@ -182,9 +182,11 @@ fn outcome_from<
         capacity: CAPACITY,
         turns,
         probe_workers: PROBE_WORKERS,
-        longest: BodyLimit::usual(),
+    };
+    let options = Options {
         strategy,
         history,
+        ..Options::usual()
     };
     let chares = tallies_after(alloc, &workload, decided.len() as u32)?;
     checkpoints.begin(&places, decided, workload);
@@ -192,6 +194,7 @@ fn outcome_from<
         rt,
         alloc,
         &config,
+        &options,
         &NoGate,
         watch,
         checkpoints,

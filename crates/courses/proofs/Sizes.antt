@@ -4,7 +4,7 @@ use Rattle.std.specs.Prelude.{Result, MatchOption, slice_get}
 use Rattle.std.specs.List.{range_with_len}
 use Rattle.std.specs.Option.{option_and_then}
 use Rattle.std.proofs.lemmas.List.FromFn.{length-map-range_with_len}
-use Rattle.at_sync.specs.declared.strategy.Strategy.{Strategy}
+use Rattle.sync_board.specs.declared.strategy.Strategy.{Strategy}
 use Rattle.chares.specs.declared.trace_entry.TraceEntry.{TraceEntry}
 use Rattle.chares.specs.Steps.{Step}
 use Rattle.pe_state.specs.Pes.{PeView, new_pe, placed}

@@ -1,7 +1,7 @@
 -- The course of a world: events that were enabled, one after another, each with its trace entries.
 use Rattle.std.specs.Prelude.{◌≡◌, ◌⊎◌, ℕ, List, [], ◌∷◌, ◌++◌, map, IsSome, MatchOption, Result, Bool, true, false}
 use Rattle.std.specs.List.{flat_map}
-use Rattle.at_sync.specs.declared.strategy.Strategy.{Strategy}
+use Rattle.sync_board.specs.declared.strategy.Strategy.{Strategy}
 use Rattle.chares.specs.Elements.{Refuses}
 use Rattle.chares.specs.declared.trace_entry.TraceEntry.{TraceEntry}
 use Rattle.chares.specs.Steps.{Step}

@@ -6,13 +6,13 @@ ghost use Rattle.courses.specs.Courses.{IsEnabled, Leads, CourseView, RefusesTak
 
 use crate::step::Step;
 use crate::trying::try_step;
-use at_sync::Strategy;
 use chare_index::{Limits, Pes};
 use chares::{Chare, Openings};
 use pe_state::StepError;
 use rts_core::{Event, World};
 use std::alloc::{AllocError, Allocator, Global};
 use std::marker::Model;
+use sync_board::Strategy;
 
 /// Why a step was not taken.
 #[derive(Clone, Copy, Debug, PartialEq, Eq)]
@@ -60,7 +60,7 @@ impl<C: Chare<A>, H: Openings<C>, A: Allocator + Copy> Course<C, H, A> {
         ensures steps { IfOk result (λ course. course.steps ≡ []) }
     {
         Ok(Course {
-            world: World::new(alloc, pes.get(), chares, strategy)?,
+            world: World::with_strategy(alloc, pes.get(), chares, strategy)?,
             steps: Vec::new(alloc),
             strategy,
         })

@@ -1,3 +1,5 @@
+//! An event that happened, with the trace entries that it added.
+
 ghost use Rattle.std.specs.Prelude.{◌≡◌};
 
 use chares::TraceEntry;

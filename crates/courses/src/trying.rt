@@ -5,12 +5,12 @@ ghost use Rattle.rts_core.specs.Events.{Happens, board_after};
 ghost use Rattle.rts_core.specs.Refusals.{RefusesEvent};
 ghost use Rattle.courses.specs.Courses.{IsEnabled, is_silent};
 
-use at_sync::Board;
 use chare_index::Pe;
 use chares::{Chare, Note, Openings};
 use pe_state::StepError;
 use rts_core::{Event, Reports, World};
 use std::alloc::Allocator;
+use sync_board::Board;
 
 /// Makes an event happen, and returns its trace entries; or returns `None`, and changes nothing, where it is not enabled.
 ///

@@ -53,7 +53,7 @@ same_move m n a b fits fits' same =
     let (planned, rest) = same_word m.2 n.2 a b fits.2 fits'.2 last in
     (rw (index, present, planned) refl, rest)
 
--- the same number of pieces, one after another
+-- equally many pieces, one after another
 same_pieces : {X : Type 0} (f : X → List ℕ) (P : X → Type 0) → ((x y : X) (a b : List ℕ) → P x → P y → f x ++ a ≡ f y ++ b → (x ≡ y) × (a ≡ b))
     → (xs ys : List X) (a b : List ℕ) → length xs ≡ length ys → All P xs → All P ys → flat_map f xs ++ a ≡ flat_map f ys ++ b → (xs ≡ ys) × (a ≡ b)
 same_pieces f P one [] [] a b len fits fits' same = (refl, same)
@@ -111,7 +111,7 @@ same_element w spells load load' size size' a b fits fits' same =
     let (place, rest) = same_word size.1 size'.1 a b fits.2 fits'.2 last in
     (first, rw (bytes, place) refl, rest)
 
--- the same number of elements, one after another
+-- equally many elements, one after another
 pub same_elements : (w : Width) (spells : Spells w) (loads loads' : List ℕ) (sizes sizes' : List (ℕ × ℕ)) (a b : List ℕ)
     → length loads ≡ length loads' → AreSpelled w loads sizes → AreSpelled w loads' sizes'
     → elements_text w loads sizes ++ a ≡ elements_text w loads' sizes' ++ b → (loads ≡ loads') × (sizes ≡ sizes') × (a ≡ b)

@@ -75,7 +75,7 @@ module _ (w : Width) (fault : ℕ → Option DumpError) (next : ℕ → Layout) 
   pub field_broken : (e : DumpError) → byte_len w ≤ length text → fault (from_be_bytes w text) ≡ Some e → judge (Field w fault next) text ≡ Broken e
   field_broken e long bad = field_long long ∙ ap (λ o. found false o (judge (next (from_be_bytes w text)) (drop (byte_len w) text))) bad
 
--- the same where more follows
+-- a field whose number is good, where more text follows
 pub front_taken : (w : Width) (fault : ℕ → Option DumpError) (next : ℕ → Layout) (text more : List ℕ) → byte_len w ≤ length text → fault (from_be_bytes w text) ≡ None
     → judge (Field w fault next) (text ++ more) ≡ judge (next (from_be_bytes w text)) (drop (byte_len w) text ++ more)
 front_taken w fault next text more long good =

@@ -30,7 +30,7 @@ pub record IsRecorded {A : Type 0} (elements : ℕ) (r : Recorded A) : Type 0 wh
   pub few_moves : length r.decision.moves ≤ elements
   pub moved_elements : All (λ move. move.0 < elements) r.decision.moves
 
--- the same, where a decision is recorded
+-- if a decision is recorded, its lists have these lengths
 abbrev pub MayRecord : {A : Type 0} → ℕ → Option (Recorded A) → Type 0
 MayRecord elements None = Unit {0}
 MayRecord elements (Some r) = IsRecorded elements r
@@ -55,7 +55,7 @@ pub record AreFields {A : Type 0} (r : Recorded A) : Type 0 where
   pub present : All (λ move. move.1 < PES) r.decision.moves
   pub planned : All (λ move. move.2 < PES) r.decision.moves
 
--- the same, where a decision is recorded
+-- if a decision is recorded, its numbers fit their fields
 abbrev pub MayFit : {A : Type 0} → Option (Recorded A) → Type 0
 MayFit None = Unit {0}
 MayFit (Some r) = AreFields r

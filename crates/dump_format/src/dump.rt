@@ -1,3 +1,5 @@
+//! A dump: a snapshot and, where one was recorded, the decision on it.
+
 ghost use Rattle.std.specs.Prelude.{◌≡◌, ◌↔◌, ◌≤◌, ◌<◌, ◌+◌, All, IsTrue, SomeIff, IfOk, option_copied, length};
 ghost use Rattle.lb_certificates.specs.Certificate.{MatchFloor};
 ghost use Rattle.dump_format.specs.Dumps.{Dumped, IsDump, IsRecorded, MayFit, MayRecord};

@@ -1,3 +1,5 @@
+//! Why a dump is not read or written.
+
 ghost use Rattle.std.specs.Prelude.{◌≡◌};
 ghost use Rattle.dump_format.specs.Faults.{fault_number};
 ghost use Rattle.dump_format.specs.declared.error.DumpError.TheVariants.{OutOfMemory};

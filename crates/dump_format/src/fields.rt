@@ -1,3 +1,5 @@
+//! Proofs that each number of a dump fits its field. These functions do nothing else.
+
 ghost use Rattle.std.specs.Prelude.{◌≡◌, ◌<◌, ◌^◌, All, length};
 ghost use Rattle.lb_certificates.specs.Certificate.{MatchFloor};
 ghost use Rattle.dump_format.specs.Dumps.{AreFields, ArePrices, AreWords, IsSnapshot};

@@ -1,3 +1,5 @@
+//! Laws of the two formats: bytes are the text of at most one dump, and they are a text or have a fault, never both.
+
 ghost use Rattle.std.specs.Prelude.{◌≡◌, ◌++◌, ◌⊎◌, ◌<◌, ℕ, List, All};
 ghost use Rattle.lb_snapshot.specs.Measured.{Taken};
 ghost use Rattle.dump_format.specs.declared.error.DumpError.{DumpError};

@@ -1,3 +1,5 @@
+//! A decision as a dump records it: with the number of PEs that it is for.
+
 use lb_strategy::Decision;
 use std::alloc::{Allocator, Global};
 

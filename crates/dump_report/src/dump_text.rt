@@ -38,7 +38,7 @@ pub(crate) fn dump_text<A: Allocator + Copy>(
     }
 }
 
-// The same, with the fault of the plan.
+// The text of the report, or the fault of the plan.
 fn said_of<A: Allocator + Copy>(
     alloc: A,
     dump: &Dump<A>,

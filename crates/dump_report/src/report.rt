@@ -1,3 +1,5 @@
+//! The report on a dump, from the bytes of a reader or a file to the bytes of a writer.
+
 ghost use Rattle.std.specs.Prelude.{◌≡◌, ℕ, All, List, Option, Some, IfOk, IfErr};
 ghost use Rattle.dump_report.specs.Reports.{EndsReport, IsFoundFault, IsNumber, IsReport};
 ghost use Rattle.dump_format.specs.declared.error.DumpError.TheVariants.{Read};

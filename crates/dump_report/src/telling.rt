@@ -35,7 +35,7 @@ pub fn tell<A: Allocator + Copy, W: io::Write>(
     }
 }
 
-// The same, where the system gave no reason.
+// What is printed about an end for which the system gave no reason.
 fn tell_end<A: Allocator + Copy, W: io::Write>(
     alloc: A,
     writer: &mut W,
@@ -54,7 +54,7 @@ fn tell_end<A: Allocator + Copy, W: io::Write>(
     }
 }
 
-// The same, with the system's reason.
+// What is printed about an end, with the system's reason.
 fn tell_because<A: Allocator + Copy, W: io::Write>(
     alloc: A,
     writer: &mut W,
@@ -98,7 +98,7 @@ fn tell_dump<A: Allocator + Copy, W: io::Write>(
     tell_line(alloc, writer, name, &what, advice(fault))
 }
 
-// The same, with the system's reason.
+// What is printed about a fault of a dump, with the system's reason.
 fn tell_read<A: Allocator + Copy, W: io::Write>(
     alloc: A,
     writer: &mut W,

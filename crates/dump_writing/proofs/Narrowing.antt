@@ -18,6 +18,6 @@ put_text s old new (Ok done) narrow puts = (lbd1_text s, has_text s narrow, puts
 put_text s old new (Err (Wide i)) narrow puts = cc puts.0
 put_text s old new (Err e) narrow puts = (lbd1_text s, has_text s narrow, puts)
 
--- the same of an equal snapshot
+-- the text of an equal snapshot was written, or a prefix of it
 pub put_same : (s t : Taken) (old new : Option (List ℕ)) (result : Result ⊤ DumpError) → s ≡ t → IsNarrow s → Puts old new (lbd1_text s) result → PutsLbd1 t old new result
 put_same s t old new result same narrow puts = subst (λ u. PutsLbd1 u old new result) same (put_text s old new result narrow puts)

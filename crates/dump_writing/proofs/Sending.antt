@@ -57,6 +57,6 @@ pub goes_on : (old now new : Option (List ℕ)) (first more text : List ℕ) (re
     → Appends old now first → Puts now new more result → Puts old new text result
 goes_on old now new first more text result parts out then = subst (λ t. Puts old new t result) parts (after old now new first more result out then)
 
--- the same text, spelled in another way
+-- a text that equals the one that was written
 pub spelled : (old new : Option (List ℕ)) (text other : List ℕ) (result : Result ⊤ DumpError) → text ≡ other → Puts old new text result → Puts old new other result
 spelled old new text other result same puts = subst (λ t. Puts old new t result) same puts

@@ -1,9 +1,12 @@
-ghost use Rattle.std.specs.Prelude.{◌≡◌, ◌++◌, ℕ, List, length, slice_index, slice_index_or};
+//! Writes the head and the elements of a snapshot in LBD2.
+
+ghost use Rattle.std.specs.Prelude.{◌≡◌, ◌++◌, ℕ, List, length, slice_index, slice_index_or, OnErr};
 ghost use Rattle.std.specs.Int.{w64};
 ghost use Rattle.dump_format.specs.Text.{word, long, element_text, elements_text};
 ghost use Rattle.dump_writing.specs.Joined.{joined, joined_elements};
 ghost use Rattle.dump_writing.specs.Parts.{front_text};
 ghost use Rattle.dump_writing.specs.Writing.{Puts};
+ghost use Rattle.streams.specs.Logs.{HasRefused};
 
 use crate::head::head;
 use crate::items::Items;
@@ -13,6 +16,7 @@ use dump_format::DumpError;
 use lb_snapshot::{Snapshot, Units};
 use std::alloc::Allocator;
 use std::io::Write;
+use streams::CallLog;
 
 /// The elements of a snapshot in the format LBD2, each with its load in 64 bits.
 #[derive(Drop)]
@@ -56,8 +60,10 @@ fn long_and_words(first: u64, second: u32, third: u32) -> [u8; 16]
 pub(crate) fn put_front<W: Write, A: Allocator>(
     writer: &mut W,
     snapshot: &Snapshot<A>,
+    log: &mut CallLog,
 ) -> Result<(), DumpError>
-    ensures { Puts (W.contents writer.old) (W.contents writer.new) (front_text snapshot.now) result }
+    ensures written { Puts (W.contents writer.old) (W.contents writer.new) (front_text snapshot.now) result }
+    ensures unwritten { OnErr result (HasRefused log.new) }
 {
     let loads = snapshot.loads().as_slice();
     let sizes = snapshot.sizes().as_slice();
@@ -65,6 +71,7 @@ pub(crate) fn put_front<W: Write, A: Allocator>(
     put(
         writer,
         &head(b'2', snapshot.step(), snapshot.procs(), count),
+        log,
     )?;
-    put_items(writer, &Elements { loads, sizes })
+    put_items(writer, &Elements { loads, sizes }, log)
 }

@@ -1,3 +1,5 @@
+//! The text of a dump or a snapshot as a vector of bytes.
+
 ghost use Rattle.std.specs.Prelude.{IfOk, IfErr};
 ghost use Rattle.dump_format.specs.Text.{IsLbd1, IsLbd2};
 ghost use Rattle.dump_writing.specs.Narrow.{RefusesLbd1};
@@ -8,6 +10,7 @@ use crate::writing::write_dump;
 use dump_format::{Dump, DumpError};
 use lb_snapshot::Snapshot;
 use std::alloc::{AllocError, Allocator};
+use streams::CallLog;
 
 /// The text of a dump in the format LBD2.
 ///
@@ -41,6 +44,6 @@ pub fn encode<A: Allocator, B: Allocator>(
 {
     let narrow = NarrowSnapshot::of(snapshot)?;
     let mut text = Vec::with_capacity(alloc, narrow_len(&narrow))?;
-    put_narrow(&mut text, &narrow).map_err(|_| DumpError::OutOfMemory)?;
+    put_narrow(&mut text, &narrow, &mut CallLog::new()).map_err(|_| DumpError::OutOfMemory)?;
     Ok(text)
 }

@@ -1,3 +1,5 @@
+//! The 16 bytes with which both formats begin.
+
 ghost use Rattle.std.specs.Prelude.{◌≡◌, ◌∷◌, ◌++◌};
 ghost use Rattle.dump_format.specs.Text.{word};
 

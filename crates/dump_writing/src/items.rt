@@ -1,3 +1,5 @@
+//! Lists whose items all have the same number of bytes in the text of a dump.
+
 ghost use Rattle.std.specs.Prelude.{◌≡◌, ◌<◌, ◌++◌, ℕ, List, length, pos, slice_index, slice_index_or, flat_map};
 ghost use Rattle.dump_format.specs.Text.{word, price, move_text};
 ghost use Rattle.dump_writing.specs.Joined.{joined, joined_list};

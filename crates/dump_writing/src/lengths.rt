@@ -1,3 +1,5 @@
+//! The length of the text of a dump, from which its memory is reserved.
+
 ghost use Rattle.std.specs.Prelude.{◌≡◌, ◌≤◌, ℕ, length};
 ghost use Rattle.dump_format.specs.Text.{plan_text, lbd2_text};
 ghost use Rattle.dump_format.specs.Dumps.{IsRecorded};

@@ -2,6 +2,7 @@
 //!
 //! - [`encode_dump`] and [`write_dump`]: the text of a dump in the format LBD2.
 //! - [`encode`] and [`write_to`]: the text of a snapshot in the format LBD1, whose loads have 32 bits.
+//! - [`write_dump_logged`] and [`write_to_logged`] write with a log, and fail only where that has a failure.
 //!
 //! `specs/Text.antt` of `dump_format` says which bytes these texts are.
 //!
@@ -34,4 +35,4 @@ mod putting;
 mod writing;
 
 pub use encoding::{encode, encode_dump};
-pub use writing::{write_dump, write_to};
+pub use writing::{write_dump, write_dump_logged, write_to, write_to_logged};

@@ -1,9 +1,12 @@
-ghost use Rattle.std.specs.Prelude.{◌≡◌, ◌^◌, ◌<◌, ℕ, All, List, length, slice_index, slice_index_or, OnOk, IfOk, IfErr};
+//! Writes a snapshot in LBD1, if none of its loads needs more than 32 bits.
+
+ghost use Rattle.std.specs.Prelude.{◌≡◌, ◌^◌, ◌<◌, ℕ, All, List, length, slice_index, slice_index_or, OnOk, OnErr, IfOk, IfErr};
 ghost use Rattle.std.specs.Int.{w32};
 ghost use Rattle.dump_format.specs.Text.{word, element_text, elements_text, lbd1_text};
 ghost use Rattle.dump_writing.specs.Joined.{joined, joined_elements};
 ghost use Rattle.dump_writing.specs.Narrow.{IsNarrow, IsWideAt, taken};
 ghost use Rattle.dump_writing.specs.Writing.{Puts};
+ghost use Rattle.streams.specs.Logs.{HasRefused};
 
 use crate::head::head;
 use crate::items::{Items, three_words};
@@ -14,6 +17,7 @@ use dump_format::DumpError;
 use lb_snapshot::{Snapshot, Units};
 use std::alloc::Allocator;
 use std::io::Write;
+use streams::CallLog;
 
 /// A snapshot that the format LBD1 can represent: none of its loads needs more than 32 bits.
 #[derive(Drop)]
@@ -86,11 +90,17 @@ pub(crate) fn narrow_len(snapshot: &NarrowSnapshot<'_>) -> usize
 pub(crate) fn put_narrow<W: Write>(
     writer: &mut W,
     snapshot: &NarrowSnapshot<'_>,
+    log: &mut CallLog,
 ) -> Result<(), DumpError>
-    ensures { Puts (W.contents writer.old) (W.contents writer.new)
+    ensures written { Puts (W.contents writer.old) (W.contents writer.new)
         (lbd1_text (taken snapshot.now.step snapshot.now.procs snapshot.now.loads.now snapshot.now.sizes.now)) result }
+    ensures unwritten { OnErr result (HasRefused log.new) }
 {
     let count = snapshot.loads.len() as u32;
-    put(writer, &head(b'1', snapshot.step, snapshot.procs, count))?;
-    put_items(writer, snapshot)
+    put(
+        writer,
+        &head(b'1', snapshot.step, snapshot.procs, count),
+        log,
+    )?;
+    put_items(writer, snapshot, log)
 }

@@ -1,11 +1,15 @@
-ghost use Rattle.std.specs.Prelude.{◌≡◌, ◌+◌, ◌*◌, ◌-◌, ◌<◌, ◌≤◌, ℕ, List, length, take};
+//! Writes bytes, and lists block by block, to any writer.
+
+ghost use Rattle.std.specs.Prelude.{◌≡◌, ◌+◌, ◌*◌, ◌-◌, ◌<◌, ◌≤◌, ℕ, List, length, take, OnErr};
 ghost use Rattle.std.specs.Io.KnownBytes.{Appends};
 ghost use Rattle.dump_writing.specs.Joined.{joined};
 ghost use Rattle.dump_writing.specs.Writing.{Puts};
+ghost use Rattle.streams.specs.Logs.{HasRefused};
 
 use crate::items::Items;
 use dump_format::DumpError;
 use std::io::Write;
+use streams::CallLog;
 
 /// The number of items that are written at a time.
 const BLOCK: usize = 512;
@@ -14,12 +18,17 @@ const BLOCK: usize = 512;
 const ITEM_LEN: usize = 16;
 
 /// Writes these bytes.
-pub(crate) fn put<W: Write>(writer: &mut W, bytes: &[u8]) -> Result<(), DumpError>
-    ensures { Puts (W.contents writer.old) (W.contents writer.new) bytes.now result }
+pub(crate) fn put<W: Write>(
+    writer: &mut W,
+    bytes: &[u8],
+    log: &mut CallLog,
+) -> Result<(), DumpError>
+    ensures written { Puts (W.contents writer.old) (W.contents writer.new) bytes.now result }
+    ensures unwritten { OnErr result (HasRefused log.new) }
 {
     let mut rest = bytes;
     while !rest.is_empty() {
-        match writer.write(rest) {
+        match log.write(writer, rest) {
             Ok(0) | Err(_) => return Err(DumpError::Write),
             Ok(len) => (_, rest) = rest.split_at(len),
         }
@@ -45,9 +54,11 @@ fn fill<const N: usize, L: Items<N>>(block: &mut [u8], list: &L, first: usize, e
 pub(crate) fn put_items<W: Write, const N: usize, L: Items<N>>(
     writer: &mut W,
     list: &L,
+    log: &mut CallLog,
 ) -> Result<(), DumpError>
     requires { N ≤ ITEM_LEN }
-    ensures { Puts (W.contents writer.old) (W.contents writer.new) (L.text list.now) result }
+    ensures written { Puts (W.contents writer.old) (W.contents writer.new) (L.text list.now) result }
+    ensures unwritten { OnErr result (HasRefused log.new) }
 {
     let count = list.count();
     let mut block = [0; BLOCK * ITEM_LEN];
@@ -55,7 +66,7 @@ pub(crate) fn put_items<W: Write, const N: usize, L: Items<N>>(
     while first < count {
         let end = first + (count - first).min(BLOCK);
         fill(&mut block, list, first, end);
-        put(writer, &block[..N * (end - first)])?;
+        put(writer, &block[..N * (end - first)], log)?;
         first = end;
     }
     Ok(())

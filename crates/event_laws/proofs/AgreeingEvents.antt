@@ -27,7 +27,7 @@ use Rattle.event_laws.proofs.AgreeingParcels.{look_event_agrees, flush_event_agr
 use Rattle.event_laws.proofs.ReportEvent.{OnePlace, report_event_agrees}
 use Rattle.event_laws.proofs.Deciding.{may_decide_agrees}
 use Rattle.event_laws.proofs.AgreeingOpenings.{opening_agrees}
-use Rattle.at_sync.specs.declared.strategy.Strategy.{Strategy}
+use Rattle.sync_board.specs.declared.strategy.Strategy.{Strategy}
 
 -- what follows where something is present
 pub then_so : {X Y : Type 0} (G : Y → Type 0) (o : Option X) (f : X → Y) (a : Y) → option_and_then (λ x. Some (f x)) o ≡ Some a → ((x : X) → o ≡ Some x → G (f x)) → G a

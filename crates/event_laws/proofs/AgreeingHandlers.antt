@@ -5,7 +5,7 @@ use Rattle.std.specs.Option.{option_map_or, option_and_then, option_to_list}
 use Rattle.std.proofs.lemmas.Option.{option_and_then_some, same_Some}
 use Rattle.std.proofs.lemmas.List.Elements.{All-nil, All-cons, All-append}
 use Rattle.chare_index.specs.declared.limits.TheConstants.Limits.{LOAD}
-use Rattle.at_sync.specs.Boards.{BoardState, place_in}
+use Rattle.sync_board.specs.Boards.{BoardState, place_in}
 use Rattle.lb_database.specs.Measuring.{Measured}
 use Rattle.chares.specs.declared.entry.Entry.TheVariants.{Letter as OfLetter, Resumption}
 use Rattle.chares.specs.declared.note.Note.{Note}

@@ -20,7 +20,7 @@ use Rattle.event_laws.proofs.Rooms.{AreKeyed, Key, places_joined}
 use Rattle.event_laws.proofs.AgreeingHandlers.{ItemAgrees}
 use Rattle.event_laws.proofs.Deciding.{nobody, opens_for}
 use Rattle.event_laws.proofs.OpeningSites.{placed_length}
-use Rattle.at_sync.specs.declared.strategy.Strategy.{Strategy}
+use Rattle.sync_board.specs.declared.strategy.Strategy.{Strategy}
 
 -- a PE as elements are placed on it: each is at work and has not finished, and the PE owes and holds nothing
 pub record OpensAt {C : Type 0} (m : Measured) (pe : PeView C) : Type 0 where

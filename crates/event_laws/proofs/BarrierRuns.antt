@@ -5,7 +5,7 @@ use Rattle.std.proofs.lemmas.List.{length-replicate, get_or-replicate, append_as
 use Rattle.chares.specs.declared.trace_entry.TraceEntry.{TraceEntry}
 use Rattle.chares.specs.declared.trace_entry.TraceEntry.TheVariants.{Resumed, Decided}
 use Rattle.chares.specs.Steps.{Step}
-use Rattle.at_sync.specs.Boards.{BoardState, new_board}
+use Rattle.sync_board.specs.Boards.{BoardState, new_board}
 use Rattle.pup_pack.specs.declared.error.PupError.{PupError}
 use Rattle.pe_state.specs.Pes.{PeView}
 use Rattle.rts_core.specs.declared.event.Event.{Event}
@@ -24,7 +24,7 @@ use Rattle.rts_core.proofs.EachElement.{run_kept, opening_kept}
 use Rattle.event_laws.proofs.Stands.{Turned, Takes, each_turned, stands_at}
 use Rattle.event_laws.proofs.Tallies.{only_member, no_member}
 use Rattle.rts_core.proofs.Turns.{each_map, happens_so}
-use Rattle.at_sync.specs.declared.strategy.Strategy.{Strategy}
+use Rattle.sync_board.specs.declared.strategy.Strategy.{Strategy}
 
 -- a board of which the trace tells, and no element that was resumed twice
 pub told_barrier : {A : Type 0} (n : ℕ) (b : BoardState A) (trace : List TraceEntry) → Tells n b trace → ((e r : ℕ) → times (is_resumed e r) trace ≤ 1) → IsBarrier n trace

@@ -11,7 +11,7 @@ use Rattle.chares.specs.declared.note.Note.{Note}
 use Rattle.chares.specs.declared.note.Note.TheVariants.{Sync, Finish}
 use Rattle.chares.specs.declared.trace_entry.TraceEntry.{TraceEntry}
 use Rattle.chares.specs.declared.trace_entry.TraceEntry.TheVariants.{Synced, Decided, Resumed}
-use Rattle.at_sync.specs.Boards.{BoardState, Kept, Decides, after_report, after_finish, place_in}
+use Rattle.sync_board.specs.Boards.{BoardState, Kept, Decides, after_report, after_finish, place_in}
 use Rattle.lb_database.specs.Measuring.{elements, report_of}
 use Rattle.lb_strategy.specs.Moves.{planned_pe}
 use Rattle.rts_core.specs.Accounts.{times}

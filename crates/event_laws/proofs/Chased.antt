@@ -29,7 +29,7 @@ use Rattle.event_laws.proofs.Hops.{chasing_next}
 use Rattle.event_laws.proofs.Lags.{strays}
 use Rattle.event_laws.proofs.Shelved.{shelved_bound}
 use Rattle.event_laws.proofs.LetterTraces.{forwards, departures, was_posted, departed_since, posted_join, since_join, since_none, number_posted, posted_here, since_here}
-use Rattle.at_sync.specs.declared.strategy.Strategy.{Strategy}
+use Rattle.sync_board.specs.declared.strategy.Strategy.{Strategy}
 
 -- no letter is there as a world opens
 opened_none : {C : Type 0} (n m e : ℕ) (chares : List C) → opened_sites no_elements n m e chares ≡ 0

@@ -5,7 +5,7 @@ use Rattle.std.specs.Map.{values_of}
 use Rattle.std.proofs.lemmas.List.{length-replicate, get_or-replicate}
 use Rattle.std.proofs.lemmas.List.Elements.{All-weaker}
 use Rattle.std.proofs.lemmas.Option.{slice_get-get_or}
-use Rattle.at_sync.specs.Boards.{BoardState, Kept, after_decision}
+use Rattle.sync_board.specs.Boards.{BoardState, Kept, after_decision}
 use Rattle.lb_database.specs.Measuring.{Measured, IsComplete, elements, opening, report_of}
 use Rattle.chares.specs.declared.carried.Carried.TheVariants.{Letter, Element}
 use Rattle.chares.specs.declared.note.Note.{Note}

@@ -31,7 +31,7 @@ cut_at {X} xs k x rest h =
     subst (λ (j : ℕ). (slice_get xs k ≡ Some x) × (drop j xs ≡ rest) × (take j xs ≡ take k xs ++ x ∷ [])) e (cut xs k x rest h)
 
 module _ {C : Type 0} (step : Step C) (pack : C → List ℕ) (n e : ℕ) (chare : C) (journal : List Done) where
-  -- the element at hand is the stage after k entries, but for its marks
+  -- the element at hand is the stage after k entries, except for its marks
   abbrev pub IsAt : ElementView C → List Mark → ℕ → Type 0
   IsAt el others k = stage step pack n e chare journal k ≡ record el { marks = others }
 

@@ -98,8 +98,8 @@ module _ {C : Type 0} (step : Step C) (pack : C → List ℕ) (n e : ℕ) (chare
     pub works : Works el.progress k
     pub turn : Follow el.progress (map stop_of (marks_over step pack el n rest))
 
-  -- the same element as it handles the first of these: the entry, the stage after it, what was done with its units, and
-  -- the stops from its effect on
+  -- an element as it handles the first of these: the entry, the stage after it, what was done with its units, and the stops
+  -- from its effect on
   pub record Handles (el : ElementView C) (x : Done × ℕ) (rest : List (Done × ℕ)) (k : ℕ) : Type 0 where
     pub is_entry : slice_get journal k ≡ Some x.0
     pub others : List Mark

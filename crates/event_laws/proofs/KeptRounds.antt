@@ -6,7 +6,7 @@ use Rattle.chares.specs.declared.note.Note.{Note}
 use Rattle.chares.specs.declared.note.Note.TheVariants.{Sync, Finish}
 use Rattle.chares.specs.declared.trace_entry.TraceEntry.{TraceEntry}
 use Rattle.chares.specs.Steps.{Step}
-use Rattle.at_sync.specs.Boards.{BoardState, Kept, kept_of, after_report, after_finish}
+use Rattle.sync_board.specs.Boards.{BoardState, Kept, kept_of, after_report, after_finish}
 use Rattle.pup_pack.specs.declared.error.PupError.{PupError}
 use Rattle.rts_core.specs.declared.event.Event.{Event}
 use Rattle.rts_core.specs.Events.{After, LocalView, Happens, board_after, local_view}

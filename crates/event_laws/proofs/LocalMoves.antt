@@ -5,7 +5,7 @@ use Rattle.std.specs.List.{filter}
 use Rattle.std.specs.Option.{option_map, option_or}
 use Rattle.std.proofs.lemmas.List.Filters.{sum_by-filter_both}
 use Rattle.std.proofs.lemmas.List.Sums.{sum_by-cons, sum_by-append, sum_by_push}
-use Rattle.at_sync.specs.Boards.{BoardState}
+use Rattle.sync_board.specs.Boards.{BoardState}
 use Rattle.chares.specs.declared.carried.Carried.TheVariants.{Letter, Element}
 use Rattle.chares.specs.declared.entry.Entry.TheVariants.{Letter as OfLetter, Resumption}
 use Rattle.chares.specs.declared.trace_entry.TraceEntry.{TraceEntry}
@@ -85,7 +85,7 @@ module _ {C A : Type 0} (w : WorldView C A) (p : ℕ) (pe : PeView C) (at : slic
       let f = hand_look pe pe.hand e wants in
       let l : LetterView = f.0 in
       let is : pe.hand ≡ Some (record { parcel = Letter l; address = None }) = f.1 in
-      let kept : PeView C = record { me = pe.me; n = pe.n; room = pe.room; hand = None; shelf = pe.shelf; outbox = pe.outbox; notes = pe.notes; count = pe.count; kept = None } in
+      let kept : PeView C = record { me = pe.me; n = pe.n; room = pe.room; hand = None; shelf = pe.shelf; outbox = pe.outbox; notes = pe.notes; count = pe.count; longest = pe.longest; kept = None } in
       on_pe w p pe (looked_in pe q (Some e)) kept w.words w.board [] (Looks p q l) at
       (λ g k. let a : hand_at g k p pe.hand ≡ letter_in g k (Bound p) l = ap (hand_at g k p) is in omega (arith, a))
       (λ g k. let a : hand_at g k p (option_map (at_pe q) pe.hand) ≡ letter_in g k (look_site p (Some q)) l = ap
@@ -99,7 +99,7 @@ module _ {C A : Type 0} (w : WorldView C A) (p : ℕ) (pe : PeView C) (at : slic
       let l : LetterView = f.0 in
       let rest : List Item = f.1 in
       let is : pe.outbox ≡ record { parcel = Letter l; address = None } ∷ rest = f.2 in
-      let kept : PeView C = record { me = pe.me; n = pe.n; room = pe.room; hand = pe.hand; shelf = pe.shelf; outbox = rest; notes = pe.notes; count = pe.count; kept = None } in
+      let kept : PeView C = record { me = pe.me; n = pe.n; room = pe.room; hand = pe.hand; shelf = pe.shelf; outbox = rest; notes = pe.notes; count = pe.count; longest = pe.longest; kept = None } in
       on_pe w p pe (looked_in pe q None) kept w.words w.board [] (Addresses q l) at
       (λ g k.
       let a : sum_by (item_out g k) pe.outbox ≡ letter_in g k Fresh l + sum_by (item_out g k) rest = ap (sum_by (item_out g k)) is
@@ -129,7 +129,7 @@ module _ {C A : Type 0} (w : WorldView C A) (p : ℕ) (pe : PeView C) (at : slic
         → After (handled step pack pe e done hand) (first ∷ handler_posts step pack pe e done)
     handled_moves e done hand el first from quiet h hands =
         let ss : List (ℕ × List ℕ) = (outcome_of step pack el pe.n done).sends in
-        let kept : PeView C = record { me = pe.me; n = pe.n; room = pe.room; hand = hand; shelf = pe.shelf; outbox = pe.outbox; notes = pe.notes; count = pe.count; kept = None } in
+        let kept : PeView C = record { me = pe.me; n = pe.n; room = pe.room; hand = hand; shelf = pe.shelf; outbox = pe.outbox; notes = pe.notes; count = pe.count; longest = pe.longest; kept = None } in
         on_pe w p pe (handled step pack pe e done hand) kept w.words w.board (first ∷ handler_posts step pack pe e done) (Runs from (numbered pe.me pe.count ss)) at
         (λ g k. let a = hands g k in omega (arith, a))
         (λ g k.
@@ -158,6 +158,7 @@ module _ {C A : Type 0} (w : WorldView C A) (p : ℕ) (pe : PeView C) (at : slic
           outbox = pe.outbox;
           notes = pe.notes;
           count = pe.count;
+          longest = pe.longest;
           kept = None;
         } in
         on_pe w p pe (departed pack pe e q) kept (slice_set w.words e q) w.board (Trace.Departed e ∷ []) (Departs p e el.index q) at
@@ -204,6 +205,7 @@ module _ {C A : Type 0} (w : WorldView C A) (p : ℕ) (pe : PeView C) (at : slic
             outbox = pe.outbox;
             notes = pe.notes;
             count = pe.count;
+            longest = pe.longest;
             kept = None;
           } in
           on_pe w p pe (forwarding pe l q).pe kept w.words w.board (forwarding pe l q).trace (Forwards q l) at
@@ -251,7 +253,7 @@ module _ {C A : Type 0} (w : WorldView C A) (p : ℕ) (pe : PeView C) (at : slic
       installed_moves x pk chare h i f =
           let mine : List LetterView = filter (is_for pk.index) pe.shelf in
           let others : List LetterView = filter (λ l. not (is_for pk.index l)) pe.shelf in
-          let kept : PeView C = record { me = pe.me; n = pe.n; room = pe.room; hand = None; shelf = others; outbox = pe.outbox; notes = pe.notes; count = pe.count; kept = None } in
+          let kept : PeView C = record { me = pe.me; n = pe.n; room = pe.room; hand = None; shelf = others; outbox = pe.outbox; notes = pe.notes; count = pe.count; longest = pe.longest; kept = None } in
           on_pe w p pe (installed pe pk chare) kept w.words w.board (Trace.Installed pk.index ∷ []) (Installs p pk.index mine) at
           (λ g k.
           let a : hand_at g k p pe.hand ≡ k (Bound p) pk.index = ap (hand_at g k p) h ∙ ap (λ (v : Parcel). held_at g k p v x.address) i in

@@ -1,7 +1,7 @@
 -- The snapshot of a decided round has what each element did for the round.
 use Rattle.std.proofs.Common.{◌≡◌, ℕ, ◌<◌, ◌≤◌, List, length, Some, sym, subst}
 use Rattle.std.specs.Prelude.{Result, Contains, slice_get}
-use Rattle.at_sync.specs.Boards.{BoardState, Kept, kept_of}
+use Rattle.sync_board.specs.Boards.{BoardState, Kept, kept_of}
 use Rattle.lb_snapshot.specs.Measured.{Taken}
 use Rattle.chares.specs.declared.trace_entry.TraceEntry.{TraceEntry}
 use Rattle.chares.specs.declared.trace_entry.TraceEntry.TheVariants.{Decided}
@@ -21,7 +21,7 @@ use Rattle.rts_core.specs.Worlds.{WorldView, opening_world}
 use Rattle.event_laws.specs.Measured.{Measures}
 use Rattle.event_laws.proofs.Rooms.{of_found}
 use Rattle.rts_core.proofs.Rooms.{at_place}
-use Rattle.at_sync.specs.declared.strategy.Strategy.{Strategy}
+use Rattle.sync_board.specs.declared.strategy.Strategy.{Strategy}
 
 module _ {C A : Type 0} (step : Step C) (fits : C → Type 0) (pack : C → List ℕ) (opened : List C) (w : WorldView C A) (snapshot : Taken) (e r : ℕ) where
   pub measures : IsTakenOf w snapshot e r → AreHistories step fits pack opened w → Measures step pack opened w snapshot e r

@@ -11,7 +11,7 @@ use Rattle.rts_core.proofs.OpeningWeights.{AllOpen, Opens, new_open, placed_open
 use Rattle.event_laws.proofs.RoomSums.{room_joined}
 use Rattle.event_laws.proofs.Sites.{LetterWeight, ElementWeight, entry_at, pe_at, queue_at, world_at, sum_from, sum_from-set}
 use Rattle.event_laws.proofs.Sites.Site.{Room}
-use Rattle.at_sync.specs.declared.strategy.Strategy.{Strategy}
+use Rattle.sync_board.specs.declared.strategy.Strategy.{Strategy}
 
 -- the elements of these chares, from number e on, each on its home
 abbrev pub opened_sites : {C : Type 0} → ElementWeight → ℕ → ℕ → ℕ → List C → ℕ

@@ -21,7 +21,7 @@ use Rattle.rts_core.specs.Worlds.{WorldView, opening_world}
 use Rattle.rts_core.proofs.EachElement.{IsKept, ParcelKept, ItemKept, PeKept, WorldKept, run_kept, opening_kept}
 use Rattle.rts_core.proofs.Rooms.{each_value}
 use Rattle.event_laws.proofs.OwnEntries.{all_flat, IsOwnEntry, own_more}
-use Rattle.at_sync.specs.declared.strategy.Strategy.{Strategy}
+use Rattle.sync_board.specs.declared.strategy.Strategy.{Strategy}
 
 -- an element is beside its index, and every letter in its journal is to this index; and so for one that is packed
 abbrev pub FitsOwn : {C : Type 0} → ℕ → ElementView C → Type 0

@@ -22,7 +22,7 @@ use Rattle.event_laws.proofs.LocationWords.{misnamed, at_index, named_after, ind
 use Rattle.event_laws.proofs.OpeningSites.{opened_sites, opening_sites, word_at}
 use Rattle.event_laws.proofs.Sites.{Site, ElementWeight, no_letters, no_elements, world_at, world_zeros}
 use Rattle.event_laws.proofs.Sites.Site.{Fresh, Bound, Chasing, Waiting, Room}
-use Rattle.at_sync.specs.declared.strategy.Strategy.{Strategy}
+use Rattle.sync_board.specs.declared.strategy.Strategy.{Strategy}
 
 -- What holds of the elements of each world of a run: each location word is right, there is one for each of n elements,
 -- and each element is there once; PEs have the numbers of their indices.

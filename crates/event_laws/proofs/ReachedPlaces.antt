@@ -14,7 +14,7 @@ use Rattle.event_laws.proofs.NowhereElse.{stand_alone}
 use Rattle.event_laws.proofs.Placed.{IsPlaced, at_most_once, opening_placed, run_placed}
 use Rattle.event_laws.proofs.Sites.{no_letters, world_at}
 use Rattle.event_laws.proofs.Sites.Site.{Bound, Room}
-use Rattle.at_sync.specs.declared.strategy.Strategy.{Strategy}
+use Rattle.sync_board.specs.declared.strategy.Strategy.{Strategy}
 
 module _ {C A : Type 0} (n : ℕ) (w : WorldView C A) (h : IsPlaced n w) where
   -- an element on a PE is beside its own index, where its location word says

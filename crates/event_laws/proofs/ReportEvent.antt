@@ -5,7 +5,7 @@ use Rattle.std.specs.Option.{option_and_then}
 use Rattle.std.proofs.lemmas.Bool.Decides.{nat_tests}
 use Rattle.std.proofs.lemmas.List.Elements.{All-head, All-set}
 use Rattle.std.proofs.lemmas.Option.{option_and_then_some, slice_get-get_or, same_Some}
-use Rattle.at_sync.specs.Boards.{BoardState, after_report, after_finish}
+use Rattle.sync_board.specs.Boards.{BoardState, after_report, after_finish}
 use Rattle.lb_database.specs.Measuring.{Measured, elements, report_of}
 use Rattle.chares.specs.declared.note.Note.{Note}
 use Rattle.chares.specs.declared.note.Note.TheVariants.{Sync, Finish}

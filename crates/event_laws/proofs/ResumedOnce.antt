@@ -33,7 +33,7 @@ use Rattle.event_laws.proofs.OrderedRounds.{FitsInOrder, PackedInOrder, AllOrder
 use Rattle.event_laws.proofs.RunResumptions.{WorldGains, run_gains}
 use Rattle.rts_core.proofs.EachElement.{run_kept, opening_kept}
 use Rattle.event_laws.proofs.Tallies.{one, times-cons}
-use Rattle.at_sync.specs.declared.strategy.Strategy.{Strategy}
+use Rattle.sync_board.specs.declared.strategy.Strategy.{Strategy}
 
 -- each number is at most once among consecutive numbers
 pub range_past : (a n r : ℕ) → r < a → times (λ s. s == r) (range_with_len a n) ≡ 0

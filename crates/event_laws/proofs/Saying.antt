@@ -6,7 +6,7 @@ use Rattle.std.proofs.lemmas.Bool.Decides.{nat_tests}
 use Rattle.std.proofs.lemmas.List.Elements.{Contains-append_left, Contains-append_right, Contains-append_cases}
 use Rattle.std.proofs.lemmas.Option.{slice_get-get_or, same_Some}
 use Rattle.pup_pack.specs.declared.error.PupError.{PupError}
-use Rattle.at_sync.specs.Boards.{BoardState, Decides, after_report, after_finish}
+use Rattle.sync_board.specs.Boards.{BoardState, Decides, after_report, after_finish}
 use Rattle.lb_database.specs.Measuring.{elements, report_of}
 use Rattle.chares.specs.declared.entry.Entry.TheVariants.{Letter as OfLetter, Resumption}
 use Rattle.chares.specs.declared.note.Note.{Note}

@@ -6,7 +6,7 @@ use Rattle.std.specs.Ordering.{nat_cmp, is_eq}
 use Rattle.std.proofs.lemmas.List.Elements.{All-head, All-tail}
 use Rattle.std.proofs.lemmas.List.Sums.{sum_by-cons}
 use Rattle.pup_pack.specs.declared.error.PupError.{PupError}
-use Rattle.at_sync.specs.Boards.{BoardState, Kept, kept_of}
+use Rattle.sync_board.specs.Boards.{BoardState, Kept, kept_of}
 use Rattle.lb_snapshot.specs.Measured.{Taken}
 use Rattle.lb_database.specs.Measuring.{Measured, IsComplete, IsSnapshotOf, report_of}
 use Rattle.chares.specs.declared.carried.Carried.TheVariants.{Letter, Element}
@@ -35,7 +35,7 @@ use Rattle.event_laws.proofs.ReportEvent.{OnePlace}
 use Rattle.event_laws.proofs.Deciding.{not_silent, each_reported}
 use Rattle.event_laws.proofs.AgreeingEvents.{Sound, run_sound, opening_sound}
 use Rattle.event_laws.proofs.OnlyDecide.{Others, none_among, enabled_others}
-use Rattle.at_sync.specs.declared.strategy.Strategy.{Strategy}
+use Rattle.sync_board.specs.declared.strategy.Strategy.{Strategy}
 
 -- ---- lists
 

@@ -11,7 +11,7 @@ use Rattle.chares.specs.Elements.{ElementView, ran}
 use Rattle.chares.specs.Letters.{Done}
 use Rattle.chares.specs.Posting.{posts_of}
 use Rattle.chares.specs.Steps.{Step}
-use Rattle.at_sync.specs.Boards.{BoardState, place_in}
+use Rattle.sync_board.specs.Boards.{BoardState, place_in}
 use Rattle.pe_state.specs.Pes.{PeView, resumed}
 use Rattle.pe_state.specs.Rooms.{found, ran_in}
 use Rattle.rts_core.specs.Accounts.{times}
@@ -144,7 +144,7 @@ found_mine n w p pe e el agrees at stands =
     let here : AgreesAt w.board.database pe = at_place (AgreesAt w.board.database) w.pes p pe agrees.pes at in
     found_index e el pe.room here.keyed stands
 
--- the same of the world with that PE
+-- an element that is in its place on a PE is so in the world with that PE
 pub stands_at : {C A : Type 0} (n : ℕ) (w : WorldView C A) (p : ℕ) (pe : PeView C) (d' : LocalView C A) (e r : ℕ)
     → Agrees n w → Agrees n (with_local w p d') → slice_get w.pes p ≡ Some pe → Stood p (local_view w pe) d' e r → StandsInItsPlace w e r × StandsInItsPlace (with_local w p d') e r
 stands_at {C} {A} n w p pe d' e r agrees later at s = (

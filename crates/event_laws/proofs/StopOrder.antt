@@ -10,7 +10,7 @@ InTurn started round synced [] = Unit {0}
 InTurn started round synced (AtSync r ∷ stops) = (started ≡ true) × (synced ≡ false) × (r ≡ round + 1) × InTurn started round true stops
 InTurn started round synced (Resumes r ∷ stops) = (((started ≡ false) × (r ≡ 0)) ⊎ ((synced ≡ true) × (r ≡ round + 1))) × InTurn true r false stops
 
--- the same of an element with this progress
+-- stops in turn, of an element with this progress
 abbrev pub Follow : Progress → List Stop → Type 0
 Follow p stops = InTurn p.started p.round p.synced stops
 

@@ -6,7 +6,7 @@ use Rattle.std.specs.Prelude.{◌≡◌, ℕ, ◌+◌, ◌<◌, ◌≤◌, List,
 use Rattle.std.specs.Map.{values_of}
 use Rattle.chare_index.specs.declared.limits.TheConstants.Limits.{LOAD}
 use Rattle.lb_snapshot.specs.Measured.{Taken}
-use Rattle.at_sync.specs.Boards.{Kept, kept_of}
+use Rattle.sync_board.specs.Boards.{Kept, kept_of}
 use Rattle.lb_database.specs.Measuring.{Measured, elements, report_of}
 use Rattle.chares.specs.declared.carried.Carried.TheVariants.{Letter, Element}
 use Rattle.chares.specs.declared.note.Mark.TheVariants.{Synced}

@@ -8,7 +8,7 @@ use Rattle.chares.specs.declared.trace_entry.TraceEntry.TheVariants.{Synced, Dec
 use Rattle.chares.specs.Elements.{ElementView}
 use Rattle.pe_state.specs.Pes.{PeView}
 use Rattle.pe_state.specs.Rooms.{found}
-use Rattle.at_sync.specs.Boards.{Kept, kept_of, place_in}
+use Rattle.sync_board.specs.Boards.{Kept, kept_of, place_in}
 use Rattle.rts_core.specs.Accounts.{times}
 use Rattle.rts_core.specs.Events.{After}
 use Rattle.rts_core.specs.Worlds.{WorldView}

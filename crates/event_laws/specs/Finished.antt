@@ -2,7 +2,7 @@
 -- it has finished, by a note that its PE owes the board, is this project's choice.
 use Rattle.std.specs.Prelude.{◌≡◌, ◌↔◌, ℕ, All, Contains, true, ◌⊎◌, Some, IfSome, slice_get}
 use Rattle.std.specs.Map.{values_of}
-use Rattle.at_sync.specs.Boards.{BoardState, HaveFinished}
+use Rattle.sync_board.specs.Boards.{BoardState, HaveFinished}
 use Rattle.chares.specs.declared.carried.Carried.TheVariants.{Letter, Element}
 use Rattle.chares.specs.declared.note.Note.TheVariants.{Finish}
 use Rattle.chares.specs.declared.progress.Progress.{Progress}

@@ -2,7 +2,7 @@
 -- balancing, where the load of an object is what the runtime measured of its work, and is the forecast for what it will do.
 use Rattle.std.specs.Prelude.{◌≡◌, ◌<◌, ℕ, List, length, Contains, Some, slice_get}
 use Rattle.lb_snapshot.specs.Measured.{Taken}
-use Rattle.at_sync.specs.Boards.{Kept, kept_of}
+use Rattle.sync_board.specs.Boards.{Kept, kept_of}
 use Rattle.chares.specs.declared.trace_entry.TraceEntry.TheVariants.{Decided}
 use Rattle.chares.specs.Steps.{Step}
 use Rattle.event_laws.specs.Rounds.{IsPhase}

@@ -2,7 +2,7 @@
 //! has finished.
 
 ghost use Rattle.std.specs.Prelude.{◌≡◌, ℕ, ◌<◌, ◌≤◌, List, length, Contains, Some};
-ghost use Rattle.at_sync.specs.Boards.{Kept, kept_of};
+ghost use Rattle.sync_board.specs.Boards.{Kept, kept_of};
 ghost use Rattle.chares.specs.declared.trace_entry.TraceEntry.{TraceEntry};
 ghost use Rattle.chares.specs.declared.trace_entry.TraceEntry.TheVariants.{Decided};
 ghost use Rattle.rts_core.specs.declared.event.Event.{Event};

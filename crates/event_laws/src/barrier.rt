@@ -2,7 +2,7 @@
 //! round was decided on.
 
 ghost use Rattle.std.specs.Prelude.{◌≡◌, ℕ, ◌<◌, ◌≤◌, List, length, Contains, Some};
-ghost use Rattle.at_sync.specs.Boards.{Kept, kept_of};
+ghost use Rattle.sync_board.specs.Boards.{Kept, kept_of};
 ghost use Rattle.chares.specs.declared.trace_entry.TraceEntry.{TraceEntry};
 ghost use Rattle.chares.specs.declared.trace_entry.TraceEntry.TheVariants.{Decided, Resumed};
 ghost use Rattle.event_laws.specs.Barrier.{IsBarrier, ResumesInPlace, KeepsRounds};
@@ -12,7 +12,7 @@ ghost use Rattle.rts_core.specs.declared.event.Event.{Event};
 ghost use Rattle.rts_core.specs.Events.{After, Happens};
 ghost use Rattle.rts_core.specs.Histories.{AreHistories};
 ghost use Rattle.rts_core.specs.Runs.{RunsTo, ForEachRun, ForEachStep, ForEachEvent};
-ghost use Rattle.at_sync.specs.declared.strategy.Strategy.{Strategy};
+ghost use Rattle.sync_board.specs.declared.strategy.Strategy.{Strategy};
 ghost use Rattle.rts_core.specs.Worlds.{WorldView, opening_world};
 
 use chares::Chare;

@@ -5,7 +5,7 @@ ghost use Rattle.rts_core.specs.declared.event.Event.{Event};
 ghost use Rattle.rts_core.specs.Events.{After};
 ghost use Rattle.rts_core.specs.Own.{AreOwn};
 ghost use Rattle.rts_core.specs.Runs.{RunsTo, ForEachRun};
-ghost use Rattle.at_sync.specs.declared.strategy.Strategy.{Strategy};
+ghost use Rattle.sync_board.specs.declared.strategy.Strategy.{Strategy};
 ghost use Rattle.rts_core.specs.Worlds.{opening_world};
 ghost use Rattle.event_laws.specs.Chase.{IsChase};
 

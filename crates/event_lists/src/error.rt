@@ -1,3 +1,5 @@
+//! Why a list of events is not read.
+
 ghost use Rattle.std.specs.Prelude.{◌≡◌};
 ghost use Rattle.event_lists.specs.Faults.{error_number};
 

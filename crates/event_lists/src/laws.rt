@@ -1,3 +1,5 @@
+//! Laws of the text of an event list: a list in range has one text, and a text is that of at most one list.
+
 ghost use Rattle.std.specs.Prelude.{◌≡◌, ◌⊎◌, ◌≤◌, ℕ, List, length, All};
 ghost use Rattle.rts_core.specs.declared.event.Event.{Event};
 ghost use Rattle.event_lists.specs.declared.error.EventListError.{EventListError};

@@ -1,3 +1,5 @@
+//! Reads one line of an event list.
+
 ghost use Rattle.std.specs.Prelude.{◌≡◌, ◌⊎◌, ◌++◌, ◌<◌, false, MatchOption, MatchResult, SomeIff};
 ghost use Rattle.event_lists.specs.declared.error.EventListError.TheVariants.{Form, Limit};
 ghost use Rattle.event_lists.specs.Faults.{IsMalformed, IsPast};

@@ -1,3 +1,5 @@
+//! The names of the events, with the numbers that follow each.
+
 ghost use Rattle.std.specs.Prelude.{◌≡◌, MatchOption};
 ghost use Rattle.event_lists.specs.Lines.{behind, event_of, first_name, has_element, has_pe, name_at, name_text};
 ghost use Rattle.event_lists.specs.Text.{IsWithin};

@@ -1,3 +1,5 @@
+//! Reads the numbers of a line.
+
 ghost use Rattle.std.specs.Prelude.{◌≡◌, MatchOption};
 ghost use Rattle.event_lists.specs.Lines.{digits_at, is_full, number_at};
 

@@ -1,3 +1,5 @@
+//! Reads a list of events from its text.
+
 ghost use Rattle.std.specs.Prelude.{◌≡◌, ◌⊎◌, List, [], MatchResult};
 ghost use Rattle.rts_core.specs.declared.event.Event.{Event};
 ghost use Rattle.event_lists.specs.declared.error.EventListError.{EventListError};

@@ -1,3 +1,5 @@
+//! Writes a list of events as its text.
+
 ghost use Rattle.std.specs.Prelude.{◌≡◌, ◌++◌, ◌≤◌, length, All, IfOk, OnOk};
 ghost use Rattle.std.specs.String.{string_bytes};
 ghost use Rattle.event_lists.specs.declared.form.TheConstants.EventListLimits.{EVENTS};

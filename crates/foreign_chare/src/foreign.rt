@@ -32,7 +32,7 @@ impl Script for Brand {
 /// before that is handled ([`Armed::take_in`]); no contract sees it. A handler without one returns [`SendError::OutOfMemory`], and
 /// nothing has changed.
 ///
-/// It packs into its stamp, with so many zeros as its object has bytes: the pack is as long as the fields and the object together.
+/// It packs into its stamp and one zero for each byte of its object: the pack is as long as the fields and the object together.
 /// The object that handles the entries travels beside that, as bytes that no contract sees.
 #[derive(Drop)]
 pub struct Foreign<S: Script> {

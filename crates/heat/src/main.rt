@@ -8,7 +8,7 @@
 use heat_rod::RodChare;
 use heat_run::{RodOptions, read_options, run_rod, text_of};
 use program_words::{NO_OUTPUT, RUN_FAULT, on_words, refused};
-use rts_run::{Config, Outcome, RunError};
+use rts_run::{Config, Idle, Options, Outcome, RunError};
 use std::alloc::Global;
 use std::io;
 use std::process::ExitCode;
@@ -43,7 +43,11 @@ fn run_and_print<R: Threads + Wait + Sync + Print + Eprint + AllocGlobal>(
     options: RodOptions,
 ) -> Result<u8, RunError> {
     let config = Config::usual(options.pes);
-    let outcome = run_rod(rt, rt.alloc(), &config, &options.rod)?;
+    let wanted = Options {
+        idle: Idle::Quiet,
+        ..Options::usual()
+    };
+    let outcome = run_rod(rt, rt.alloc(), &config, &wanted, &options.rod)?;
     tell_rounds(rt, &outcome);
     let text = text_of(rt.alloc(), options.rod.strips, &outcome)?;
     if !write_out(&mut io::writer(rt), text.as_bytes()) {

@@ -46,7 +46,7 @@ pub(crate) fn is_burning(cell: f64) -> bool
     cell >= IGNITION
 }
 
-// The temperature after so many small steps of burning.
+// The temperature after this many small steps of burning.
 #[tactic(auto, unfolding(crate::specs::Heating::burnt))]
 fn burnt(heat: f64, parts: u32) -> f64
     ensures value { result ≡ burnt heat parts }

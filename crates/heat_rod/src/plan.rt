@@ -1,3 +1,5 @@
+//! How many steps the strips of a rod take, and after how many they are balanced.
+
 ghost use Rattle.std.specs.Prelude.{◌≡◌, ◌<◌, false};
 ghost use Rattle.heat_rod.specs.Stages.{is_due, is_over};
 
@@ -8,7 +10,7 @@ use crate::stage::Stage;
 pub struct RodPlan {
     /// How many steps they take at most.
     pub steps: u32,
-    /// They are balanced after each so many steps, or never where it is 0.
+    /// The number of steps from one balancing to the next, or 0 if they are never balanced.
     pub every: u32,
     /// They end after a step in which no cell of the rod changed by so much.
     pub small: f64,

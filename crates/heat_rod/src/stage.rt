@@ -16,7 +16,7 @@ pub(crate) const NO_RESIDUAL: f64 = f64::INFINITY;
 /// strips have: so a ghost cell that comes is of the step that the strip computes next, even where the strip has not begun it.
 #[derive(Clone, Copy, Debug)]
 pub struct Stage {
-    /// How many steps the strip has begun: it has told its neighbors of so many.
+    /// How many steps the strip has begun: it has told its neighbors of as many.
     pub(crate) begun: u32,
     /// How many steps it has computed.
     pub(crate) done: u32,

@@ -11,12 +11,11 @@ mod help;
 mod words;
 
 use crate::words::{RunOptions, read_options};
-use at_sync::Strategy;
 use hot_spot_run::{ending_of, run_chain_watched, text_of};
 use hot_spot_strip::{Mode, Strip, StripChain, StripChainError};
 use pe_worker::Watch;
 use program_words::{NO_OUTPUT, RUN_FAULT, on_words, refused};
-use rts_run::{Config, History, Outcome};
+use rts_run::{Config, History, Idle, Options, Outcome};
 use run_trace::{LostTrace, Tracing, keep_trace};
 use std::alloc::AllocError;
 use std::fs::{File, Files};
@@ -26,6 +25,7 @@ use std::sync::Wait;
 use std::thread::Threads;
 use std::time::{Clock, Instant};
 use streams::write_out;
+use sync_board::Strategy;
 
 /// Cells of each strip.
 const CELLS: u32 = 16;
@@ -101,17 +101,19 @@ fn run_and_print<V: Watch + Sync, R: Threads + Wait + Sync + Clock + Print + Epr
     options: &RunOptions<'_>,
     watch: &V,
 ) -> Result<(Outcome<Strip>, u8), StripChainError> {
-    let config = Config {
+    let config = Config::usual(options.pes);
+    let wanted = Options {
         strategy: Strategy::within(options.tolerance),
         history: if options.no_journal {
             History::Dropped
         } else {
             History::Kept
         },
-        ..Config::usual(options.pes)
+        idle: Idle::Quiet,
+        ..Options::usual()
     };
     let start = Instant::now(rt);
-    let outcome = run_chain_watched(rt, rt.alloc(), &config, watch, chain)?;
+    let outcome = run_chain_watched(rt, rt.alloc(), &config, &wanted, watch, chain)?;
     if let Ok(start) = start {
         tell_time(rt, &start, outcome.account().executed);
     }

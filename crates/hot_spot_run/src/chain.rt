@@ -9,7 +9,7 @@ use chare_index::NoGate;
 use hot_spot_strip::{Strip, StripChain, StripChainError};
 use pe_worker::{NoWatch, Watch};
 use pup_pack::Pup;
-use rts_run::{Config, Outcome, RunError, run_watched};
+use rts_run::{Config, Options, Outcome, RunError, run_watched};
 use std::alloc::Allocator;
 use std::sync::Wait;
 use std::thread::Threads;
@@ -24,12 +24,13 @@ pub fn run_chain<R: Threads + Wait + Sync, A: Allocator + Copy + Send + Sync>(
     rt: &R,
     alloc: A,
     config: &Config,
+    options: &Options,
     chain: &StripChain<'_>,
 ) -> Result<Outcome<Strip<A>, A>, StripChainError>
     ensures outcome { IfOk result (IsOutcome strip_step ⟦<Strip<A> as Pup<A>>⟧.fits ⟦<Strip<A> as Pup<A>>⟧.pack StripRefuses
-        (opening_strips chain.now.mode chain.now.rounds chain.now.work 0 chain.now.cells.now) config.now.pes config.now.strategy) }
+        (opening_strips chain.now.mode chain.now.rounds chain.now.work 0 chain.now.cells.now) config.now.pes options.now.strategy) }
 {
-    run_chain_watched(rt, alloc, config, &NoWatch, chain)
+    run_chain_watched(rt, alloc, config, options, &NoWatch, chain)
 }
 
 /// Runs a chain of strips on PEs, observed by a watch: see [`rts_run::run_watched`].
@@ -45,14 +46,15 @@ pub fn run_chain_watched<
     rt: &R,
     alloc: A,
     config: &Config,
+    options: &Options,
     watch: &V,
     chain: &StripChain<'_>,
 ) -> Result<Outcome<Strip<A>, A>, StripChainError>
     ensures outcome { IfOk result (IsOutcome strip_step ⟦<Strip<A> as Pup<A>>⟧.fits ⟦<Strip<A> as Pup<A>>⟧.pack StripRefuses
-        (opening_strips chain.now.mode chain.now.rounds chain.now.work 0 chain.now.cells.now) config.now.pes config.now.strategy) }
+        (opening_strips chain.now.mode chain.now.rounds chain.now.work 0 chain.now.cells.now) config.now.pes options.now.strategy) }
 {
     let strips = chain.strips(alloc)?;
-    match run_watched(rt, alloc, config, &NoGate, watch, strips) {
+    match run_watched(rt, alloc, config, options, &NoGate, watch, strips) {
         Ok(outcome) => Ok(outcome),
         Err(RunError::Config(_)) => Err(StripChainError::Limit),
         Err(RunError::OutOfMemory) => Err(StripChainError::OutOfMemory),

@@ -6,7 +6,7 @@
 //! ```
 //! use hot_spot_run::{run_chain, text_of};
 //! use hot_spot_strip::{StripChain, Mode};
-//! use rts_run::Config;
+//! use rts_run::{Config, Options};
 //!
 //! // Three strips of two cells on two PEs, not balanced. Each cell takes one unit of work in the one round.
 //! let chain = StripChain {
@@ -15,7 +15,7 @@
 //!     work: 0,
 //!     cells: &[2, 2, 2],
 //! };
-//! let outcome = run_chain(&rt, alloc, &Config::usual(2), &chain)?;
+//! let outcome = run_chain(&rt, alloc, &Config::usual(2), &Options::usual(), &chain)?;
 //! let text = text_of(alloc, &chain, 2, &outcome)?;
 //! assert!(rt;
 //!     text.as_str()

@@ -13,7 +13,7 @@ pub opened_more : (mode : Mode) (rounds work first : ℕ) (counts : List ℕ) (i
     ≡ strips ++ opening_strips mode rounds work first (drop i counts)
 opened_more mode rounds work first counts i strips lt = rw (append_assoc, drop-cons counts i 0 lt, add-one i) refl
 
--- the same, where a strip is added that was made for the cells up to `end`
+-- the strips that open, one more of which was made for the cells up to `end`
 pub opened_next : (mode : Mode) (rounds work first end : ℕ) (counts : List ℕ) (i : ℕ) (strips new : List StripView) (strip : StripView) → i < length counts
     → end ≡ first + get_or counts i 0 → strip ≡ opening_strip mode rounds work (opening_cells first (end - first)) → new ≡ strips ++ strip ∷ []
     → new ++ opening_strips mode rounds work end (drop (i + 1) counts) ≡ strips ++ opening_strips mode rounds work first (drop i counts)

@@ -1,3 +1,5 @@
+//! Why a chain of strips is not made, or not run.
+
 use std::alloc::{AllocError, AllocFailed};
 use thiserror::Error;
 

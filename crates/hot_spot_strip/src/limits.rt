@@ -1,3 +1,5 @@
+//! The limits of a strip.
+
 /// The limits of a [`Strip`](crate::Strip). Each quantity goes from 0 up to the constant, both included.
 #[derive(Clone, Copy, Debug, PartialEq, Eq)]
 pub struct StripLimits;

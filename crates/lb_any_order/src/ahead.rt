@@ -48,7 +48,7 @@ fn cheaper(one: Way, other: Way) -> Way {
     if other.cost < one.cost { other } else { one }
 }
 
-// The same where the block extends to place x. The run before that of x is inside once the block reaches past its end.
+// Extends the block to place x. The run before that of x is inside the block once the block reaches past the end of that run.
 fn reached<A: Allocator>(chain: &SearchedChain<'_, A>, own: u32, inside: Inside, x: u32) -> Inside {
     let run = run_at(chain, x);
     if run == inside.run || inside.run == own {

@@ -120,7 +120,7 @@ struct Widest {
     weight: u64,
 }
 
-// The same for the next place, where an element of this load joins.
+// The widest block that ends at the next place, where an element of this load joins.
 fn widened(loads: &[Units], widest: Widest, load: u64, limit: u64) -> Widest {
     let mut start = widest.start;
     let mut weight = widest.weight.saturating_add(load);

@@ -78,8 +78,8 @@ fn caps_at<A: Allocator>(chain: &SearchedChain<'_, A>, low: &CostRow<A>, x: u32)
     }
 }
 
-// The same at each of the places first..=last, lowered to what the places behind them allow, since a bound for any PEs never
-// falls, and one for a free PE never falls within a run.
+// The caps at the places first..=last, lowered to those of the places behind them: a bound for any PEs never falls, and one
+// for a free PE never falls within a run.
 fn caps_of<A: Allocator + Copy>(
     alloc: A,
     chain: &SearchedChain<'_, A>,
@@ -109,7 +109,7 @@ fn caps_of<A: Allocator + Copy>(
     Ok(CostRow { first, any, free })
 }
 
-// The same level as before, or the cap where what is needed is above that level.
+// Keeps the level if it is high enough for what is needed, and otherwise rises to the cap.
 fn raised(level: u64, needed: u64, cap: u64) -> u64 {
     if needed > level { cap } else { level }
 }
@@ -180,7 +180,7 @@ struct Both<A: Allocator> {
     free: Vec<Levels<A>, A>,
 }
 
-// The same with those of one more row.
+// Both bounds with the steps of one more row.
 fn with_row<A: Allocator + Copy>(
     alloc: A,
     both: Both<A>,

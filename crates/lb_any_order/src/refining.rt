@@ -1,3 +1,5 @@
+//! Decides within a tolerance, in whichever order of the PEs moves the fewest bytes.
+
 ghost use Rattle.std.specs.Prelude.{◌≡◌, ◌<◌, ◌≤◌, ℕ, [], length, IfOk, IfSome};
 ghost use Rattle.lb_certificates.specs.Chain.{peak};
 ghost use Rattle.chain_refinement.specs.Tolerances.{limit_of};

@@ -1,3 +1,5 @@
+//! One row of the search: two costs for each place of a stretch of the chain.
+
 use std::alloc::Allocator;
 
 /// Two costs, or two bounds, for each place of a stretch of the chain.

@@ -1,3 +1,5 @@
+//! The search for the cuts and names that move the fewest bytes in any order of the PEs.
+
 ghost use Rattle.std.specs.Prelude.{◌≡◌, ◌<◌, ◌^◌, IfOk, IfSome, length};
 ghost use Rattle.lb_certificates.specs.Certificate.{IsCertified};
 ghost use Rattle.any_order.specs.AnyOrder.{AreFewestOfAll, IsReordered, reordered_limit};
@@ -56,7 +58,7 @@ pub fn reorder<A: Allocator + Copy, B: Allocator>(
     Ok(accepted(snapshot, pes, reordered))
 }
 
-// The same where the checker accepts it.
+// Returns what was found if the checker accepts it.
 fn accepted<A: Allocator, B: Allocator>(
     snapshot: &Snapshot<B>,
     pes: Pes,

@@ -26,7 +26,7 @@ use std::alloc::Global;
 /// more than ranks, the bounds of each, and the first and the last place that each reaches within the limit are numbers of runs, too.
 /// Whatever chain has these runs, their first elements are such cuts of it: everything else that this rests on is checked.
 ///
-/// It returns -1 where there are no ranks or more than 65,536, or 2^32 runs or more, a list has not the length that it needs, the
+/// It returns -1 where there are no ranks or more than 65,536, or 2^32 runs or more, a list does not have the length that it needs, the
 /// present cuts do not divide the runs, or the bytes add up to 2^61 or more; then -3; then -1 where a bound is on the wrong side
 /// of its present cut or a block between bounds is above the limit, a cut might reach further, a run between the bounds of a cut
 /// that it reaches has more than one element, or no cuts are within the limit. -2 comes before or after that, whenever memory is refused.

@@ -400,7 +400,7 @@ pub extern "C" fn tezgumi_part_held(
 /// Names the blocks of a division by a table of the bytes of each block on each rank, so that the fewest bytes move; of such
 /// names it takes the first in dictionary order. `held` has `pes` rows of `pes` numbers: row `b` has the bytes of block `b` on each
 /// rank. Those of rank `r` are what [`tezgumi_part_held`] writes there, at `b * pes + r`. It writes the name of each block, prices
-/// that prove the names cheapest, and the bytes that move. It returns -1 where `pes` is not 1 to 4,096, a list has not the length
+/// that prove the names cheapest, and the bytes that move. It returns -1 where `pes` is not 1 to 4,096, a list does not have the length
 /// that it needs, or all bytes add up to more than 2^47.
 #[unsafe(no_mangle)]
 pub extern "C" fn tezgumi_name(

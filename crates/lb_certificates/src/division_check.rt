@@ -1,3 +1,5 @@
+//! Checks a division and its certificate.
+
 ghost use Rattle.std.specs.Prelude.{◌≡◌, ◌+◌, ◌<◌, ◌↔◌, length, slice_index, IsOk, OnOk, IfErr, MatchBool, MatchOption};
 ghost use Rattle.std.specs.List.Sorted.{IsNonDecreasing};
 ghost use Rattle.lb_certificates.specs.Chain.{IsDivision, IsLeastDivision};

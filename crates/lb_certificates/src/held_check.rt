@@ -1,3 +1,5 @@
+//! Checks a naming against a table of the bytes that each PE holds of each block, without the elements.
+
 ghost use Rattle.std.specs.Prelude.{◌≡◌, ℕ, ◌+◌, ◌*◌, ◌^◌, ◌<◌, ◌≤◌, ◌↔◌, length, slice_index, sum, IsOk, IfOk, OnOk, IfErr, MatchOption, List, ℤ, pos, ◌+ℤ◌, ◌<ℤ◌, ◌≤ℤ◌};
 ghost use Rattle.lb_certificates.specs.Flaws.{IsFirst};
 ghost use Rattle.lb_certificates.specs.Held.{held_cost, held_moved, row_cost, row_of, HasHeldFlaw, IsFirstAbove, IsNamedBy, WhereHeld};

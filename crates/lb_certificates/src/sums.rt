@@ -1,3 +1,5 @@
+//! Sums of loads and of sizes, in 128 bits.
+
 ghost use Rattle.std.specs.Prelude.{◌≡◌, ◌*◌, ◌^◌, ◌≤◌, length, sum};
 
 use lb_snapshot::Units;

@@ -1,3 +1,5 @@
+//! Why a call of the load database is refused.
+
 ghost use Rattle.std.specs.Prelude.{◌≡◌};
 ghost use Rattle.lb_database.specs.declared.error.DbError.TheVariants.{OutOfMemory};
 

@@ -28,7 +28,7 @@ made_by bytes count r m end spelled recorded fields none whole is few =
       few_moves = few;
     }
 
--- The same decision with the number of moves that are to follow: the judgement of the text up to them does not depend on them.
+-- A decision filled with as many moves as are to follow: the judgement of the text before the moves does not depend on them.
 abbrev filled : {A : Type 0} → Recorded A → ℕ → Recorded A
 filled r m = record r { decision = record r.decision { moves = replicate m (0, 0, 0) } }
 

@@ -5,7 +5,7 @@ use Rattle.std.proofs.lemmas.Bool.{cases_lt, le-leb, lt-leb}
 use Rattle.std.proofs.lemmas.List.{append-nil}
 use Rattle.std.specs.Int.{Width, w8}
 use Rattle.dump_format.specs.Faults.{IsGood}
-use Rattle.dump_format.specs.Fields.{dump, element, elements, move, moves}
+use Rattle.dump_format.specs.Fields.{dump, elements, moves}
 use Rattle.dump_format.specs.Layout.{Layout, End, Whole, Unfinished, judge}
 use Rattle.dump_format.specs.Text.{word}
 use Rattle.dump_format.proofs.Judging.{field_short}
@@ -157,7 +157,7 @@ module _ (A : Type 0) where
   all_found h loads sizes r all list begun at none = front_judged (Some h) loads sizes (Made r all) list begun begun at
       ∙ no_move_left h.count all (length list) begun none (at.no_bytes none)
 
--- The same, where what the reader holds is given by equations.
+-- These facts where equations say what the reader holds.
 module _ (A : Type 0) where
   pub found_head : (head : Option Head) (loads : List ℕ) (sizes : List (ℕ × ℕ)) (plan : DecisionPart A) (list : List (ℕ × ℕ × ℕ)) (begun : List ℕ)
       → IsAt head loads sizes plan list begun → head ≡ None

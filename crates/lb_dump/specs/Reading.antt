@@ -7,6 +7,9 @@ use Rattle.dump_format.specs.Fields.{dump}
 use Rattle.dump_format.specs.Layout.{Unfinished, judge}
 use Rattle.dump_format.specs.declared.error.DumpError.{DumpError}
 use Rattle.dump_format.specs.declared.error.DumpError.TheVariants.{OutOfMemory, Short}
+use Rattle.lb_dump.specs.declared.decoding.TheConstants.{CALLS}
+use Rattle.streams.specs.Logs.{HasFailed}
+use Rattle.streams.specs.declared.log.CallLog.{CallLog}
 
 -- how far a reader is: the text so far, or the error that it returns from now on
 abbrev pub Progress : Type 0
@@ -44,3 +47,7 @@ NeedsNone text piece = (length piece ≡ 0) ⊎ IsWhole text
 -- nothing is wrong with the head of this text, its first 16 bytes, or with as many of them as there are
 abbrev pub HasGoodHead : List ℕ → Type 0
 HasGoodHead text = IsGood (take 16 text)
+
+-- why the bytes of a reader were not read: by the log of its calls it failed, or was called as often as it may be
+abbrev pub ReaderHasFailed : CallLog → Type 0
+ReaderHasFailed log = HasFailed CALLS log

@@ -5,6 +5,8 @@
 //! - [`Dump`], with [`Recorded`]: what is written and read.
 //! - [`encode_dump`] and [`write_dump`]: the one text in LBD2; [`encode`] and [`write_to`]: that of a snapshot in LBD1.
 //! - [`decode`] and [`read_from`]: the dump of a text in either format, or the first fault of the bytes from left to right.
+//! - [`read_from_logged`], [`write_dump_logged`] and [`write_to_logged`]: with the calls of the reader or the writer in a log,
+//!   which has the failure where one of these failed.
 //! - [`DumpReader`]: the same for a text that comes in pieces.
 //! - [`DumpError`]: the faults.
 //!
@@ -35,9 +37,11 @@ mod plan_reading;
 mod reader;
 mod whole_dump;
 
-pub use decoding::{decode, read_from};
+pub use decoding::{decode, read_from, read_from_logged};
 #[doc(hidden)]
 pub use dump_format::format_laws;
 pub use dump_format::{Dump, DumpError, Recorded};
-pub use dump_writing::{encode, encode_dump, write_dump, write_to};
+pub use dump_writing::{
+    encode, encode_dump, write_dump, write_dump_logged, write_to, write_to_logged,
+};
 pub use reader::DumpReader;

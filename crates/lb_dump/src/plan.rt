@@ -1,3 +1,5 @@
+//! The parts of a recorded decision, as the reader comes to them.
+
 use dump_format::Recorded;
 use std::alloc::{Allocator, Global};
 

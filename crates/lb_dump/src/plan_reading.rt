@@ -75,7 +75,7 @@ pub(crate) fn read_plan<A: Allocator + Copy>(
     read_lists(alloc, bytes, target as usize, count)
 }
 
-// The same after a flag of 1 and a target that are good.
+// Reads the lists of a decision, after a flag of 1 and a good target.
 fn read_lists<A: Allocator + Copy>(
     alloc: A,
     bytes: &[u8],

@@ -1,3 +1,5 @@
+//! Reads a dump that comes in pieces.
+
 ghost use Rattle.std.specs.Prelude.{◌≡◌, ◌≢◌, [], ◌++◌, Ok, Err, IfOk};
 ghost use Rattle.lb_dump.specs.Reading.{EndsReading, Feeds, HasGoodHead, NeedsNone};
 

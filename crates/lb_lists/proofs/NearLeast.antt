@@ -30,7 +30,7 @@ sum_high u some (x ∷ xs) =
     let count : length (x ∷ xs) * u ≡ length xs * u + u = suc-mul (length xs) u in
     omega (arith, with_first x xs, ap (λ s. u * s) (with_first (x / u) (in_units u xs)), mul-add u (x / u) (sum (in_units u xs)), head, count, sum_high u some xs)
 
--- the same of a part of the list
+-- a part of the list in units is the list of that part in units
 part_in_units : (u : ℕ) (xs : List ℕ) (a b : ℕ) → slice_range (in_units u xs) a b ≡ in_units u (slice_range xs a b)
 part_in_units u xs a b = ap (take (b - a)) (drop-map (λ x. x / u) a xs) ∙ take-map (λ x. x / u) (b - a) (drop a xs)
 
@@ -44,7 +44,7 @@ load_high u xs a b some =
     let same : u * sum (in_units u (slice_range xs a b)) ≡ u * load (in_units u xs) a b = ap (λ p. u * sum p) (sym (part_in_units u xs a b)) in
     omega (arith, part, same, mul-le-mul_left u few)
 
--- the same of the peak of a division
+-- bounds of two loads bound the greater of them
 max_low : (u p q r s : ℕ) → u * p ≤ r → u * q ≤ s → u * max p q ≤ max r s
 max_low u p q r s low lower = elim (cases_lt p q) [
   | inl less ↦ omega (arith, ap (λ k. u * k) {x = max p q} {y = q} (omega (arith, less)), lower)

@@ -111,7 +111,7 @@ IsNamesFlaw run claim flaw =
     IsFirst (HasNamingFlaw (sizes_of run) claim.cuts claim.names claim.block_prices claim.pe_prices) flaw
     ⊎ (IsNamedSmall run claim × IsFlawTold (right_moved run claim) (length run.loads) claim flaw)
 
--- the same of names that are right by prices; or, of those that are the order of the PEs, of the bytes and the places
+-- the first flaw where names are right by their prices; or, where they are the order of the PEs, of the bytes and the places
 abbrev pub IsNamesFlawBy : Bool → Listed → RefinedClaimed → Flaw → Type 0
 IsNamesFlawBy false run claim flaw = IsNamesFlaw run claim.decision flaw
 IsNamesFlawBy true run claim flaw =

@@ -18,7 +18,7 @@ pub struct BoundsBuffers<'a> {
     pub level_starts: &'a mut [usize],
     /// Capacity for the place of each level, from which on it holds.
     pub level_places: &'a mut [u32],
-    /// The same capacity for its bytes.
+    /// Capacity for the bytes of each level, as many as there are places.
     pub level_bytes: &'a mut [u64],
 }
 

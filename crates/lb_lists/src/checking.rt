@@ -1,3 +1,5 @@
+//! Checks a decision that is given as plain lists, and numbers its flaws.
+
 ghost use Rattle.std.specs.Prelude.{◌≡◌, ◌<◌, ◌≤◌, None, IfOk, OnOk, IfErr, MatchBool, MatchOption, length, vec_len};
 ghost use Rattle.lb_certificates.specs.Chain.{IsDivision};
 ghost use Rattle.lb_certificates.specs.Flaws.{flaw_number};

@@ -1,3 +1,5 @@
+//! A decision that is claimed to be right, as plain lists.
+
 ghost use Rattle.std.specs.Prelude.{◌≡◌, ◌≤◌, drop, take};
 ghost use Rattle.lb_lists.specs.Claims.{shortened};
 ghost use Rattle.lb_lists.specs.declared.limits.TheConstants.RunLimits.{PES};

@@ -1,3 +1,5 @@
+//! Writes a decision with its certificates into the caller's buffers.
+
 ghost use Rattle.std.specs.Prelude.{◌≡◌, ◌≤◌, ◌<◌, ◌+◌, ◌↔◌, IsTrue, length, take, drop, IfOk, IfErr, OnOk, OnErr};
 ghost use Rattle.chain_partition.specs.Chosen.{IsChosen};
 ghost use Rattle.lb_certificates.specs.Chain.{IsDivision};

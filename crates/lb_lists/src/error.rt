@@ -1,3 +1,5 @@
+//! Why a run over plain lists is not planned or checked.
+
 ghost use Rattle.std.specs.Prelude.{◌≡◌};
 ghost use Rattle.lb_lists.specs.Runs.{refusal_of};
 

@@ -1,3 +1,5 @@
+//! Laws of the planner over lists: equal runs get equal plans, and a plan by scaled loads is nearly the best by the loads.
+
 ghost use Rattle.std.specs.Prelude.{◌≡◌, ◌≤◌, ◌+◌, ◌*◌, Bool, ℕ, List, length};
 ghost use Rattle.std.specs.Float.{Float};
 ghost use Rattle.lb_certificates.specs.Chain.{peak, IsDivision, IsLeastDivision};

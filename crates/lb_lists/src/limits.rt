@@ -1,3 +1,5 @@
+//! The limits of a run over plain lists.
+
 /// The limits of a run over plain lists. Each quantity goes from the lowest value given here up to the constant, both included.
 #[derive(Clone, Copy, Debug, PartialEq, Eq)]
 pub struct RunLimits;

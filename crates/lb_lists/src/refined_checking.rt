@@ -361,7 +361,7 @@ pub fn place_of_refined(flaw: RefinedFlaw) -> (u32, u32)
     }
 }
 
-/// The same of a flaw of a decision.
+/// The block, the stop (from 1), or the block and the PE that a flaw of a decision names, and 0 for each that it does not name.
 pub(crate) fn place_of(flaw: Flaw) -> (u32, u32)
     ensures { result ≡ flaw_place flaw }
 {

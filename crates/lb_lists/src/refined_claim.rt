@@ -1,3 +1,5 @@
+//! A decision within a tolerance that is claimed to be right, as plain lists.
+
 use crate::claim::Claim;
 use std::marker::Model;
 

@@ -40,7 +40,7 @@ pub struct StandingBuffers<'a> {
     pub step_starts: &'a mut [usize],
     /// Capacity for the place of each step.
     pub step_places: &'a mut [u32],
-    /// The same capacity for the number of bytes by which the height rises at each.
+    /// Capacity for the bytes by which the height rises at each step, as many as there are places.
     pub step_rises: &'a mut [u64],
 }
 

@@ -1,3 +1,5 @@
+//! A decision within a tolerance, in any order of the PEs, that is claimed to be right, as plain lists.
+
 use crate::claim::Claim;
 use std::marker::Model;
 

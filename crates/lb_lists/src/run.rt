@@ -1,3 +1,5 @@
+//! The elements of a run as plain lists, and the test that they are within the limits.
+
 ghost use Rattle.std.specs.Prelude.{◌≡◌, ◌<◌, ◌≤◌, ◌^◌, ◌↔◌, ℕ, IsTrue, All, length, sum};
 ghost use Rattle.lb_lists.specs.Runs.{AreSmall, IsAsked, IsRun};
 

@@ -13,8 +13,8 @@ pub fn one_refined<A: Allocator>()
         → IsRefined loads sizes pes tolerance one → IsRefined loads sizes pes tolerance other → AreSame one other }
 {}
 
-/// The loads, the sizes, the number of PEs and the tolerance determine the decision that keeps the order of the PEs, except for heights and
-/// prices.
+/// The loads, the sizes, the number of PEs and the tolerance determine the decision that keeps the order of the PEs, except for
+/// heights and prices.
 pub fn one_in_order<A: Allocator>()
     ensures one_in_order { (loads : List ℕ) (sizes : List (ℕ × ℕ)) (pes tolerance : ℕ) (one other : Refined A)
         → IsRefinedInOrder loads sizes pes tolerance one → IsRefinedInOrder loads sizes pes tolerance other → AreSame one other }

@@ -1,3 +1,5 @@
+//! Decides within a tolerance, by the cheapest names of the blocks.
+
 ghost use Rattle.std.specs.Prelude.{◌≡◌, ◌≤◌, IfOk};
 ghost use Rattle.chain_partition.specs.Chosen.{IsChosen};
 ghost use Rattle.lb_certificates.specs.Certificate.{IsCertified};
@@ -86,7 +88,7 @@ pub(crate) fn planned<A: Allocator + Copy, B: Allocator>(
     }
 }
 
-// The same, with the division found by several workers.
+// The decision of the plan. Several workers find its division.
 fn planned_with<R: Threads + Sync, G: Gate + Sync, A: Allocator + Copy, B: Allocator>(
     rt: &R,
     alloc: A,

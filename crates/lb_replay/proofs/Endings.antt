@@ -4,7 +4,8 @@ use Rattle.std.specs.Io.KnownBytes.{Appends}
 use Rattle.dump_format.specs.declared.error.DumpError.{DumpError}
 use Rattle.lb_strategy.specs.declared.error.PlanError.{PlanError}
 use Rattle.streams.specs.Writing.{WritesPrefix}
-use Rattle.lb_replay.specs.Internal.{ended_at, without_memory}
+use Rattle.lb_replay.specs.Ended.{HasUnread}
+use Rattle.lb_replay.specs.Internal.{IsUnread, ended_at, without_memory}
 use Rattle.lb_replay.specs.Simulation.{EndsReplay, IsReadFault, IsReplayFault, ReportsFault}
 use Rattle.lb_replay.specs.Text.{fault_line}
 use Rattle.lb_replay.specs.Verifying.{EndsCheck, Finds, check_line}
@@ -91,3 +92,16 @@ ends_check A bytes rest old new fault ended found (inl line) =
     check_reported A bytes rest old new fault ended found line
 ends_check A bytes rest old new fault ended found (inr line) =
     check_reported A bytes rest old new (without_memory fault) ended (memory_found A bytes rest fault found) line
+
+-- out of memory is not reported as a dump that was not read
+no_read : (fault : Fault) → IsUnread (without_memory fault) → ⊥
+no_read (Dump e) is = cc
+no_read (Plan e) is = cc
+no_read _ is = cc
+
+-- where it is reported that the dump was not read, that was the fault
+pub read_reported : (old new : Option (List ℕ)) (fault : Fault) (ended : SimEnd)
+    → ReportsFault old new fault ended ⊎ ReportsFault old new (without_memory fault) ended → HasUnread ended → IsUnread fault
+read_reported old new fault ended (inl line) is = (subst (λ x. ReportsFault old new fault x) is line).0
+read_reported old new fault ended (inr line) is =
+    absurd (no_read fault (subst (λ x. ReportsFault old new (without_memory fault) x) is line).0)

@@ -1,4 +1,5 @@
 -- What a fault leads to inside a replay or a check. The clauses of `simulate` and `verify` do not use these definitions.
+use Rattle.std.specs.Prelude.{◌≡◌}
 use Rattle.dump_format.specs.declared.error.DumpError.{DumpError}
 use Rattle.lb_strategy.specs.declared.error.PlanError.{PlanError}
 use Rattle.lb_replay.specs.declared.ended.SimEnd.{SimEnd}
@@ -18,3 +19,7 @@ ended_at (Dump e) = SimEnd.Dump e
 ended_at (Plan e) = SimEnd.Plan e
 ended_at (Flawed flaw) = SimEnd.Flawed flaw
 ended_at NoDecision = SimEnd.NoDecision
+
+-- the fault of a dump that was not read
+abbrev pub IsUnread : Fault → Type 0
+IsUnread fault = fault ≡ Dump DumpError.Read

@@ -1,3 +1,5 @@
+pub mod CommandLine
+pub mod Ended
 pub mod Internal
 pub mod Requests
 pub mod Simulation

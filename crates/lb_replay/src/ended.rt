@@ -1,3 +1,5 @@
+//! How a replay or a check ends, with the exit status.
+
 ghost use Rattle.std.specs.Prelude.{◌≡◌};
 ghost use Rattle.lb_replay.specs.Internal.{ended_at};
 ghost use Rattle.lb_replay.specs.Statuses.{status_of};

@@ -1,3 +1,5 @@
+//! The lines that report a fault of a dump or a flaw of its decision.
+
 ghost use Rattle.std.specs.Prelude.{◌≡◌, [], OnOk, IfOk};
 ghost use Rattle.std.specs.String.{string_bytes};
 ghost use Rattle.lb_replay.specs.Internal.{without_memory};

@@ -1,3 +1,5 @@
+//! The options of `lb_sim`, and the task that they ask for.
+
 ghost use Rattle.std.specs.Option.{ForSome};
 ghost use Rattle.std.specs.Prelude.{◌≡◌, ◌≤◌, ℕ, List, Option, Some, IfOk, IfErr, IfSome};
 ghost use Rattle.lb_replay.specs.Requests.{EndsTask, MayRun, check_of, task_of};
@@ -34,11 +36,11 @@ pub struct SimOptions<'a> {
 pub enum Task {
     /// It is replayed, for this number of PEs, 1 to 256 (`Limits::PES`), or for that of the dump.
     Replay(Option<u32>),
-    /// The same, within this tolerance.
+    /// It is replayed within this tolerance.
     Refine(Option<u32>, Tolerance),
-    /// The same, and the PEs keep their order.
+    /// It is replayed within this tolerance, and the PEs keep their order.
     RefineInOrder(Option<u32>, Tolerance),
-    /// Within this tolerance, where the PEs may change their order.
+    /// It is replayed within this tolerance, and the PEs may change their order.
     RefineInAnyOrder(Option<u32>, Tolerance),
     /// Its decision is checked.
     Check,

@@ -1,10 +1,15 @@
+//! Replays a dump: reads it, decides, and writes the text of the decision.
+
 ghost use Rattle.std.specs.Prelude.{◌≡◌, ◌≤◌, ◌⊎◌, ℕ, List, Option, Some, IfOk, IfErr};
 ghost use Rattle.std.specs.Option.{ForSome};
 ghost use Rattle.std.specs.String.{string_bytes};
 ghost use Rattle.lb_strategy.specs.declared.error.PlanError.TheVariants.{OutOfMemory};
 ghost use Rattle.lb_replay.specs.Text.{fault_line};
 ghost use Rattle.lb_replay.specs.declared.fault.Fault.TheVariants.{Plan};
-ghost use Rattle.lb_replay.specs.Internal.{without_memory};
+ghost use Rattle.lb_dump.specs.Reading.{ReaderHasFailed};
+ghost use Rattle.lb_replay.specs.Internal.{IsUnread, without_memory};
+ghost use Rattle.lb_replay.specs.Ended.{HasUnread, HasUnwritten};
+ghost use Rattle.streams.specs.Logs.{HasRefused};
 ghost use Rattle.lb_replay.specs.Simulation.{EndsReplay, HasOneText, IsDecided, IsInAnyOrder, IsInOrder, IsPlanned, IsReplay, IsReplayFault, IsWithin, ReportsFault, ReportsUnread};
 
 use crate::ended::SimEnd;
@@ -15,13 +20,13 @@ use chain_refinement::Tolerance;
 use chare_index::{Limits, Pes};
 use dump_format::DumpError;
 use lb_any_order::refine_in_any_order;
-use lb_dump::read_from;
+use lb_dump::read_from_logged;
 use lb_refinement::{refine, refine_keeping_order};
 use lb_snapshot::Snapshot;
 use lb_strategy::{PlanError, plan};
 use std::alloc::Allocator;
 use std::io::{self, Read, Write};
-use streams::{Noted, write_out};
+use streams::{CallLog, write_out_logged};
 
 /// Replays a dump offline: reads it, decides its balancing step for `procs` PEs (1 to 256), or for the number of PEs of the
 /// dump, and writes the text of the decision, or the one line of a fault, and nothing else. The way says which decision that is: the
@@ -45,10 +50,33 @@ pub fn simulate<A: Allocator + Copy, R: Read, W: Write>(
     ensures one_text { (bytes text other : List ℕ) → HasOneText way → IsReplay A (Some bytes) procs way text
         → IsReplay A (Some bytes) procs way other → text ≡ other }
 {
-    match replay(alloc, reader, procs, way) {
-        Ok(text) if write_out(writer, text.as_bytes()) => SimEnd::Printed,
+    let mut read = CallLog::new();
+    let mut written = CallLog::new();
+    simulate_logged(alloc, reader, writer, procs, way, &mut read, &mut written)
+}
+
+/// Replays a dump as [`simulate`] does, with the calls of the reader and those of the writer in logs. Where the end is that the dump
+/// was not read, the log of the reader has an error, or 16,777,216 calls; where it is that the writer failed, the log of the writer has
+/// an error, or that nothing was taken.
+pub fn simulate_logged<A: Allocator + Copy, R: Read, W: Write>(
+    alloc: A,
+    reader: &mut R,
+    writer: &mut W,
+    procs: Option<u32>,
+    way: Way,
+    read: &mut CallLog,
+    written: &mut CallLog,
+) -> SimEnd
+    requires some_pe { ForSome procs (λ p. 1 ≤ p) }
+    requires few_pes { ForSome procs (λ p. p ≤ Limits.PES) }
+    ensures ends { EndsReplay A (R.remaining reader.old) (R.remaining reader.new) procs way (W.contents writer.old) (W.contents writer.new) result }
+    ensures failed { HasUnread result → ReaderHasFailed read.new }
+    ensures unwritten { HasUnwritten result → HasRefused written.new }
+{
+    match replay(alloc, reader, procs, way, read) {
+        Ok(text) if write_out_logged(writer, text.as_bytes(), written) => SimEnd::Printed,
         Ok(_) => SimEnd::WriteFailed,
-        Err(fault) => report(alloc, writer, fault),
+        Err(fault) => report(alloc, writer, fault, written),
     }
 }
 
@@ -69,13 +97,23 @@ pub fn replay_file<A: Allocator + Copy, R: Read + Drop, W: Write>(
     ensures reason { IfErr file (λ reason. result.1 ≡ Some reason) }
 {
     match file {
-        Ok(reader) => {
-            let mut noted = Noted::new(reader);
-            let ended = simulate(alloc, &mut noted, writer, procs, way);
-            (ended, noted.failure())
+        Ok(mut reader) => {
+            let mut read = CallLog::new();
+            let mut written = CallLog::new();
+            let ended = simulate_logged(
+                alloc,
+                &mut reader,
+                writer,
+                procs,
+                way,
+                &mut read,
+                &mut written,
+            );
+            (ended, read.failure())
         }
         Err(reason) => {
-            let ended = report(alloc, writer, Fault::Dump(DumpError::Read));
+            let fault = Fault::Dump(DumpError::Read);
+            let ended = report(alloc, writer, fault, &mut CallLog::new());
             (ended, Some(reason))
         }
     }
@@ -87,13 +125,15 @@ fn replay<A: Allocator + Copy, R: Read>(
     reader: &mut R,
     procs: Option<u32>,
     way: Way,
+    log: &mut CallLog,
 ) -> Result<String<A>, Fault>
     requires some_pe { ForSome procs (λ p. 1 ≤ p) }
     requires few_pes { ForSome procs (λ p. p ≤ Limits.PES) }
     ensures text { IfOk result (λ text. IsReplay A (R.remaining reader.old) procs way (string_bytes text)) }
     ensures fault { IfErr result (IsReplayFault A (R.remaining reader.old) (R.remaining reader.new)) }
+    ensures failed { IfErr result (λ fault. IsUnread fault → ReaderHasFailed log.new) }
 {
-    match read_from(alloc, reader) {
+    match read_from_logged(alloc, reader, log) {
         Ok(dump) => {
             let snapshot = dump.snapshot();
             let pes = procs.unwrap_or(snapshot.procs());
@@ -191,21 +231,28 @@ fn planned_text<A: Allocator + Copy, B: Allocator>(
 }
 
 /// Writes the line of a fault, or the one for out of memory.
-pub(crate) fn report<A: Allocator, W: Write>(alloc: A, writer: &mut W, fault: Fault) -> SimEnd
-    ensures { ReportsFault (W.contents writer.old) (W.contents writer.new) fault result
+pub(crate) fn report<A: Allocator, W: Write>(
+    alloc: A,
+    writer: &mut W,
+    fault: Fault,
+    log: &mut CallLog,
+) -> SimEnd
+    ensures reported { ReportsFault (W.contents writer.old) (W.contents writer.new) fault result
         ⊎ ReportsFault (W.contents writer.old) (W.contents writer.new) (without_memory fault) result }
+    ensures unwritten { HasUnwritten result → HasRefused log.new }
 {
     let Ok(line) = fault_line(alloc, fault) else {
-        return report_line(writer, fault.without_memory(), NO_MEMORY.as_bytes());
+        return report_line(writer, fault.without_memory(), NO_MEMORY.as_bytes(), log);
     };
-    report_line(writer, fault, line.as_bytes())
+    report_line(writer, fault, line.as_bytes(), log)
 }
 
-fn report_line<W: Write>(writer: &mut W, fault: Fault, line: &[u8]) -> SimEnd
+fn report_line<W: Write>(writer: &mut W, fault: Fault, line: &[u8], log: &mut CallLog) -> SimEnd
     requires { line.now ≡ fault_line fault }
-    ensures { ReportsFault (W.contents writer.old) (W.contents writer.new) fault result }
+    ensures reported { ReportsFault (W.contents writer.old) (W.contents writer.new) fault result }
+    ensures unwritten { HasUnwritten result → HasRefused log.new }
 {
-    if write_out(writer, line) {
+    if write_out_logged(writer, line, log) {
         SimEnd::at(fault)
     } else {
         SimEnd::WriteFailed

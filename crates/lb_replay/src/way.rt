@@ -1,3 +1,5 @@
+//! The ways in which a replay can decide.
+
 use chain_refinement::Tolerance;
 
 /// How a replay decides.
@@ -7,7 +9,7 @@ pub enum Way {
     Least,
     /// Within this tolerance: [`refine`](lb_refinement::refine).
     Within(Tolerance),
-    /// The same, and the PEs keep their order: [`refine_keeping_order`](lb_refinement::refine_keeping_order).
+    /// Within this tolerance, and the PEs keep their order: [`refine_keeping_order`](lb_refinement::refine_keeping_order).
     InOrder(Tolerance),
     /// Within this tolerance, where the PEs may change their order: [`refine_in_any_order`](lb_any_order::refine_in_any_order).
     InAnyOrder(Tolerance),

@@ -4,9 +4,9 @@
 //! `--keep-order` the PEs then keep their order, and with `--any-order` they may change it, so that the fewest bytes move. With
 //! `--check` it prints instead whether the decision in the dump is right.
 //!
-//! - `program_words::on_words`: the arguments of the command line, and the status. `sim_command_line::asked`: what the
+//! - `program_words::on_words`: the arguments of the command line, and the status. `lb_replay::asked`: what the
 //!   arguments ask for; `program_words::refused`: the status where they ask for nothing to be done.
-//! - `lb_replay::SimOptions::task`: which task that is, if the options can be combined; `sim_command_line::refuse_both`: what is
+//! - `lb_replay::SimOptions::task`: which task that is, if the options can be combined; `lb_replay::refuse_both`: what is
 //!   printed if they cannot.
 //! - `lb_replay::run`: the task, and its end with the status for that; `lb_replay::dump_advice`: what to do about a fault of the
 //!   dump; `streams::Advice`: what is printed about a file with a fault.
@@ -17,9 +17,8 @@ ghost use Rattle.std.specs.Prelude.{◌≤◌};
 ghost use Rattle.std.specs.Option.{ForSome};
 
 use chare_index::Limits;
-use lb_replay::{SimEnd, SimOptions, Task, dump_advice, run};
+use lb_replay::{SimEnd, SimOptions, Task, asked, dump_advice, refuse_both, run};
 use program_words::{BAD_FILE, on_words, refused};
-use sim_command_line::{asked, refuse_both};
 use std::fs::File;
 use std::io;
 use std::process::ExitCode;

@@ -30,6 +30,6 @@ pub record IsTaken (procs : ℕ) (loads : List ℕ) (sizes : List (ℕ × ℕ)) 
   pub paired : length loads ≡ length sizes
   pub placed : All (λ size. size.1 < procs) sizes
 
--- the same size and the same place
+-- equal sizes and equal places
 abbrev pub same_size : ℕ × ℕ → ℕ × ℕ → Bool
 same_size a b = (a.0 == b.0) && (a.1 == b.1)

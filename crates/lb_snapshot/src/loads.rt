@@ -1,3 +1,5 @@
+//! The load of every element in one round.
+
 ghost use Rattle.std.specs.Prelude.{◌≡◌, ℕ, List, ◌≤◌, [], All, length, sum, IsTrue, ◌↔◌, SomeIff, bytes_eq};
 ghost use Rattle.std.specs.Cmp.{partial_equiv_from_equiv};
 ghost use Rattle.std.specs.Cmp.Lexicographic.{nat_list_eq_equiv};

@@ -1,3 +1,5 @@
+//! A snapshot: the load, size and place of every element at one step of a run.
+
 ghost use Rattle.std.specs.Prelude.{◌≡◌, ◌<◌, ◌↔◌, All, IsTrue, SomeIff, length, ◌&&◌, ◌==◌, bytes_eq};
 ghost use Rattle.std.specs.Cmp.{and_per, nat_eq_equiv, on_per, partial_equiv_from_equiv};
 ghost use Rattle.std.specs.Cmp.Lexicographic.{pointwise, lists_per, nat_list_eq_equiv};

@@ -29,6 +29,6 @@ pub record HasPlace (cuts names : List ℕ) (i : ℕ) : Type 0 where
   pub named : block_of cuts i < length names
   pub pe : planned_pe cuts names i < PES
 
--- the same element, with the same two PEs
+-- equal elements, with equal PEs before and after
 abbrev pub same_move : ℕ × ℕ × ℕ → ℕ × ℕ × ℕ → Bool
 same_move a b = ((a.0 == b.0) && (a.1 == b.1)) && (a.2 == b.2)

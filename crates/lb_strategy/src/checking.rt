@@ -1,3 +1,5 @@
+//! Checks a whole decision with its certificates.
+
 ghost use Rattle.std.specs.Prelude.{◌≡◌, ◌≢◌, ◌<◌, ◌↔◌, ℕ, length, IsOk, OnOk, IfErr, MatchBool};
 ghost use Rattle.lb_certificates.specs.Chain.{IsLeastDivision};
 ghost use Rattle.lb_certificates.specs.Naming.{IsCheapest};
@@ -34,7 +36,7 @@ pub fn check<A: Allocator, B: Allocator>(
     check_parts(snapshot.loads(), snapshot.sizes(), pes, decision)
 }
 
-// The same for the loads and the sizes of a snapshot.
+// Runs the checks of `check` on the loads and the sizes of a snapshot.
 #[tactic(auto, using(crate::proofs::RightDecisions::named_from_right))]
 fn check_parts<A: Allocator, B: Allocator>(
     loads: &Loads<A>,

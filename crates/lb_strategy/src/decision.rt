@@ -1,3 +1,5 @@
+//! A decision: the blocks, their names, the certificates, and the elements that move.
+
 ghost use Rattle.std.specs.Prelude.{◌≡◌, IfOk};
 ghost use Rattle.std.specs.List.Sorted.{IsNonDecreasing};
 ghost use Rattle.lb_certificates.specs.Naming.{block_of};

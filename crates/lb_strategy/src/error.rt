@@ -1,3 +1,5 @@
+//! Why no decision is made.
+
 ghost use Rattle.std.specs.Prelude.{◌≡◌};
 ghost use Rattle.lb_strategy.specs.declared.error.PlanError.TheVariants.{OutOfMemory};
 

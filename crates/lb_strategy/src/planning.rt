@@ -1,3 +1,5 @@
+//! Makes a decision: the least division, and the cheapest names of its blocks.
+
 ghost use Rattle.std.specs.Prelude.{◌≡◌, ◌≤◌, IfOk, IfErr};
 ghost use Rattle.chain_partition.specs.Chosen.{IsChosen};
 ghost use Rattle.lb_certificates.specs.Certificate.{IsCertified};

@@ -1,3 +1,5 @@
+//! Laws of the figures of a report, such as that a right decision has the least greatest load of consecutive blocks.
+
 ghost use Rattle.std.specs.Prelude.{◌≡◌, ◌≤◌, ℕ, List, length};
 ghost use Rattle.chain_refinement.specs.Tolerances.{limit_of};
 ghost use Rattle.lb_refinement.specs.declared.refined.Refined.{Refined};

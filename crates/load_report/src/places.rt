@@ -56,7 +56,7 @@ pub fn planned_places<A: Allocator, B: Allocator, C: Allocator>(
     Ok(places)
 }
 
-/// The same by a decision for this number of PEs within some tolerance.
+/// The place of each element by a decision for this number of PEs within some tolerance.
 ///
 /// # Errors
 ///

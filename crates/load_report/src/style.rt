@@ -1,3 +1,5 @@
+//! How a report is laid out.
+
 ghost use Rattle.std.specs.Prelude.{◌≡◌};
 ghost use Rattle.load_report.specs.Text.{head_line};
 

@@ -70,7 +70,7 @@ walked_none blocks walk none empty =
       none_open = λ _. empty;
     }
 
--- A walk within a part: it has closed so many blocks, and the open one begins at or before the element `first` of the part
+-- A walk within a part: it has closed this many blocks, and the open one begins at or before the element `first` of the part
 -- and weighs `filled` up to there.
 pub record IsUnderWay (before part ends : List ℕ) (blocks limit closed first filled : ℕ) : Type 0 where
   pub greedy : IsGreedy (before ++ part) closed limit ends
@@ -184,7 +184,7 @@ walk_ends before part ends blocks closed first filled new h closed_is same empty
     e : closed ≡ new.closed
     e = omega arith
 
--- wherever the walk stood before the part, with so many elements before it, it stands here within the part, with these
+-- wherever the walk stood before the part, with this many elements before it, it stands here within the part, with these
 -- further ends
 abbrev pub StandsAt : List ℕ → ℕ → Walk → ℕ → List ℕ → ℕ → ℕ → ℕ → Type 0
 StandsAt part blocks walk offset more closed first filled =
@@ -223,7 +223,7 @@ at_ends part blocks walk offset more closed first filled new stands closed_is li
     walk_ends before part (ends ++ more) blocks closed first filled new
     (subst (λ n. IsUnderWay before part (ends ++ more) blocks n closed first filled) (sym limit_is) (stands before ends e h)) (closed_is h.few) same empty
 
--- the same with some further ends, however many elements there were before
+-- the walk stands so with some further ends, however many elements there were before
 abbrev pub Stands : List ℕ → ℕ → Walk → ℕ → ℕ → ℕ → Type 0
 Stands part blocks walk closed first filled =
     (offset : ℕ) → (more : List ℕ) × StandsAt part blocks walk offset more closed first filled

@@ -81,7 +81,7 @@ nothing_before all p bl fl d s number division within e few counted starts order
     absurd (omega (arith, ends h, to_fence d.floor s ⊥ (λ s. all ≤ slice_index s p) e flawed))
 nothing_before all p bl fl d s number division within e few counted starts ordered ends _ h flawed = absurd (omega arith)
 
--- a last cut other than the number of elements is the first flaw, where the cuts are right but for that
+-- a last cut other than the number of elements is the first flaw, where the cuts are right otherwise
 pub cut_end_is_first : {A : Type 0} (all p : ℕ) (bl fl : List ℕ) (d : Division A) → length d.cuts ≡ p + 1 → slice_index d.cuts 0 ≡ 0
     → IsNonDecreasing d.cuts → slice_index d.cuts p ≢ all → IsFirst (HasWeightFlaw all p d bl fl) CutEnd
 cut_end_is_first all p bl fl d counted starts ordered wrong =

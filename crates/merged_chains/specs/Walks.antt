@@ -21,7 +21,7 @@ pub record IsWalked (loads : List ℕ) (blocks : ℕ) (ends : List ℕ) (walk : 
 abbrev pub all_ends : List ℕ → List ℕ → ℕ → Walk → List ℕ
 all_ends loads ends blocks walk = ends ++ replicate (blocks - walk.closed) (length loads)
 
--- Wherever the walk stood before the part, with so many elements before it and whatever ends, the new one stands behind
+-- Wherever the walk stood before the part, with this many elements before it and whatever ends, the new one stands behind
 -- the part, with these further ends.
 abbrev pub EndsAt : List ℕ → ℕ → Walk → ℕ → List ℕ → Walk → Type 0
 EndsAt part blocks walk offset more new =

@@ -18,7 +18,7 @@ pub record AreWeights {A : Type 0} (loads : List ℕ) (blocks : ℕ) (d : Divisi
   pub blocks_weigh : (b : ℕ) → b < blocks → slice_index block_loads b ≡ block_load loads d.cuts b
   pub ranges_weigh : MatchFloor d.floor (Unit {0}) (λ stops. (i : ℕ) → 0 < i → i ≤ blocks → slice_index fence_loads (i - 1) ≡ range_load loads stops i)
 
--- The numbers are the loads that a part of the chain has of the ranges from each place to so many elements behind the
+-- The numbers are the loads that a part of the chain has of the ranges from each place to this many elements behind the
 -- next; the part's first element is number first of the chain. Ranges that lie before or behind the part have 0 there.
 abbrev pub AreRangeLoads : List ℕ → ℕ → ℕ → ℕ → List ℕ → List ℕ → Type 0
 AreRangeLoads part first blocks behind places numbers =
@@ -34,7 +34,7 @@ abbrev pub AreSums : ℕ → List ℕ → List ℕ → List ℕ → Type 0
 AreSums n one other sums =
     (b : ℕ) → b < n → slice_index sums b ≡ slice_index one b + slice_index other b
 
--- a fact of all loads of so many elements of whose ranges these numbers are the loads
+-- a fact of all loads of this many elements of whose ranges these numbers are the loads
 abbrev pub WhereWeights : {A : Type 0} → ℕ → ℕ → Division A → List ℕ → List ℕ → (List ℕ → Type 0) → Type 0
 WhereWeights elements blocks d block_loads fence_loads fact =
     (loads : List ℕ) → length loads ≡ elements → AreWeights loads blocks d block_loads fence_loads → fact loads
@@ -75,7 +75,7 @@ abbrev pub HoldsBy : {A : Type 0} → ℕ → ℕ → ℕ → List ℕ → Floor
 HoldsBy elements blocks bottleneck fence_loads floor =
     MatchFloor floor (bottleneck ≡ 0) (IsWeighedFence elements blocks bottleneck fence_loads)
 
--- the cuts divide so many elements, no number of a block is above the bottleneck, and the floor holds by these numbers
+-- the cuts divide this many elements, no number of a block is above the bottleneck, and the floor holds by these numbers
 pub record IsWeighed {A : Type 0} (elements blocks : ℕ) (d : Division A) (block_loads fence_loads : List ℕ) : Type 0 where
   pub divides : IsDivision 0 elements blocks d.cuts
   pub within : NoneHeavy block_loads blocks d.bottleneck

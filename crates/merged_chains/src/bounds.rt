@@ -1,3 +1,5 @@
+//! Bounds of the least bottleneck of a chain, from its total and its greatest load alone.
+
 ghost use Rattle.std.specs.Prelude.{◌≡◌, ℕ, ◌+◌, ◌-◌, ◌/◌, ◌%◌, ◌≤◌, ◌^◌, List, max, min, sum};
 ghost use Rattle.lb_certificates.specs.Chain.{IsLeastPeak};
 ghost use Rattle.chain_partition.specs.Search.{Enclose};

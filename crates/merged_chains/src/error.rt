@@ -1,3 +1,5 @@
+//! Why a call on plain lists is refused.
+
 ghost use Rattle.std.specs.Prelude.{◌≡◌};
 ghost use Rattle.merged_chains.specs.Lists.{part_error, table_error};
 ghost use Rattle.merged_chains.specs.declared.error.PartError.TheVariants.{OutOfMemory};

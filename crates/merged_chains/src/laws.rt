@@ -1,3 +1,5 @@
+//! The law of merged chains: which divisions of a merged chain stand for a least division of the chain.
+
 ghost use Rattle.std.specs.Prelude.{ℕ, ◌<◌, ◌≤◌, ◌↔◌, List};
 ghost use Rattle.lb_certificates.specs.declared.division.Division.{Division};
 ghost use Rattle.chain_partition.specs.Chosen.{IsChosen};

@@ -1,3 +1,5 @@
+//! The limits of a chain whose parts lie on different ranks.
+
 /// The limits of a chain whose parts lie on different ranks.
 #[derive(Clone, Copy, Debug, PartialEq, Eq)]
 pub struct PartLimits;

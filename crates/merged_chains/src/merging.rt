@@ -1,3 +1,5 @@
+//! Merges the elements of a part that lie outside the windows into runs.
+
 ghost use Rattle.std.specs.Prelude.{◌≡◌, ℕ, ◌+◌, ◌<◌, ◌≤◌, ◌^◌, IfOk, length, slice_index};
 ghost use Rattle.merged_chains.specs.Merged.{RunOn};
 ghost use Rattle.merged_chains.specs.Windows.{AreEnds, AreOrdered, IsFirstBehind, IsNextEnd, KeepsStarts};

@@ -19,7 +19,7 @@ use std::alloc::{AllocError, Allocator};
 ///
 /// # Errors
 ///
-/// [`PartError::BadInput`] for no blocks or more than 4,096, where a list has not the length that it needs, or where all bytes add
+/// [`PartError::BadInput`] for no blocks or more than 4,096, where a list does not have the length that it needs, or where all bytes add
 /// up to more than 2^47; then [`PartError::OutOfMemory`]. After an error nothing was written.
 pub fn name_table<A: Allocator + Copy>(
     alloc: A,

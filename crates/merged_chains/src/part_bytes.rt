@@ -1,3 +1,5 @@
+//! The bytes that a part of a chain has of each block.
+
 ghost use Rattle.std.specs.Prelude.{◌≡◌, ◌-◌, ◌<◌, ◌^◌, length, sum};
 ghost use Rattle.lb_snapshot.specs.Measured.{load};
 ghost use Rattle.merged_chains.specs.Weights.{AreRangeLoads};

@@ -169,7 +169,7 @@ fn write_runs<A: Allocator>(runs: &Runs<A>, loads: &mut [u64], ends: &mut [u32])
 /// # Errors
 ///
 /// [`PartError::BadInput`] for no blocks or more than [`PartLimits::PES`], where an element of the part has the number
-/// 2^32 - 1 or more, or a list for the loads has not `pes` entries; then [`PartError::BadLoad`]; then
+/// 2^32 - 1 or more, or a list for the loads does not have `pes` entries; then [`PartError::BadLoad`]; then
 /// [`PartError::OutOfMemory`].
 pub fn weigh_part<A: Allocator>(
     alloc: A,

@@ -1,3 +1,5 @@
+//! Reads an entry of a list that may be too short.
+
 ghost use Rattle.std.specs.Prelude.{◌≡◌, slice_index};
 
 /// The place with this number, or 0 where the list does not have it.

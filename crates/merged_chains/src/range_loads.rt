@@ -1,3 +1,5 @@
+//! The loads that a part of a chain has of each block and of each range of a fence.
+
 ghost use Rattle.std.specs.Prelude.{◌≡◌, ◌+◌, ◌-◌, ◌≤◌, [], IfOk, length, vec_len};
 ghost use Rattle.lb_snapshot.specs.Measured.{load};
 ghost use Rattle.lb_certificates.specs.Certificate.{MatchFloor};
@@ -52,7 +54,7 @@ fn stops_of<A: Allocator>(floor: &Floor<A>) -> &[u32]
     stops.as_slice()
 }
 
-// The loads from each place to so many elements behind the next, within a part. A place that the list does not have is 0.
+// The loads from each place to this many elements behind the next, within a part. A place that the list does not have is 0.
 fn loads_between<A: Allocator, B: Allocator>(
     alloc: A,
     part: &Chain<'_, B>,

@@ -1,3 +1,5 @@
+//! Turns a division of the merged chain into one of the chain.
+
 ghost use Rattle.std.specs.Prelude.{◌≡◌, IfOk};
 ghost use Rattle.merged_chains.specs.Merged.{unmerged, unmerged_division, unmerged_floor};
 

@@ -1,3 +1,5 @@
+//! Checks a division by the loads of its blocks and ranges, without the elements.
+
 ghost use Rattle.std.specs.Prelude.{◌≡◌, ℕ, ◌+◌, ◌-◌, ◌<◌, ◌↔◌, List, length, IsOk, OnOk, IfErr, MatchBool, MatchOption};
 ghost use Rattle.std.specs.List.Sorted.{IsNonDecreasing};
 ghost use Rattle.lb_certificates.specs.Chain.{IsDivision, IsLeastDivision};
@@ -8,7 +10,7 @@ ghost use Rattle.merged_chains.specs.Weights.{HasWeightFlaw, HoldsBy, IsFirstHea
 use lb_certificates::{Division, Flaw, Floor};
 use std::alloc::Allocator;
 
-/// Checks a division of so many elements into `pes` blocks by the loads of its ranges alone: those of its blocks, and
+/// Checks a division of this many elements into `pes` blocks by the loads of its ranges alone: those of its blocks, and
 /// those of the elements from each stop of its fence to the next, both included, in work units. Where the numbers are
 /// those loads, whoever added them up, the answer is that of [`check_chain`](lb_certificates::check_chain) on all loads.
 /// So each rank adds up what it has of each range, and no rank sees all elements.

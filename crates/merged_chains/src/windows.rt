@@ -1,3 +1,5 @@
+//! The windows of a chain: the stretches whose elements stay single when all others are merged into runs.
+
 ghost use Rattle.std.specs.Prelude.{◌≡◌, ◌↔◌, IfSome, IsSome, MatchBool, length};
 ghost use Rattle.merged_chains.specs.Windows.{AreOrdered, NoneEmpty, SomeEmpty};
 

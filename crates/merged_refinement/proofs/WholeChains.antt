@@ -79,7 +79,7 @@ unmerged_bounds loads runs starts standing near far blocks limit h divides bound
           );
     }
 
--- so many runs further on, a run starts so many elements further on at least
+-- as many runs further on, a run starts at least as many elements further on
 starts_onward : (loads runs starts : List ℕ) (a n : ℕ) → AreRuns loads runs starts → a + n ≤ length runs → slice_index starts a + n ≤ slice_index starts (a + n)
 starts_onward loads runs starts a zero h inside =
     let same : a ≡ a + 0 = omega arith in

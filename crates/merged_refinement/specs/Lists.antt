@@ -72,7 +72,7 @@ pub record CanBeKept (loads starts present near far first last : List ℕ) (limi
   pub single : AreSingle starts (length present - 1) near far first last
   pub some_within : (cuts : List ℕ) × AreWithin loads (in_order (length present - 1)) limit cuts
 
--- the same of the lists that a call is given
+-- the lists that a call is given fit together
 abbrev pub AreFit : MergedChain → Present → List ℕ → Type 0
 AreFit runs present cuts =
     FitTogether runs.loads.now runs.bytes.now runs.starts.now present.cuts.now present.near.now present.far.now present.first.now present.last.now cuts

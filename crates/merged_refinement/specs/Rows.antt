@@ -30,7 +30,7 @@ abbrev pub sum_by_row : ℕ × List ℕ → List ℕ → Sums → ℕ → ℕ
 sum_by_row below bytes sums x =
     row_at below (slice_index sums.starts.now x) + cost_by bytes sums x
 
--- a cut and a row of a chain of so many elements: in order, and with a least start for each place
+-- a cut and a row of a chain of this many elements: in order, and with a least start for each place
 pub record AreSums (bytes : List ℕ) (sums : Sums) : Type 0 where
   pub ordered : sums.cut.before ≤ sums.cut.here
   pub onward : sums.cut.here ≤ sums.cut.behind

@@ -1,3 +1,5 @@
+//! The law of merged chains whose ranks keep their order: when the cuts found on one are right for the chain.
+
 ghost use Rattle.std.specs.Prelude.{ℕ, List};
 ghost use Rattle.merged_chains.specs.Merged.{unmerged};
 ghost use Rattle.merged_refinement.specs.InOrder.{AreFewestInOrder, AreNearestInOrder};

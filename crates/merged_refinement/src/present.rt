@@ -1,3 +1,5 @@
+//! The present cuts between the ranks, with bounds on how far each needs to be moved.
+
 ghost use Rattle.std.specs.Prelude.{◌≡◌, ℕ, ◌+◌, ◌-◌, ◌<◌, ◌≤◌, MatchBool, length, slice_index};
 ghost use Rattle.std.specs.List.Sorted.{IsNonDecreasing};
 ghost use Rattle.lb_snapshot.specs.Measured.{load};

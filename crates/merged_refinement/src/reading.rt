@@ -7,7 +7,7 @@ ghost use Rattle.merged_refinement.specs.Rows.{row_at, rows_at};
 use crate::row::HeightRow;
 use std::alloc::{AllocError, Allocator};
 
-/// The cuts of so many elements, read off the rows of the blocks from the last one on.
+/// The cuts of this many elements, read off the rows of the blocks from the last one on.
 ///
 /// # Errors
 ///

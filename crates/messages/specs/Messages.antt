@@ -27,7 +27,7 @@ MessageStep S M = S → ℕ → ℕ → Entry M → MessageOutcome S M
 abbrev pub letters : {M : Type 0} → (M → List ℕ) → List (ℕ × M) → List (ℕ × List ℕ)
 letters pack sends = map (λ x. (x.0, pack x.1)) sends
 
--- the same message to each of n elements, in the order of their indices
+-- one message to each of n elements, in the order of their indices
 abbrev pub to_all : {M : Type 0} → ℕ → M → List (ℕ × M)
 to_all n message = map (λ i. (i, message)) (range_with_len 0 n)
 
@@ -68,7 +68,7 @@ module _ {S M : Type 0} (unpack : List ℕ → Result (M × ℕ) PupError) (refu
   RefusesMessage s me n count error (Some message) = refuses s me n count (Letter message) error
   RefusesMessage s me n count error None = ⊥
 
-  -- a body that is no message is never refused but for want of memory
+  -- a body that is no message is refused only for want of memory
   abbrev pub TypedRefuses : S → ℕ → ℕ → ℕ → Entry (List ℕ) → SendError → Type 0
   TypedRefuses s me n count (Letter body) error = RefusesMessage s me n count error (message_in unpack body)
   TypedRefuses s me n count (Resumption round) error = refuses s me n count (Resumption round) error

@@ -1,3 +1,5 @@
+//! The laws of messages: a letter that was posted with a message is handled as that message.
+
 ghost use Rattle.std.specs.Prelude.{◌≡◌, ℕ, ◌≤◌, Some, length};
 ghost use Rattle.chare_index.specs.declared.limits.TheConstants.Limits.{STATE_BYTES};
 ghost use Rattle.chares.specs.declared.entry.Entry.{Entry};

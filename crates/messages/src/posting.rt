@@ -104,7 +104,7 @@ fn put_to_all<P: Drop, A: Allocator + Copy>(
     Ok(())
 }
 
-// The pack of a message, which is short, in memory for so many bytes. A list that is too long is refused as too long.
+// The pack of a message, which is short, in memory for this many bytes. A list that is too long is refused as too long.
 fn pack_of<M: Pup<A>, A: Allocator>(
     alloc: A,
     len: u32,

@@ -1,3 +1,5 @@
+//! The trait of a chare whose letters are messages of one type.
+
 ghost use Rattle.std.specs.Prelude.{◌≡◌, ◌≢◌, ℕ, ◌<◌, ◌≤◌, List, length, OnOk, OnErr, IfErr, IfOk};
 ghost use Rattle.chare_index.specs.declared.limits.TheConstants.Limits.{STATE_BYTES};
 ghost use Rattle.chares.specs.Posting.{posted};

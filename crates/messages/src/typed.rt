@@ -1,3 +1,5 @@
+//! Turns a chare with messages into a chare of a run.
+
 ghost use Rattle.std.specs.Prelude.{◌≡◌, IfOk, false};
 ghost use Rattle.messages.specs.Messages.{message_in};
 

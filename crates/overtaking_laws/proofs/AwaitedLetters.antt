@@ -5,8 +5,8 @@ use Rattle.std.specs.Ordering.{nat_cmp, is_eq}
 use Rattle.std.proofs.lemmas.Bool.Decides.{nat_tests}
 use Rattle.std.proofs.lemmas.List.Elements.{All-nil}
 use Rattle.std.proofs.lemmas.Option.{none-some, same_Some}
-use Rattle.at_sync.specs.declared.strategy.Strategy.{Strategy}
-use Rattle.at_sync.specs.Boards.{BoardState}
+use Rattle.sync_board.specs.declared.strategy.Strategy.{Strategy}
+use Rattle.sync_board.specs.Boards.{BoardState}
 use Rattle.chares.specs.declared.carried.Carried.TheVariants.{Letter, Element}
 use Rattle.chares.specs.declared.trace_entry.TraceEntry.{TraceEntry}
 use Rattle.chares.specs.Elements.{ElementView, PackedView, opening_element}

@@ -1,7 +1,7 @@
 -- The chase law of every free run.
 use Rattle.std.proofs.Common.{ℕ, ◌≤◌, List, [], length, arith, refl, ◌∙◌, subst, append-nil}
 use Rattle.std.specs.Prelude.{Result}
-use Rattle.at_sync.specs.declared.strategy.Strategy.{Strategy}
+use Rattle.sync_board.specs.declared.strategy.Strategy.{Strategy}
 use Rattle.chares.specs.declared.trace_entry.TraceEntry.{TraceEntry}
 use Rattle.chares.specs.Steps.{Step}
 use Rattle.pup_pack.specs.declared.error.PupError.{PupError}

@@ -5,7 +5,7 @@ use Rattle.std.specs.Prelude.{Result, Ok, Err, ⊤, IfSome, slice_get, slice_set
 use Rattle.std.specs.Option.{option_map, option_and_then}
 use Rattle.std.proofs.lemmas.Bool.Decides.{nat_tests}
 use Rattle.std.proofs.lemmas.Option.{option_and_then_some, same_Some}
-use Rattle.at_sync.specs.Boards.{BoardState, place_in}
+use Rattle.sync_board.specs.Boards.{BoardState, place_in}
 use Rattle.chares.specs.declared.carried.Carried.TheVariants.{Letter, Element}
 use Rattle.chares.specs.declared.trace_entry.TraceEntry.{TraceEntry}
 use Rattle.chares.specs.declared.trace_entry.TraceEntry.TheVariants.{Departed}

@@ -3,7 +3,7 @@ use Rattle.std.proofs.Common.{◌≡◌, ◌≢◌, ℕ, zero, suc, ◌+◌, ◌
 use Rattle.std.specs.Prelude.{Result, nat_eq, nat_le, if◌then◌else◌, unwrap_or, slice_get}
 use Rattle.std.proofs.lemmas.Bool.Decides.{nat_tests}
 use Rattle.std.proofs.lemmas.Option.{slice_get_within}
-use Rattle.at_sync.specs.Boards.{BoardState, Kept, kept_of, place_in}
+use Rattle.sync_board.specs.Boards.{BoardState, Kept, kept_of, place_in}
 use Rattle.chares.specs.Steps.{Step}
 use Rattle.pup_pack.specs.declared.error.PupError.{PupError}
 use Rattle.rts_core.specs.declared.event.Event.{Event}

@@ -1,8 +1,8 @@
 -- The barrier of every stale run.
 use Rattle.std.proofs.Common.{◌≡◌, ℕ, ◌<◌, ◌≤◌, List, length, Some, ◌∙◌}
 use Rattle.std.specs.Prelude.{Result, Contains}
-use Rattle.at_sync.specs.Boards.{Kept as KeptRound, kept_of}
-use Rattle.at_sync.specs.declared.strategy.Strategy.{Strategy}
+use Rattle.sync_board.specs.Boards.{Kept as KeptRound, kept_of}
+use Rattle.sync_board.specs.declared.strategy.Strategy.{Strategy}
 use Rattle.chares.specs.declared.trace_entry.TraceEntry.{TraceEntry}
 use Rattle.chares.specs.declared.trace_entry.TraceEntry.TheVariants.{Resumed, Decided}
 use Rattle.chares.specs.Steps.{Step}

@@ -1,7 +1,7 @@
 -- An element is nowhere twice in any stale run: each is there once, under its own index, whatever the location words are.
 use Rattle.std.proofs.Common.{◌≡◌, ℕ, ◌≤◌, List, arith, sum_by}
 use Rattle.std.specs.Prelude.{Result}
-use Rattle.at_sync.specs.declared.strategy.Strategy.{Strategy}
+use Rattle.sync_board.specs.declared.strategy.Strategy.{Strategy}
 use Rattle.chares.specs.Steps.{Step}
 use Rattle.pup_pack.specs.declared.error.PupError.{PupError}
 use Rattle.rts_core.specs.Events.{After}

@@ -4,8 +4,8 @@ use Rattle.std.proofs.Common.{◌≡◌, ℕ, ◌≤◌, List, [], ◌∷◌, �
 use Rattle.std.specs.Prelude.{Result, All, nat_eq, if◌then◌else◌, slice_get}
 use Rattle.std.proofs.lemmas.Bool.Decides.{nat_tests}
 use Rattle.std.proofs.lemmas.List.Elements.{All-nil, All-head, All-tail, All-push, All-weaker}
-use Rattle.at_sync.specs.declared.strategy.Strategy.{Strategy}
-use Rattle.at_sync.specs.Boards.{BoardState, new_board}
+use Rattle.sync_board.specs.declared.strategy.Strategy.{Strategy}
+use Rattle.sync_board.specs.Boards.{BoardState, new_board}
 use Rattle.chares.specs.declared.trace_entry.TraceEntry.{TraceEntry}
 use Rattle.chares.specs.Elements.{opening_element}
 use Rattle.chares.specs.Steps.{Step}

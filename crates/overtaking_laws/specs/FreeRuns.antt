@@ -1,7 +1,7 @@
 -- Free runs: those over a network that keeps no order. They are lists of events, one after another, between which any parcel
 -- in a queue may overtake those before it. Runs where a PE takes any parcel out of its queue are among them.
 use Rattle.std.specs.Prelude.{◌≡◌, ℕ, ◌≤◌, List, [], ◌∷◌, ◌++◌, Result, ◌⊎◌}
-use Rattle.at_sync.specs.declared.strategy.Strategy.{Strategy}
+use Rattle.sync_board.specs.declared.strategy.Strategy.{Strategy}
 use Rattle.chares.specs.declared.trace_entry.TraceEntry.{TraceEntry}
 use Rattle.chares.specs.Steps.{Step}
 use Rattle.pup_pack.specs.declared.error.PupError.{PupError}

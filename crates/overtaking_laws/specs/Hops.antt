@@ -23,7 +23,7 @@ module _ {C A : Type 0} (n pes : ℕ) (s : StampedView C A) where
     pub not_yet : HoldsOfEach (λ i progress. i ≡ e → progress.round < round) (world_with s [])
     pub absent : ¬ (StandsOn (world_with s []) e p)
 
--- Of n elements on so many PEs: no letter in any place, nor any that was executed, was forwarded more often than rounds have moved its
+-- Of n elements on this many PEs: no letter in any place, nor any that was executed, was forwarded more often than rounds have moved its
 -- element. All rounds that are decided by then count, also those before the letter was posted. So none was forwarded more often than
 -- rounds are decided, which are fewer than a letter can count. Where a letter waits on the shelf of a PE, its element has still to come
 -- there.

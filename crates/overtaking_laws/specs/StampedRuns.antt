@@ -7,8 +7,8 @@
 use Rattle.std.specs.Prelude.{◌≡◌, ⊤, ℕ, zero, suc, ◌+◌, ◌≤◌, List, [], ◌∷◌, ◌++◌, length, map, replicate, None, Some, Option, Bool, false, is_some, Result, ◌==◌, if◌then◌else◌, unwrap_or, slice_get, slice_set}
 use Rattle.std.specs.List.{range_with_len}
 use Rattle.std.specs.Option.{option_map_or}
-use Rattle.at_sync.specs.declared.strategy.Strategy.{Strategy}
-use Rattle.at_sync.specs.Boards.{BoardState, new_board, place_in}
+use Rattle.sync_board.specs.declared.strategy.Strategy.{Strategy}
+use Rattle.sync_board.specs.Boards.{BoardState, new_board, place_in}
 use Rattle.chares.specs.declared.trace_entry.TraceEntry.{TraceEntry}
 use Rattle.chares.specs.Steps.{Step}
 use Rattle.pe_state.specs.Pes.{PeView, Parcel, front_address, front_parcel, gave_up, received, waits_at}
@@ -21,7 +21,7 @@ use Rattle.rts_core.specs.Worlds.{WorldView, home, opening_pes}
 
 -- ---- where the elements are to be after each round
 
--- the place of element e of n after a round, on so many PEs: before all rounds its home, and then its place in the decision of the
+-- the place of element e of n after a round, on this many PEs: before all rounds its home, and then its place in the decision of the
 -- round; a round that is not decided leaves it where it is
 abbrev pub place_after : {A : Type 0} → ℕ → ℕ → BoardState A → ℕ → ℕ → ℕ
 place_after n pes b e zero = home e n pes
@@ -64,7 +64,7 @@ world_with s words = record { pes = s.pes; queues = map (map (λ x. x.1)) s.queu
 abbrev pub stands_on : {C : Type 0} → Option (PeView C) → ℕ → Bool
 stands_on o e = option_map_or (λ pe. is_some (found e pe.room)) o false
 
--- where PE p of so many looks for each of n elements: on itself, as long as the element stands in its room, and otherwise at the place
+-- where PE p of this many looks for each of n elements: on itself, as long as the element stands in its room, and otherwise at the place
 -- after the round that the PE knows
 abbrev pub seen_words : {C A : Type 0} → ℕ → ℕ → StampedView C A → ℕ → List ℕ
 seen_words n pes s p = map (λ e. if stands_on (slice_get s.pes p) e then p else place_after n pes s.board e (s.known p)) (range_with_len 0 n)

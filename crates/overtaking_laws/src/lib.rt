@@ -1,8 +1,8 @@
 //! Laws of every free run: of lists of events over a network that keeps no order, where any parcel in a queue may overtake those
-//! before it. They are the laws of lists of events again, of which `rts_core` and `event_laws` have the words. Those that speak of no
-//! location words are also laws of every stale run: of free runs where each rank has a copy of the words, which may be old. In a
-//! stamped run such a copy is that of a decided round which the rank knows, but for the elements in its own room, and what is sent
-//! carries that round; then letters follow their elements again. Each law is a clause of a function that does nothing.
+//! before it. They are the laws of lists of events, for which `rts_core` and `event_laws` have the definitions. Laws that do not
+//! mention locations also hold in every stale run: a free run in which each rank has its own location cache, which may be stale. In a
+//! stamped run the cache of a rank holds the places of a decided round that the rank knows, except for the elements in its own room,
+//! and what is sent carries that round; then letters follow their elements again. Each law is a clause of a function that does nothing.
 //!
 //! - [`delivery_laws`]: a list of events is a free run, and so is one where a PE may take any parcel out of its queue.
 //! - [`copy_laws`]: a list of events where each rank has a copy of the location words is a stale run, and so is a free run.

@@ -1,7 +1,7 @@
 //! How often letters are forwarded where a rank looks into its own room, and then by the location words of a round which it knows.
 
 ghost use Rattle.std.specs.Prelude.{ℕ, List, length};
-ghost use Rattle.at_sync.specs.declared.strategy.Strategy.{Strategy};
+ghost use Rattle.sync_board.specs.declared.strategy.Strategy.{Strategy};
 ghost use Rattle.rts_core.specs.Worlds.{opening_world};
 ghost use Rattle.overtaking_laws.specs.Hops.{IsStampedChase};
 ghost use Rattle.overtaking_laws.specs.StaleRuns.{StaleStep, ReachesStale};

@@ -14,7 +14,7 @@ use Rattle.pup_pack.specs.Pairs.{unpack_pair}
 use Rattle.pup_pack.specs.Structs.{decoded}
 use Rattle.pup_pack.specs.Trips.{decoded_trips, pair_trips, u32_trips, u64_trips, u8_trips}
 
--- its kind, the index, the round, the load, the bytes and the PE; what a kind has not is 0
+-- its kind, the index, the round, the load, the bytes and the PE; unused fields are 0
 abbrev pub Parts : Type 0
 Parts = ℕ × (ℕ × (ℕ × (ℕ × (ℕ × ℕ))))
 

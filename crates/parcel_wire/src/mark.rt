@@ -27,8 +27,8 @@ impl Model for WireMark {
     ghost invariant = { λ m. are_within (mark_parts m.mark) ≡ true };
 }
 
-/// The fields of a mark, as they are packed: its kind, the index, the round, the load, the bytes and the PE. What a kind has not
-/// is 0.
+/// The fields of a mark, as they are packed: its kind, the index, the round, the load, the bytes and the PE. Unused
+/// fields are 0.
 pub(crate) type Parts = (u8, (u32, (u32, (u64, (u32, u32)))));
 
 // The fields of this mark.

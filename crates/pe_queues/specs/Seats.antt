@@ -71,7 +71,7 @@ append_each (x ∷ xs) (y ∷ ys) = (x ++ y) ∷ append_each xs ys
 abbrev pub joined : {T : Type 0} → SeatView T → SeatView T → SeatView T
 joined a b = record { post = a.post; seats = a.seats + b.seats; puts = append_each a.puts b.puts; takes = append_each a.takes b.takes }
 
--- the rule allows, by what went through this seat, that the queue of a PE held so many values at some moment of the
+-- the rule allows, by what went through this seat, that the queue of a PE held this many values at some moment of the
 -- call; of a seat that is not all seats it always does
 abbrev pub HeldAt : {T : Type 0} → SeatView T → ℕ → ℕ → Type 0
 HeldAt {T} seat pe count = (rooms : ℕ) × Held count (λ (items : List T). Seen (traffic seat.seats rooms (puts_at seat pe) (takes_at seat pe)) items)

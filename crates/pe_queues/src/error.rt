@@ -1,3 +1,5 @@
+//! Why queues are not made, or not settled.
+
 ghost use Rattle.std.specs.Prelude.{◌≡◌};
 ghost use Rattle.pe_queues.specs.declared.error.PostError.TheVariants.{OutOfMemory};
 

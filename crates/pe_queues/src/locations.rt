@@ -1,3 +1,5 @@
+//! The location cache: for each element a word that says on which PE it is believed to be.
+
 ghost use Rattle.std.specs.Prelude.{◌≡◌, ◌==◌, ◌<◌, ℕ, All, length, IfOk};
 ghost use Rattle.chare_index.specs.declared.limits.TheConstants.Limits.{PES};
 

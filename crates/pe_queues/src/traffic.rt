@@ -1,3 +1,5 @@
+//! What went through some seats at a queue, for proofs alone.
+
 use std::collections::LinkedList;
 
 /// What has gone through some seats at one queue. It stands in proofs alone: no value of it is made.

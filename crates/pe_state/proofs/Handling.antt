@@ -20,7 +20,7 @@ module _ {C : Type 0} (step : Step C) (pack : C → List ℕ) (pe v : PeView C) 
       → note ≡ note_in step pack v.room e v.n v.me done
       → notes ≡ notes0 ++ option_to_list note
       → count ≡ v.count + length (sends_in step pack v.room e v.n done)
-      → record { me = v.me; n = v.n; room = room; hand = v.hand; shelf = v.shelf; outbox = outbox; notes = notes; count = count; kept = None } ≡ handled step pack pe e done hand
+      → record { me = v.me; n = v.n; room = room; hand = v.hand; shelf = v.shelf; outbox = outbox; notes = notes; count = count; longest = v.longest; kept = None } ≡ handled step pack pe e done hand
   handled_is hand room outbox0 outbox notes0 notes note count view same ran o posted m told owed more =
       let sends = sends_in step pack v.room e v.n done in
       ap (λ h. record v { room = room; hand = h; outbox = outbox; notes = notes; count = count; kept = None }) same

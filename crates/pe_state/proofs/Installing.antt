@@ -15,7 +15,7 @@ pub installed_is : {C : Type 0} (pe v : PeView C) (p : PackedView) (chare : C) (
     → rest ≡ rest0 ++ filter (λ l. not (is_for i l)) v.shelf
     → outbox0 ≡ v.outbox
     → outbox ≡ outbox0 ++ map (letter_at v.me) (filter (is_for i) v.shelf)
-    → record { me = v.me; n = v.n; room = room; hand = v.hand; shelf = rest; outbox = outbox; notes = v.notes; count = v.count; kept = None } ≡ installed pe p chare
+    → record { me = v.me; n = v.n; room = room; hand = v.hand; shelf = rest; outbox = outbox; notes = v.notes; count = v.count; longest = v.longest; kept = None } ≡ installed pe p chare
 installed_is pe v p chare i room rest0 rest outbox0 outbox view same index join fresh kept o moved =
     ap (λ h. record v { room = room; hand = h; shelf = rest; outbox = outbox; kept = None }) same
     ∙ ap (λ r. record v { room = r; hand = None; shelf = rest; outbox = outbox; kept = None }) join

@@ -1,4 +1,4 @@
--- A PE that a run left, as it opens again in a run on so many PEs, with what its queue still held.
+-- A PE that a run left, as it opens again in a run on this many PEs, with what its queue still held.
 use Rattle.std.specs.Prelude.{ℕ, nat_lt, if◌then◌else◌, List, ◌++◌, map, Option, None, Some}
 use Rattle.std.specs.Option.{option_map}
 use Rattle.pe_state.specs.Pes.{PeView, Parcel, Item}

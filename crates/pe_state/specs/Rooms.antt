@@ -47,7 +47,7 @@ module _ {C : Type 0} (step : Step C) (pack : C → List ℕ) where
   abbrev pub sends_in : List (ℕ × ElementView C) → ℕ → ℕ → Done → List (ℕ × List ℕ)
   sends_in room e n done = option_map_or (λ el. sent_by step pack el n done) (found e room) []
 
-  -- what the trace gets where it executes a letter, and where it is resumed after a round, on a PE that has posted so many
+  -- what the trace gets where it executes a letter, and where it is resumed after a round, on a PE that has posted this many
   -- letters
   abbrev pub execution_entries : List (ℕ × ElementView C) → ℕ → ℕ → ℕ → LetterView → List TraceEntry
   execution_entries room n me count l = Executed l.id l.to ∷ posts_of me count (sends_in room l.to n (Letter l))

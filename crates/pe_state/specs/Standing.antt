@@ -18,7 +18,7 @@ AreBelow pes (x ∷ xs) = IsBelow pes x.address × AreBelow pes xs
 abbrev pub IsHandBelow : ℕ → Option Item → Type 0
 IsHandBelow pes hand = IfSome hand (λ x. IsBelow pes x.address)
 
--- a PE is one of so many, on which an array was opened with these chares
+-- a PE is one of this many, on which an array was opened with these chares
 module _ {C : Type 0} (step : Step C) (fits : C → Type 0) (pack : C → List ℕ) (opened : List C) (pes : ℕ) where
   pub record IsOfRun (pe : PeView C) : Type 0 where
     pub histories : HasHistories step fits pack opened pe

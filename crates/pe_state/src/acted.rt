@@ -1,3 +1,5 @@
+//! What a PE did with the parcel in its hand.
+
 /// What a PE did with the parcel in its hand.
 #[derive(Clone, Copy, Debug, PartialEq, Eq)]
 pub enum Acted {

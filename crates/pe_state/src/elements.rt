@@ -36,7 +36,6 @@ impl<C: Chare<A>, A: Allocator> Model for Elements<C, A> {
 
 impl<C: Chare<A>, A: Allocator> Elements<C, A> {
     /// The elements with the indices below `n` that stand on these PEs.
-    #[tactic(auto, using(crate::proofs::InOrder::none_passed))]
     pub fn new(ends: Vec<PeEnd<C, A>, A>, n: u32) -> Self
         requires few { n ≤ Limits.ELEMENTS }
         ensures value { result ≡ elements_at (range_with_len 0 n) ends.items }

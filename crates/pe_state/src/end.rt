@@ -9,7 +9,7 @@ ghost use Rattle.pe_state.specs.Taking.{taken};
 use crate::parcel::Item;
 use crate::room::Room;
 use chare_index::{Index, Limits, Pe};
-use chares::{Chare, Element, Letter, Note};
+use chares::{BodyLimit, Chare, Element, Letter, Note};
 use std::alloc::{Allocator, Global};
 use std::collections::VecDeque;
 use std::marker::Model;
@@ -35,6 +35,8 @@ pub struct PeEnd<C: Chare<A>, A: Allocator = Global> {
     pub(crate) notes: VecDeque<Note, A>,
     // How many letters it has posted.
     pub(crate) count: u64,
+    // How many bytes the body of a letter that is posted here may have.
+    pub(crate) longest: BodyLimit,
     // The address of the parcel that it has just given up. While it has one, a place of the outbox stays free.
     pub(crate) kept: Option<Pe>,
 }
@@ -56,6 +58,7 @@ impl<C: Chare<A>, A: Allocator> Model for PeEnd<C, A> {
       outbox = p.outbox.items;
       notes = p.notes.items;
       count = p.count;
+      longest = p.longest;
       kept = p.kept;
     } };
 
@@ -76,6 +79,7 @@ impl<C: Chare<A>, A: Allocator + Copy> PeEnd<C, A> {
             outbox: VecDeque::new(alloc),
             notes: VecDeque::new(alloc),
             count: 0,
+            longest: BodyLimit::usual(),
             kept: None,
         }
     }
@@ -149,6 +153,13 @@ impl<C: Chare<A>, A: Allocator> PeEnd<C, A> {
         ensures few { result ≤ Limits.LETTERS }
     {
         self.count
+    }
+
+    /// How many bytes the body of a letter that is posted here may have.
+    pub fn longest(&self) -> BodyLimit
+        ensures value { result ≡ self.now.longest }
+    {
+        self.longest
     }
 
     /// The address of the parcel that it has just given up, which may be handed back.

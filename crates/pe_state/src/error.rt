@@ -1,3 +1,5 @@
+//! Why a step of a PE is refused.
+
 ghost use Rattle.std.specs.Prelude.{◌≡◌};
 ghost use Rattle.pe_state.specs.Refusals.{step_error_of};
 ghost use Rattle.pe_state.specs.declared.error.StepError.TheVariants.{OutOfMemory};

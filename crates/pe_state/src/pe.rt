@@ -1,7 +1,7 @@
 //! A PE.
 
 ghost use Rattle.std.specs.Prelude.{◌≡◌, ◌≢◌, ℕ, ◌+◌, ◌++◌, ◌∷◌, [], ◌<◌, ◌≤◌, List, length, IfOk, IfErr, OnOk, OnErr, IfSome, IsSome, None, Some, slice_get, true, false};
-ghost use Rattle.std.specs.Option.{option_map};
+ghost use Rattle.std.specs.Option.{option_copied, option_map};
 ghost use Rattle.pe_state.specs.Histories.{IsParcelHistory, HasHistories};
 ghost use Rattle.pe_state.specs.Pes.{PeView, new_pe, placed, received, wanted, hand_wants, looked, at_pe, front_at, unaddressed, is_due, front_parcel, front_address, gave_up, handed_back, noted, held, may_resume, may_depart, departed, waits_at, front_wants};
 ghost use Rattle.pe_state.specs.Rooms.{found, IsKeyed};
@@ -13,8 +13,11 @@ use crate::error::StepError;
 use crate::parcel::{HeldParcel, Item, Parcel, into_held, into_parcel};
 use crate::room::Room;
 use chare_index::{Index, Limits, Pe, Round};
-use chares::{Addressed, Armed, BodyLimit, Carried, Chare, History, Note, Openings, Progress};
+use chares::{
+    Addressed, Armed, BodyLimit, Carried, Chare, History, Letter, Note, Openings, Progress,
+};
 use std::alloc::{AllocError, Allocator, Global};
+use std::collections::VecDeque;
 use std::marker::{Model, PhantomData};
 
 mod acting;
@@ -33,8 +36,6 @@ pub struct PeState<C: Chare<A>, H: Openings<C>, A: Allocator = Global> {
     end: PeEnd<C, A>,
     // How many PEs there are.
     pes: u32,
-    // How many bytes the body of a letter that is posted here may have.
-    longest: BodyLimit,
     alloc: A,
     of: PhantomData<H>,
 }
@@ -63,7 +64,6 @@ impl<C: Chare<A>, H: Openings<C>, A: Allocator + Copy> PeState<C, H, A> {
         PeState {
             end: PeEnd::new(alloc, me, n),
             pes,
-            longest: BodyLimit::usual(),
             alloc,
             of: PhantomData,
         }
@@ -165,13 +165,6 @@ impl<C: Chare<A>, H: Openings<C>, A: Allocator + Copy> PeState<C, H, A> {
         end.kept = None;
     }
 
-    /// Lets the bodies of letters that are posted here have this many bytes, in place of [`BodyLimit::usual`].
-    pub fn set_longest(&mut self, longest: BodyLimit)
-        ensures same { self.new ≡ self.old }
-    {
-        self.longest = longest;
-    }
-
     /// Keeps or drops what an element handles from now on, where it stands here. Its journal is what it was.
     pub fn set_history(&mut self, index: Index, history: History)
         ensures same { self.new ≡ self.old }
@@ -243,6 +236,57 @@ impl<C: Chare<A>, H: Openings<C>, A: Allocator> PeState<C, H, A> {
         ensures histories { HasHistories C.step C.fits C.pack H.opened self.now }
     {
         self.end.room()
+    }
+
+    /// The parcel in its hand, with the address that a look gave.
+    pub fn hand(&self) -> Option<&Item<A>>
+        ensures value { option_copied result ≡ self.now.hand }
+    {
+        self.end.hand()
+    }
+
+    /// The letters that came before their element, in the order in which they came.
+    pub fn shelf(&self) -> &VecDeque<Letter<A>, A>
+        ensures value { result.now.items ≡ self.now.shelf }
+    {
+        self.end.shelf()
+    }
+
+    /// The parcels that leave it, the first first, with the PEs that they go to.
+    pub fn outbox(&self) -> &VecDeque<Item<A>, A>
+        ensures value { result.now.items ≡ self.now.outbox }
+    {
+        self.end.outbox()
+    }
+
+    /// What it owes the board, the first first.
+    pub fn notes(&self) -> &VecDeque<Note, A>
+        ensures value { result.now.items ≡ self.now.notes }
+    {
+        self.end.notes()
+    }
+
+    /// How many letters it has posted.
+    pub fn count(&self) -> u64
+        ensures value { result ≡ self.now.count }
+        ensures few { result ≤ Limits.LETTERS }
+    {
+        self.end.count()
+    }
+
+    /// How many bytes the body of a letter that is posted here may have.
+    pub fn longest(&self) -> BodyLimit
+        ensures value { result ≡ self.now.longest }
+    {
+        self.end.longest()
+    }
+
+    /// Lets the bodies of letters that are posted here have this many bytes, in place of [`BodyLimit::usual`].
+    pub fn set_longest(&mut self, longest: BodyLimit)
+        ensures ok { self.new ≡ record self.old { longest = longest } }
+    {
+        let end = &mut self.end;
+        end.longest = longest;
     }
 
     /// What holds of every PE, for the proof of a caller that knows nothing else of this one. It costs a run nothing.

@@ -191,3 +191,23 @@ keeps_new step opened count run pe seat share at is served =
       local = local_beginning step opened pe;
       matches = subst (Matches no_ledger) (sym is) (matches_new run.post seat.seats);
     }
+
+-- a PE that lets letters have bodies of another length
+pub keeps_longest : {C : Type 0} (step : Step C) (opened : List C) (count : ℕ) (run : Beginning C) (pe : PeView C) (seat : SeatView Parcel) (longest : ℕ)
+    → IsSeated step opened count run pe seat → IsSeated step opened count run (record pe { longest = longest }) seat
+keeps_longest step opened count run pe seat longest w =
+    record {
+      own = w.own;
+      share = w.share;
+      served = w.served;
+      start = w.start;
+      started = w.started;
+      ledger = w.ledger;
+      local = record {
+        same_me = w.local.same_me;
+        letters = record { conserved = w.local.letters.conserved; counted = w.local.letters.counted; numbered = w.local.letters.numbered };
+        lives = w.local.lives;
+        sent = w.local.sent;
+      };
+      matches = w.matches;
+    }

@@ -1,6 +1,6 @@
 -- Why a worker meets a fault: what a handler or the board refused.
 use Rattle.std.specs.Prelude.{◌⊎◌, ℕ, List, length}
-use Rattle.at_sync.specs.declared.error.BoardError.TheVariants as Board
+use Rattle.sync_board.specs.declared.error.BoardError.TheVariants as Board
 use Rattle.barrier.specs.Refusals.{IsRefusedDecision}
 use Rattle.chares.specs.Elements.{ElementView, IsHistory, Refuses}
 use Rattle.chares.specs.Steps.{Step}
@@ -12,7 +12,7 @@ use Rattle.pe_worker.specs.declared.fault.Fault.TheVariants.{OutOfMemory, Idle, 
 
 module _ {C : Type 0} (step : Step C) (pack : C → List ℕ) (refuses : Refuses C) (opened : List C) where
   -- The handler of an element of the run may return this error: of one that is what its journal says, on a PE that has
-  -- posted so many letters, for this letter or resumption.
+  -- posted this many letters, for this letter or resumption.
   pub record MayRefuse (error : SendError) : Type 0 where
     pub el : ElementView C
     pub history : IsHistory step pack opened el

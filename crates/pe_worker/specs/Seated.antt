@@ -10,7 +10,7 @@ use Rattle.rts_core.specs.Ledgers.{Ledger, IsLocalAccount}
 abbrev pub sum_each : {X : Type 0} → (X → ℕ) → List (List X) → ℕ
 sum_each weight lists = sum_by (λ xs. sum_by weight xs) lists
 
--- What a PE has received was taken through its seat, and what it has given away was put through it, but for what came
+-- What a PE has received was taken through its seat, and what it has given away was put through it, except for what came
 -- back at once: however parcels are weighed, what came in and what was put weigh what went out and what was taken.
 pub record Matches (ledger : Ledger) (seat : SeatView Parcel) : Type 0 where
   pub all_puts : length seat.puts ≡ pes seat.post
@@ -23,7 +23,7 @@ pub record Beginning (C : Type 0) : Type 0 where
   pub starts : List (PeView C)
   pub shares : List ℕ
 
--- A PE of a run of so many PEs, with its seat. It began as its opening says, and its whole local account is one of what
+-- A PE of a run of this many PEs, with its seat. It began as its opening says, and its whole local account is one of what
 -- went through the seat.
 pub record IsSeated {C : Type 0} (step : Step C) (opened : List C) (count : ℕ) (run : Beginning C) (pe : PeView C) (seat : SeatView Parcel) : Type 0 where
   pub own : seat.post ≡ run.post

@@ -3,7 +3,7 @@ use Rattle.std.specs.Prelude.{◌≡◌, ℕ, ◌==◌, List, Option, None, Some
 use Rattle.std.specs.Option.{option_and_then}
 use Rattle.chares.specs.declared.note.Note.{Note}
 use Rattle.chares.specs.Steps.{Step}
-use Rattle.at_sync.specs.Boards.{BoardState}
+use Rattle.sync_board.specs.Boards.{BoardState}
 use Rattle.barrier.specs.Places.{PlacesView, place_among}
 use Rattle.pup_pack.specs.declared.error.PupError.{PupError}
 use Rattle.pe_state.specs.declared.acted.Acted.TheVariants.{Executed}
@@ -28,7 +28,7 @@ module _ {C : Type 0} where
     pub given : new.pe ≡ gave_up old.pe
     pub put : new.seat ≡ after_put old.seat to parcel
 
-  -- Flush, where nothing has an address, or the queue is full: all is where it was, but for the address that the PE keeps of
+  -- Flush, where nothing has an address, or the queue is full: all is where it was, except for the address that the PE keeps of
   -- the parcel it gave up last
   pub record Stays (old new : SeatedView C) : Type 0 where
     pub same_seat : new.seat ≡ old.seat

@@ -1,18 +1,18 @@
-//! What a worker has to see to: the elements that have to go on, and those that wait.
+//! The ready list of a worker: the elements that it has to resume, and those that wait.
 
 ghost use Rattle.std.specs.Prelude.{◌≡◌, ◌+◌, ◌<◌, ◌≤◌, OnErr, OnOk};
 ghost use Rattle.std.specs.VecDeque.{deque_capacity, deque_len};
 
-use at_sync::Board;
 use barrier::{BoardSize, RoundPlaces, RunBoard};
 use chare_index::{Index, Round};
 use chares::{Chare, Note, Openings, Progress};
 use pe_state::PeState;
 use std::alloc::{AllocError, Allocator, Global};
 use std::collections::VecDeque;
+use sync_board::Board;
 
-/// The elements of a PE by what they wait for, so that a worker need not look through its room. No clause rests on it: an
-/// element that were missing here would be resumed too late, never wrongly.
+/// The elements of a PE by what they wait for, so that a worker need not search all of them. No clause depends on it: an
+/// element missing here would be resumed too late, but never wrongly.
 #[derive(Drop)]
 pub struct Agenda<J: BoardSize, A: Allocator = Global> {
     // Those that have not started.
@@ -102,7 +102,7 @@ impl<J: BoardSize, A: Allocator + Copy> Agenda<J, A> {
         Ok(())
     }
 
-    /// Takes room for so many elements whose reports the board is to have. Where there is as much already, it takes no
+    /// Takes room for this many elements whose reports the board is to have. Where there is as much already, it takes no
     /// more: so notes that the board refuses cost nothing when they are handed in again.
     pub(crate) fn reserve(&mut self, notes: usize) -> Result<(), AllocError>
         ensures ok { OnOk result (deque_len self.new.waiting + notes ≤ deque_capacity self.new.waiting) }

@@ -1,4 +1,4 @@
-//! Whether a run has nothing left to do: what its workers say of their idle turns.
+//! Quiescence detection: whether a run has nothing left to do, by what its workers say of their idle turns.
 
 use chare_index::Pe;
 use std::alloc::{AllocError, Allocator, Global};
@@ -38,7 +38,7 @@ pub(crate) struct Question {
 }
 
 impl<A: Allocator> Ballot<A> {
-    /// A ballot of so many workers, before any question. The only error is that memory was refused.
+    /// A ballot of this many workers, before any question. The only error is that memory was refused.
     pub(crate) fn new(alloc: A, workers: u32) -> Result<Self, AllocError> {
         let mut answers = Vec::with_capacity(alloc, workers as usize)?;
         for _worker in 0..workers {
@@ -69,7 +69,7 @@ impl<A: Allocator> Ballot<A> {
         self.woken.fetch_add(1, SeqCst);
     }
 
-    /// Asks the workers for the first time, where this one has been idle for so many turns in a row.
+    /// Asks the workers for the first time, where this one has been idle for this many turns in a row.
     pub(crate) fn ask(&self, idle: u64) -> Option<Question> {
         if idle < PATIENCE {
             return None;

@@ -1,3 +1,5 @@
+//! Why a run ends early, and what can be wrong with its outcome.
+
 ghost use Rattle.pe_state.specs.Refusals.{RefusesStep};
 ghost use Rattle.pe_worker.specs.Causes.{HasCause, MayRefuse};
 

@@ -1,13 +1,12 @@
-//! What the workers of a run share.
+//! The shared state of the workers of a run.
 
 ghost use Rattle.std.specs.Prelude.{◌≡◌, ◌≤◌, IfOk, length};
-ghost use Rattle.at_sync.specs.Boards.{IsBoard};
+ghost use Rattle.sync_board.specs.Boards.{IsBoard};
 ghost use Rattle.lb_database.specs.Measuring.{elements};
 
 use crate::agenda::last_round;
 use crate::ballot::Ballot;
 use crate::seated::{OfRun, RunBeginning};
-use at_sync::Board;
 use barrier::{Barrier, RunStrategy};
 use chare_index::{Limits, Round};
 use chares::{Chare, History, Openings};
@@ -18,6 +17,7 @@ use std::marker::{Model, PhantomData};
 use std::sync::Wait;
 use std::sync::atomic::Ordering::SeqCst;
 use std::sync::atomic::{AtomicBool, AtomicU64};
+use sync_board::Board;
 
 // With fewer PEs than this, a walk over the chain is done before a thread for it has started.
 const PES_WORTH_THREADS: u32 = 128;
@@ -44,6 +44,8 @@ pub struct Field<
     pub(crate) ballot: Ballot<A>,
     // After how many turns in a row without a step a worker gives up.
     pub(crate) turns: u64,
+    // Whether the worker of PE 0 looks whether nothing is left to do, once it has been idle for a while.
+    pub(crate) looks_quiet: bool,
     // Whether elements keep what they have handled.
     pub(crate) history: History,
     probe_workers: u32,
@@ -72,14 +74,16 @@ impl<C: Chare<A>, H: Openings<C> + RunStrategy, J: RunBeginning<C>, A: Allocator
     A,
 > {
     /// The queues, words and board of a run as it opens, or as it is opened again, which takes some bytes for each PE: the only
-    /// error is that memory was refused. Its workers give up after so many idle turns, its elements keep or drop what they have
-    /// handled, and a round is decided by at most so many probe workers, 1 to 64, and by one where its PEs are few.
+    /// error is that memory was refused. Its workers give up after so many idle turns, and before, where they look for that, once
+    /// nothing is left to do. Its elements keep or drop what they have handled, and a round is decided by at most so many probe
+    /// workers, 1 to 64, and by one where its PEs are few.
     pub fn new(
         alloc: A,
         post: Post<Parcel<C, H, A>, A>,
         words: Locations<OfRun<C, H>, A>,
         board: Board<A>,
         turns: u64,
+        looks_quiet: bool,
         history: History,
         probe_workers: u32,
     ) -> Result<Self, AllocError>
@@ -106,6 +110,7 @@ impl<C: Chare<A>, H: Openings<C> + RunStrategy, J: RunBeginning<C>, A: Allocator
             executed: AtomicU64::new(0),
             ballot,
             turns,
+            looks_quiet,
             history,
             probe_workers,
             of: PhantomData,
@@ -157,7 +162,7 @@ impl<C: Chare<A>, H: Openings<C> + RunStrategy, J: RunBeginning<C>, A: Allocator
         Round::new(round)
     }
 
-    /// Tells that so many more letters were executed.
+    /// Tells that this many more letters were executed.
     pub(crate) fn tell_executed(&self, letters: u64) {
         self.executed.fetch_add(letters, SeqCst);
     }
@@ -196,6 +201,7 @@ impl<C: Chare<A>, H: Openings<C> + RunStrategy, J: RunBeginning<C>, A: Allocator
             executed: _,
             ballot: _,
             turns: _,
+            looks_quiet: _,
             history: _,
             probe_workers: _,
             of: _,

@@ -6,7 +6,7 @@ ghost use Rattle.pe_worker.specs.Seated.{Beginning, IsSeated};
 
 use barrier::{BoardSize, RunStrategy};
 use chare_index::Pe;
-use chares::{Chare, Openings};
+use chares::{BodyLimit, Chare, Openings};
 use pe_queues::{PeCount, Seat};
 use pe_state::{Parcel, PeState};
 use std::alloc::{Allocator, Global};
@@ -76,6 +76,13 @@ impl<C: Chare<A>, H: Openings<C>, J: RunBeginning<C>, A: Allocator> SeatedPe<C, 
             seat,
             of: PhantomData,
         }
+    }
+
+    /// Lets the bodies of letters that are posted on its PE have this many bytes.
+    pub fn set_longest(&mut self, longest: BodyLimit)
+        ensures ok { self.new ≡ record self.old { pe = record (self.old.pe) { longest = longest } } }
+    {
+        self.pe.set_longest(longest);
     }
 
     /// The number of its PE.

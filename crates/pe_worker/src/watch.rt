@@ -1,3 +1,5 @@
+//! The trait of an observer, who sees the steps of a run and may ask it to stop.
+
 use chare_index::{Index, Pe, Round};
 use chares::LetterId;
 use lb_refinement::Refined;
@@ -27,7 +29,7 @@ pub enum PeStep {
 
 /// Who looks on at a run, and may ask it to stop. Nothing else in the run depends on it.
 pub trait Watch {
-    /// A round was decided, and so many letters have been executed, as far as the workers have counted them by then. It is called by
+    /// A round was decided, and this many letters have been executed, as far as the workers have counted them by then. It is called by
     /// the worker that has decided the round, without a lock; the next round may be decided meanwhile.
     fn decided(&self, round: Round, executed: u64);
 
@@ -59,7 +61,7 @@ pub trait Watch {
     /// [`made_step`](Watch::made_step) follows.
     fn begins_step(&self, _pe: Pe) {}
 
-    /// The worker of this PE made this step, after which the PE has posted so many letters, numbered from 0 on. Each worker
+    /// The worker of this PE made this step, after which the PE has posted this many letters, numbered from 0 on. Each worker
     /// calls it for its own PE, without a lock, and the run waits meanwhile.
     fn made_step(&self, _pe: Pe, _step: PeStep, _posted: u64) {}
 }

@@ -11,7 +11,6 @@ use crate::field::Field;
 use crate::seated::{OfRun, RunBeginning, SeatedPe};
 use crate::telling::{after, after_act, after_going_on, before_act, before_element};
 use crate::watch::{PeStep, Watch};
-use at_sync::BoardError;
 use barrier::{RunBoard, RunStrategy};
 use chare_index::{Gate, Index, Pe, Round};
 use chares::{Carried, Chare, Openings};
@@ -21,6 +20,7 @@ use std::hint::spin_loop;
 use std::marker::Model;
 use std::sync::Wait;
 use std::thread::{Threads, yield_now};
+use sync_board::BoardError;
 use worker_threads::{Ended, Work};
 
 mod letters;
@@ -275,7 +275,7 @@ impl<C: Chare<A>, H: Openings<C> + RunStrategy, J: RunBeginning<C>, A: Allocator
             if idle >= field.turns {
                 return Err(Fault::Idle);
             }
-            if is_quiet(&field.ballot, me, idle, &mut question) {
+            if field.looks_quiet && is_quiet(&field.ballot, me, idle, &mut question) {
                 return Err(Fault::Quiet);
             }
             pause(idle);
@@ -497,7 +497,7 @@ fn arriving<C: Chare<A>, H: Openings<C> + RunStrategy, A: Allocator>(
     Some(element.index())
 }
 
-// Reports so many notes, or as many as the board takes, and returns whether it took one. The agenda has room for them.
+// Reports this many notes, or as many as the board takes, and returns whether it took one. The agenda has room for them.
 fn report_all<C: Chare<A>, H: Openings<C> + RunStrategy, J: RunBeginning<C>, A: Allocator + Copy>(
     seated: &mut SeatedPe<C, H, J, A>,
     agenda: &mut Agenda<OfRun<C, H>, A>,

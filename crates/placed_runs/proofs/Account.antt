@@ -6,7 +6,7 @@ use Rattle.std.proofs.lemmas.Bool.Decides.{nat_tests}
 use Rattle.std.proofs.lemmas.List.Sums.{sum_by-cons}
 use Rattle.chares.specs.Steps.{Step}
 use Rattle.pe_state.specs.Pes.{PeView}
-use Rattle.at_sync.specs.declared.strategy.Strategy.TheVariants.{Least}
+use Rattle.sync_board.specs.declared.strategy.Strategy.TheVariants.{Least}
 use Rattle.rts_core.specs.Accounts.{times, is_number, message, AreSent, IsCounted}
 use Rattle.rts_core.specs.Places.{Life, letters, lives, journaled, sends_of, sends}
 use Rattle.rts_core.specs.Worlds.{WorldView}

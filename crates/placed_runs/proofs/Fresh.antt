@@ -8,8 +8,8 @@ use Rattle.std.proofs.lemmas.List.{length-replicate}
 use Rattle.std.proofs.lemmas.List.Elements.{All-nil, All-get_or, All-map, All-replicate, All-set, All-weaker}
 use Rattle.std.proofs.lemmas.Map.Views.{All-values-insert_entry}
 use Rattle.std.proofs.lemmas.Option.{get_or_from_slice_get, slice_get-get_or, slice_get_within}
-use Rattle.at_sync.specs.Boards.{BoardState, new_board}
-use Rattle.at_sync.specs.declared.strategy.Strategy.{Strategy}
+use Rattle.sync_board.specs.Boards.{BoardState, new_board}
+use Rattle.sync_board.specs.declared.strategy.Strategy.{Strategy}
 use Rattle.chares.specs.Elements.{ElementView, opening_element}
 use Rattle.chares.specs.declared.note.Mark.{Mark}
 use Rattle.lb_database.specs.Measuring.{elements}

@@ -3,9 +3,9 @@ use Rattle.std.proofs.Common.{◌≡◌, ◌∙◌, ℕ, suc, ◌+◌, ◌<◌, 
 use Rattle.std.specs.Prelude.{All, slice_get}
 use Rattle.std.specs.List.{range_with_len}
 use Rattle.std.proofs.lemmas.List.{length-replicate}
-use Rattle.at_sync.specs.Boards.{IsBoard, new_board}
-use Rattle.at_sync.specs.declared.strategy.Strategy.{Strategy}
-use Rattle.at_sync.proofs.Rounds.{board_new}
+use Rattle.sync_board.specs.Boards.{IsBoard, new_board}
+use Rattle.sync_board.specs.declared.strategy.Strategy.{Strategy}
+use Rattle.sync_board.proofs.Rounds.{board_new}
 use Rattle.chare_index.specs.declared.limits.TheConstants.Limits.{PES}
 use Rattle.chares.specs.Elements.{Refuses}
 use Rattle.chares.specs.Steps.{Step}

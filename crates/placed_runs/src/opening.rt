@@ -3,7 +3,7 @@
 ghost use Rattle.std.specs.Prelude.{◌≡◌, ◌+◌, ◌<◌, ◌≤◌, All, IfOk, OnOk, Some, [], length, map, replicate, slice_get};
 ghost use Rattle.std.specs.List.{range_with_len};
 ghost use Rattle.std.specs.Map.{keys_of};
-ghost use Rattle.at_sync.specs.Boards.{new_board};
+ghost use Rattle.sync_board.specs.Boards.{new_board};
 ghost use Rattle.pe_state.specs.Histories.{HasHistories};
 ghost use Rattle.pe_state.specs.Pes.{new_pe};
 ghost use Rattle.pe_worker.specs.declared.fault.Fault.TheVariants.{Stopped};
@@ -11,7 +11,6 @@ ghost use Rattle.rts_core.specs.Worlds.{placed_on};
 ghost use Rattle.rts_run.specs.Outcomes.{IsOutcome};
 ghost use Rattle.placed_runs.specs.Placed.{each_placed, placed_pes};
 
-use at_sync::{Board, Strategy};
 use chare_index::{Index, Limits, Pe, Pes};
 use chares::{Chare, Openings};
 use pe_state::{HeldParcel, PeEnd, PeState};
@@ -21,6 +20,7 @@ use run_account::take_next;
 use std::alloc::{AllocError, Allocator};
 use std::collections::VecDeque;
 use std::marker::Brand;
+use sync_board::{Board, Strategy};
 
 /// The outcome of a run that was stopped before its first event: chare `i` stands, not started, as element `i` on the PE
 /// `places[i]`, which is its home; nothing was posted, every queue is empty, and no round was decided. There is a place for each chare,
@@ -49,7 +49,7 @@ pub fn placed_outcome<C: Chare<A>, A: Allocator + Copy>(
     outcome_as::<C, Brand, A>(alloc, pes, strategy, chares, places)
 }
 
-// The same, for the chares that `H` names.
+// Makes the outcome. `H` is the type that names the chares with which the run opened.
 fn outcome_as<C: Chare<A>, H: Openings<C>, A: Allocator + Copy>(
     alloc: A,
     pes: Pes,
@@ -70,7 +70,7 @@ fn outcome_as<C: Chare<A>, H: Openings<C>, A: Allocator + Copy>(
     ensures homes { IfOk result (λ o. o.homes ≡ places.items) }
 {
     let n = chares.len() as u32;
-    let board = Board::new(alloc, n, pes.get(), strategy)?;
+    let board = Board::with_strategy(alloc, n, pes.get(), strategy)?;
     let left = no_parcels(alloc, pes)?;
     let ends = placed_ends::<C, H, A>(alloc, pes, chares, &places)?;
     Ok(Outcome::new(places, ends, left, board, Some(Fault::Stopped)))

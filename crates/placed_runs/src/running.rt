@@ -2,14 +2,14 @@
 
 ghost use Rattle.std.specs.Prelude.{◌≡◌, ◌<◌, All, IfOk, MatchResult, length};
 ghost use Rattle.rts_run.specs.Configs.{MayBegin, RefusesRun};
-ghost use Rattle.rts_run.specs.Outcomes.{IsOutcome};
+ghost use Rattle.rts_run.specs.Outcomes.{EndsIdle, IsOutcome};
 
 use crate::opening::placed_outcome;
 use carried_runs::{Pauses, carry_on_in_parts};
 use chare_index::{Gate, Pe, Pes};
 use chares::Chare;
 use pe_worker::Watch;
-use rts_run::{Config, Outcome, RunError};
+use rts_run::{Config, Options, Outcome, RunError};
 use std::alloc::Allocator;
 use std::snapshot::Snapshot;
 use std::sync::Wait;
@@ -32,6 +32,7 @@ pub fn run_placed<
     rt: &R,
     alloc: A,
     config: &Config,
+    options: &Options,
     gate: &G,
     watch: &V,
     pauses: &mut P,
@@ -41,15 +42,20 @@ pub fn run_placed<
     requires one_each { length places.items ≡ length chares.items }
     requires named { All (λ q. q < config.now.pes) places.items }
     ensures answer { MatchResult result (λ _. MayBegin config.now (length chares.items)) (RefusesRun config.now (length chares.items)) }
-    ensures outcome { IfOk result (IsOutcome C.step C.fits C.pack C.refuses chares.items config.now.pes config.now.strategy) }
+    ensures outcome { IfOk result (IsOutcome C.step C.fits C.pack C.refuses chares.items config.now.pes options.now.strategy) }
+    ensures idle { IfOk result (EndsIdle options.now.idle) }
     ensures homes { IfOk result (λ o. o.homes ≡ places.items) }
 {
     if let Some(setting) = config.first_outside(chares.len()) {
         return Err(RunError::Config(setting));
     }
     let opening = Snapshot::of(&chares);
-    match placed_outcome(alloc, Pes::of(config.pes), config.strategy, chares, places) {
-        Ok(outcome) => carry_on_in_parts(rt, alloc, config, gate, watch, pauses, &opening, outcome),
+    match placed_outcome(alloc, Pes::of(config.pes), options.strategy, chares, places) {
+        Ok(outcome) => {
+            carry_on_in_parts(
+                rt, alloc, config, options, gate, watch, pauses, &opening, outcome,
+            )
+        }
         Err(_) => Err(RunError::OutOfMemory),
     }
 }

@@ -12,7 +12,7 @@
 //! ```
 //! use chare_index::NoGate;
 //! use progress_line::ShownProgress;
-//! use rts_run::{Config, run_watched};
+//! use rts_run::{Config, Options, run_watched};
 //! use std::io::IsTerminal;
 //! use tally::Tally;
 //!
@@ -20,7 +20,7 @@
 //! let chares = vec![in alloc; Tally::with_amounts(alloc, &[7], 0)?]?;
 //! let progress = ShownProgress::new(&rt, rt.stderr().is_terminal()).unwrap_or(ShownProgress::Off);
 //! progress.expect(1);
-//! let outcome = run_watched(&rt, alloc, &Config::usual(1), &NoGate, &progress, chares)?;
+//! let outcome = run_watched(&rt, alloc, &Config::usual(1), &Options::usual(), &NoGate, &progress, chares)?;
 //! progress.finish();
 //! assert!(rt; outcome.fault().is_none());
 //! ```

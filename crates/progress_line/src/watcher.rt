@@ -1,3 +1,5 @@
+//! The progress line as an observer of a run, or none.
+
 ghost use Rattle.std.specs.Prelude.{◌≡◌, ◌≢◌, IfOk, Ok, false, true};
 ghost use Rattle.progress_line.specs.declared.watcher.ShownProgress.TheVariants.{Off};
 

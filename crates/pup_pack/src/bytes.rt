@@ -1,3 +1,5 @@
+//! A list of bytes that packs.
+
 ghost use Rattle.std.specs.Prelude.{◌≡◌, ◌+◌, ◌<◌, ◌≤◌, ◌++◌, Err, length, OnErr, OnOk, vec_capacity, vec_len};
 ghost use Rattle.pup_pack.specs.Lists.{IsCounted, pack_bytes};
 ghost use Rattle.pup_pack.specs.Packing.{PackAnswer};
@@ -12,16 +14,14 @@ use std::marker::Model;
 /// A list of bytes. It packs into their number, in four bytes, and then the bytes as they are. Contracts see it as
 /// that list.
 #[derive(Debug, Drop)]
-pub struct Bytes<A: Allocator = Global> {
-    all: Vec<u8, A>,
-}
+pub struct Bytes<A: Allocator = Global>(pub Vec<u8, A>);
 
 impl<A: Allocator> Model for Bytes<A> {
     ghost use Rattle.std.specs.Prelude.{List, ℕ};
 
     ghost Value = { List ℕ };
 
-    ghost view = { λ list. list.all.items };
+    ghost view = { λ list. list.0.items };
 }
 
 impl<A: Allocator> Bytes<A> {
@@ -29,21 +29,21 @@ impl<A: Allocator> Bytes<A> {
     pub fn new(all: Vec<u8, A>) -> Self
         ensures value { result ≡ all.items }
     {
-        Bytes { all }
+        Bytes(all)
     }
 
     /// The bytes.
     pub fn as_slice(&self) -> &[u8]
         ensures value { result.now ≡ self.now }
     {
-        self.all.as_slice()
+        self.0.as_slice()
     }
 
     /// The bytes as a vector.
     pub fn into_vec(self) -> Vec<u8, A>
         ensures value { result.items ≡ self }
     {
-        self.all
+        self.0
     }
 }
 
@@ -62,11 +62,11 @@ impl<A: Allocator> Pup<A> for Bytes<A> {
     ghost round_trip = { bytes_trips.trip };
 
     fn packed_len(&self) -> u32 {
-        counted_len(self.all.len())
+        counted_len(self.0.len())
     }
 
     fn pack_into(&self, out: &mut Vec<u8, A>) -> Result<(), PupError> {
-        pack_counted(self.all.as_slice(), out)
+        pack_counted(self.0.as_slice(), out)
     }
 
     fn unpack(alloc: A, bytes: &[u8]) -> Result<(Bytes<A>, usize), PupError> {

@@ -1,3 +1,5 @@
+//! Why a value is not packed, or bytes are not unpacked.
+
 ghost use Rattle.std.specs.Prelude.{◌≡◌};
 ghost use Rattle.pup_pack.specs.declared.error.PupError.TheVariants.{OutOfMemory};
 

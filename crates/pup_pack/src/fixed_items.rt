@@ -1,3 +1,5 @@
+//! A list of values that all pack into the same number of bytes.
+
 ghost use Rattle.std.specs.Prelude.{◌≡◌, ◌<◌, ◌++◌, ◌∷◌, [], IfErr, length, OnErr, OnOk, slice_set};
 
 use crate::error::PupError;

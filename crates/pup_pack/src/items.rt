@@ -1,3 +1,5 @@
+//! A list of values that pack.
+
 ghost use Rattle.std.specs.Prelude.{◌≡◌, ◌++◌, ◌∷◌, [], IfErr, length, OnErr, OnOk};
 
 use crate::error::PupError;

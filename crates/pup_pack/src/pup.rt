@@ -1,3 +1,5 @@
+//! The trait of a value that packs into bytes and unpacks from them, with its law.
+
 ghost use Rattle.std.specs.Prelude.{◌≡◌, ℕ, ◌+◌, ◌<◌, ◌≤◌, List, ◌++◌, length, Result, Ok, Err, OnOk, OnErr, IfOk, vec_len, vec_capacity};
 ghost use Rattle.chare_index.specs.declared.limits.TheConstants.Limits.{STATE_BYTES};
 ghost use Rattle.pup_pack.specs.declared.error.PupError.{PupError};

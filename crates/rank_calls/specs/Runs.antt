@@ -23,7 +23,7 @@ pub record Run : Type 0 where
 abbrev pub no_run : Run
 no_run = record { n = 0; pes = 1; answers = [] }
 
--- what an element answers to the entry after so many, and nothing where the list has no answer to it
+-- what an element answers to the entry after this many, and nothing where the list has no answer to it
 abbrev pub answers_in : Run → ℕ → ℕ → Answered
 answers_in run i v = option_map_or (λ list. option_map_or (λ answer. answer) (slice_get list v) (silent i v)) (slice_get run.answers i) (silent i v)
 
@@ -52,7 +52,7 @@ stamp_unpack bytes = judged is_stamp (made of_parts (unpack_pair unpack_u32 (unp
 abbrev pub IsOfRun : Run → Parcel → Type 0
 IsOfRun run parcel = IsParcelHistory (step_in run) FitsStamp stamp_pack (opening run) parcel
 
--- A PE, of so many, of an array of so many elements, as it opens, once the first so many elements were asked after: of these it has
+-- A PE, of this many, of an array of this many elements, as it opens, once the first this many elements were asked after: of these it has
 -- those that begin on it, which is where the array is cut into as many runs of elements as there are PEs.
 abbrev pub begins_on : ℕ → ℕ → PeView Stamp → ℕ → Bool
 begins_on pes n pe i = (i * pes / n == pe.me) && not (is_some (found i pe.room))

@@ -12,7 +12,7 @@ use pup_pack::PupError;
 /// What a PE is asked. It owns what it hands in.
 #[derive(Drop)]
 pub enum Request {
-    /// To open as this PE, of so many PEs, with its part of an array of so many elements: those that begin on it.
+    /// To open as this PE, of this many PEs, with its part of an array of this many elements: those that begin on it.
     Open(Pe, u32, u32),
     /// To close.
     Close,
@@ -28,11 +28,11 @@ pub enum Request {
     Resume(Index, Round, Answer),
     /// To pack an element and put it into the outbox, addressed to this PE.
     Depart(Index, Pe),
-    /// To give up the parcel at the front of its outbox, as a message of at most so many bytes.
+    /// To give up the parcel at the front of its outbox, as a message of at most this many bytes.
     Send(usize),
     /// To take it that the board has the note that is owed first.
     NoteDone,
-    /// Which handler is due, and for what body, of at most so many bytes.
+    /// Which handler is due, and for what body, of at most this many bytes.
     Due(usize),
     /// Which element is to be looked for.
     Wanted,
@@ -49,7 +49,7 @@ pub enum Reply {
     Done,
     /// It has done nothing.
     Refused(CallError),
-    /// Nothing is changed, since the bytes that were asked for are so many.
+    /// Nothing is changed: the answer needs this many bytes, more than the caller has room for.
     Long(usize),
     /// The parcel that it has given up goes to this PE, as this message.
     Sent(Pe, Vec<u8>),

@@ -95,7 +95,7 @@ impl<R: RunName> Rank<R> {
         }
     }
 
-    // Gives up the front of its outbox, as a message of at most so many bytes.
+    // Gives up the front of its outbox, as a message of at most this many bytes.
     fn send(&mut self, alloc: Global, room: usize) -> Reply
         ensures served { IsServed R.run true self.old (Request.Send room) result true self.new }
     {
@@ -113,7 +113,7 @@ impl<R: RunName> Rank<R> {
         Reply::Sent(to, bytes)
     }
 
-    // Shows which handler is due, and for what body, of at most so many bytes.
+    // Shows which handler is due, and for what body, of at most this many bytes.
     fn show_due(&self, alloc: Global, room: usize) -> Reply
         ensures served { IsServed R.run true self.now (Request.Due room) result true self.now }
     {

@@ -48,7 +48,7 @@ impl<R: RunName> Rank<R> {
         Ok(())
     }
 
-    /// Takes it that the element that is wanted is on this PE.
+    /// Records that the element that is looked for is on this PE.
     pub(crate) fn look(&mut self, address: Pe) -> Result<(), CallError>
         ensures ready { OnOk result (refusal R.run true self.old (Request.Look address) ≡ None) }
         ensures done { OnOk result (self.new ≡ looked self.old address) }
@@ -183,7 +183,7 @@ impl<R: RunName> Rank<R> {
         }
     }
 
-    /// Takes it that the board has the note that is owed first.
+    /// Records that the board has received the oldest note that is owed.
     pub(crate) fn note_done(&mut self) -> Result<(), CallError>
         ensures ready { OnOk result (refusal R.run true self.old Request.NoteDone ≡ None) }
         ensures done { OnOk result (self.new ≡ noted self.old) }

@@ -4,7 +4,7 @@ use Rattle.foreign_chare.specs.Answers.{answer_in}
 use Rattle.foreign_chare.specs.Scripts.{Answered}
 use Rattle.pup_pack.specs.declared.error.PupError.{PupError}
 
--- the answer that so many bytes are
+-- the answer that this many bytes are
 abbrev pub whole : ℕ → Result (Answered × ℕ) PupError → Option Answered
 whole n (Ok x) = if x.1 == n then Some x.0 else None
 whole n (Err e) = None

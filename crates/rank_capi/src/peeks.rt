@@ -131,7 +131,7 @@ fn told_of(note: Note) -> Told
 }
 
 /// Shows the note that is owed first: its kind, 0 for an element that waits and 1 for one that has finished, the element, the round,
-/// the load and the bytes. What a kind has not is written as 0.
+/// the load and the bytes. Unused fields are written as 0.
 #[unsafe(no_mangle)]
 pub extern "C" fn tezgumi_pe_next_note(
     alloc: Global,

@@ -34,7 +34,7 @@ fn read(alloc: Global, bytes: &[u8]) -> Result<Answer, i32>
     }
 }
 
-/// Takes it that the element that is wanted is on this PE.
+/// Records that the element that is looked for is on this PE.
 #[unsafe(no_mangle)]
 pub extern "C" fn tezgumi_pe_look(alloc: Global, handle: &mut Handle, address: u32) -> i32
     ensures run { handle.new.run ≡ handle.old.run }
@@ -129,7 +129,7 @@ pub extern "C" fn tezgumi_pe_depart(alloc: Global, handle: &mut Handle, index: u
     asked(alloc, handle, Request::Depart(index, to))
 }
 
-/// Takes it that the board has the note that is owed first.
+/// Records that the board has received the oldest note that is owed.
 #[unsafe(no_mangle)]
 pub extern "C" fn tezgumi_pe_note_done(alloc: Global, handle: &mut Handle) -> i32
     ensures run { handle.new.run ≡ handle.old.run }

@@ -1,3 +1,5 @@
+//! The laws of accounts: which letters and elements there are after any calls, on one rank and on all together.
+
 ghost use Rattle.std.specs.Prelude.{◌≡◌, ◌+◌, All, List, ℕ, true};
 ghost use Rattle.foreign_chare.specs.Scripts.{Stamp};
 ghost use Rattle.pe_state.specs.Pes.{PeView, Parcel};

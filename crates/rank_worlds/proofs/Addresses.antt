@@ -14,7 +14,7 @@ use Rattle.pe_state.specs.Standing.{AreBelow, IsBelow, IsHandBelow}
 use Rattle.pe_state.proofs.Below.{both_below, last_below, posted_below, unshelved}
 use Rattle.pup_pack.specs.declared.error.PupError.{PupError}
 
--- a PE is one of so many, and all that it holds is addressed to those
+-- a PE is one of this many, and all that it holds is addressed to those
 pub record IsAddressed {C : Type 0} (pes : ℕ) (pe : PeView C) : Type 0 where
   pub me : pe.me < pes
   pub hand : IsHandBelow pes pe.hand

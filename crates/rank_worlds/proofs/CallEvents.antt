@@ -3,7 +3,7 @@ use Rattle.std.proofs.Common.{◌≡◌, ℕ, zero, suc, ◌+◌, List, [], ◌�
 use Rattle.std.specs.Prelude.{IfSome, IsSomeAnd, MatchOption, ◌&&◌, ◌==◌, nat_lt, slice_get, slice_set}
 use Rattle.std.specs.Option.{option_and_then, option_map_or}
 use Rattle.std.proofs.lemmas.Bool.Decides.{nat_tests}
-use Rattle.at_sync.specs.Boards.{BoardState, place_in}
+use Rattle.sync_board.specs.Boards.{BoardState, place_in}
 use Rattle.chares.specs.declared.note.Note.{Note}
 use Rattle.chares.specs.declared.progress.Progress.{Progress}
 use Rattle.chares.specs.declared.trace_entry.TraceEntry.{TraceEntry}

@@ -2,8 +2,8 @@
 use Rattle.std.proofs.Common.{◌≡◌, ℕ, zero, suc, ◌+◌, List, [], ◌∷◌, ◌++◌, Option, Some, None, refl, sym, ap, subst, ◌∙◌, inl, append_assoc}
 use Rattle.std.specs.Prelude.{All, IfSome, IsSome, MatchOption, drop, map, slice_get, slice_set, take}
 use Rattle.std.specs.List.{range_with_len}
-use Rattle.at_sync.specs.Boards.{BoardState}
-use Rattle.at_sync.specs.declared.strategy.Strategy.{Strategy}
+use Rattle.sync_board.specs.Boards.{BoardState}
+use Rattle.sync_board.specs.declared.strategy.Strategy.{Strategy}
 use Rattle.chares.specs.declared.note.Note.{Note}
 use Rattle.chares.specs.declared.trace_entry.TraceEntry.{TraceEntry}
 use Rattle.event_laws.specs.Agreement.{AllTaken}
@@ -58,7 +58,7 @@ all_open f a (suc m) = (refl, all_open f (a + 1) m)
 opening_of : (A : Type 0) (run : Run) (strategy : Strategy) → IsWorldOf {A = A} (opening_late run strategy) (opening_ranks run strategy)
 opening_of A run strategy = record { pes = all_open (λ (me : ℕ). opened run.pes run.n me) 0 run.pes; queues = refl; board = refl }
 
--- ---- a PE that owes more notes makes the same calls, but for that which says that a note is done
+-- ---- a PE that owes more notes makes the same calls, except for the one that says that a note is done
 
 pub split : (ns : List Note) → take 1 ns ++ drop 1 ns ≡ ns
 split [] = refl
@@ -72,7 +72,7 @@ module _ (run : Run) (h : PeView Stamp) (notes : List Note) (kept : Option ℕ) 
   abbrev pub pe_owing : PeView Stamp
   pe_owing = owing h notes kept
 
-  -- the same call, from what the handle has
+  -- a call that a PE with fewer notes makes too, from what the handle has
   pub record IsSameCall {A : Type 0} (p : ℕ) (b : BoardState A) (words : List ℕ) (queues next : List (List Parcel)) (call : Call Stamp) : Type 0 where
     pub is_ready : IsReady pe_owing call
     pub follows : Follows p pe_owing b words call

@@ -1,6 +1,6 @@
 -- The laws of stale runs, and of their events, hold of runs of ranks.
 use Rattle.std.proofs.Common.{◌≡◌, ℕ, ◌≤◌, List, [], ◌∷◌, ◌++◌, Option, None, Some, refl, ap, subst, sym, ◌∙◌, inl, inr, append-nil}
-use Rattle.at_sync.specs.declared.strategy.Strategy.{Strategy}
+use Rattle.sync_board.specs.declared.strategy.Strategy.{Strategy}
 use Rattle.chares.specs.declared.trace_entry.TraceEntry.{TraceEntry}
 use Rattle.foreign_chare.specs.Scripts.{Stamp}
 use Rattle.overtaking_laws.specs.FreeRuns.{HappensUnordered}

@@ -8,8 +8,8 @@ use Rattle.std.proofs.lemmas.Bool.Decides.{nat_tests}
 use Rattle.std.proofs.lemmas.List.Elements.{All-nil, All-weaker}
 use Rattle.std.proofs.lemmas.List.FromFn.{length-map-range_with_len}
 use Rattle.std.proofs.lemmas.Map.Views.{All-keys-insert_entry}
-use Rattle.at_sync.specs.Boards.{new_board}
-use Rattle.at_sync.specs.declared.strategy.Strategy.{Strategy}
+use Rattle.sync_board.specs.Boards.{new_board}
+use Rattle.sync_board.specs.declared.strategy.Strategy.{Strategy}
 use Rattle.chares.specs.Elements.{ElementView, opening_element}
 use Rattle.foreign_chare.specs.Scripts.{Stamp, new_stamp}
 use Rattle.pe_state.specs.Pes.{PeView, new_pe, placed}
@@ -48,7 +48,7 @@ module _ (e : ℕ) (chare : Stamp) where
         (sym (others a (λ same. omega (arith, same, at))))
         ∙ ap (λ (v : List (PeView Stamp)). h a ∷ v) (edited (a + 1) m i (omega (arith, at)))
 
--- ---- a PE as it opens, once the first so many elements were asked after
+-- ---- a PE as it opens, once the first this many elements were asked after
 
 pub either : (P : PeView Stamp → Type 0) (b : Bool) (x y : PeView Stamp) → P x → P y → P (if b then x else y)
 either P true x y px py = px

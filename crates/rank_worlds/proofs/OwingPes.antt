@@ -1,4 +1,4 @@
--- A PE that owes more notes makes the same calls, but for that which says that a note is done.
+-- A PE that owes more notes makes the same calls, except for the one that says that a note is done.
 use Rattle.std.proofs.Common.{◌≡◌, ℕ, List, ◌++◌, Option, Some, None, Bool, true, false, refl, ap, append_assoc}
 use Rattle.std.specs.Prelude.{Result, Ok, Err, ◌==◌, if◌then◌else◌}
 use Rattle.std.specs.Option.{option_to_list}

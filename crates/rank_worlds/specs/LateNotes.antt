@@ -3,8 +3,8 @@
 -- sent.
 use Rattle.std.specs.Prelude.{◌≡◌, ℕ, true, List, [], ◌∷◌, ◌++◌, map, replicate, Some, slice_get, slice_set, take}
 use Rattle.std.specs.List.{range_with_len}
-use Rattle.at_sync.specs.Boards.{BoardState, new_board}
-use Rattle.at_sync.specs.declared.strategy.Strategy.{Strategy}
+use Rattle.sync_board.specs.Boards.{BoardState, new_board}
+use Rattle.sync_board.specs.declared.strategy.Strategy.{Strategy}
 use Rattle.chares.specs.declared.note.Note.{Note}
 use Rattle.chares.specs.declared.trace_entry.TraceEntry.{TraceEntry}
 use Rattle.foreign_chare.specs.Scripts.{Stamp}
@@ -93,7 +93,7 @@ module _ {A : Type 0} (run : Run) where
       (first : Ranks A × List TraceEntry) × (rest : Ranks A × List TraceEntry) × IsDecidedLate r first × ReachesLate first.0 steps rest
       × (last ≡ (rest.0, first.1 ++ rest.1))
 
--- A PE is what the handle has, but for two things: it still owes the notes that are under way, and the address that it keeps, of what it gave
+-- A PE is what the handle has, with two exceptions: it still owes the notes that are under way, and the address that it keeps, of what it gave
 -- up last, may be another.
 abbrev pub IsPeOf : NotingRank → PeView Stamp → Type 0
 IsPeOf rank pe = pe ≡ record (rank.pe) { notes = rank.notes ++ rank.pe.notes; kept = pe.kept }

@@ -1,7 +1,7 @@
 -- The events of a run of ranks whose notes come late, the worlds that it leads to, and what holds of each of these.
 use Rattle.std.specs.Prelude.{ℕ, ◌≤◌, List, [], ◌∷◌, Option, None, Some}
 use Rattle.std.specs.List.{flat_map}
-use Rattle.at_sync.specs.declared.strategy.Strategy.{Strategy}
+use Rattle.sync_board.specs.declared.strategy.Strategy.{Strategy}
 use Rattle.chares.specs.declared.trace_entry.TraceEntry.{TraceEntry}
 use Rattle.foreign_chare.specs.Scripts.{Stamp}
 use Rattle.overtaking_laws.specs.StaleRuns.{ReachesByCopies}

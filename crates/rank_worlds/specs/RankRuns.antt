@@ -2,8 +2,8 @@
 -- the board.
 use Rattle.std.specs.Prelude.{◌≡◌, ℕ, List, [], ◌∷◌, ◌++◌, map, replicate}
 use Rattle.std.specs.List.{range_with_len}
-use Rattle.at_sync.specs.Boards.{new_board}
-use Rattle.at_sync.specs.declared.strategy.Strategy.{Strategy}
+use Rattle.sync_board.specs.Boards.{new_board}
+use Rattle.sync_board.specs.declared.strategy.Strategy.{Strategy}
 use Rattle.foreign_chare.specs.Scripts.{Stamp}
 use Rattle.rank_calls.specs.Runs.{Run, opened}
 use Rattle.rank_calls.specs.declared.request.Reply.{Reply}

@@ -2,8 +2,8 @@
 -- and then at the place after that round; it receives nothing that was sent by one who knew a later round; and it lets elements depart and
 -- go on only after rounds that it knows.
 use Rattle.std.specs.Prelude.{◌≡◌, ℕ, ◌≤◌, List, [], ◌∷◌, ◌++◌, length, map, replicate, Some, IfSome, IsSomeAnd, ◌==◌, if◌then◌else◌, slice_get, slice_set}
-use Rattle.at_sync.specs.Boards.{BoardState}
-use Rattle.at_sync.specs.declared.strategy.Strategy.{Strategy}
+use Rattle.sync_board.specs.Boards.{BoardState}
+use Rattle.sync_board.specs.declared.strategy.Strategy.{Strategy}
 use Rattle.chares.specs.declared.trace_entry.TraceEntry.{TraceEntry}
 use Rattle.foreign_chare.specs.Scripts.{Stamp}
 use Rattle.overtaking_laws.specs.StampedRuns.{Stamped, StampedView, seen_words}
@@ -22,7 +22,7 @@ pub record StampedRanks (A : Type 0) : Type 0 where
   pub known : ℕ → ℕ
   pub board : BoardState A
 
--- the same without rounds
+-- the ranks without the rounds that they know
 abbrev pub without_rounds : {A : Type 0} → StampedRanks A → Ranks A
 without_rounds s = record { ranks = s.ranks; queues = map (map (λ x. x.1)) s.queues; board = s.board }
 

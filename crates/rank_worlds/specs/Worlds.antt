@@ -1,7 +1,7 @@
 -- The handles of all ranks as the PEs of one world: which event a call is, and what it makes of the world.
 use Rattle.std.specs.Prelude.{◌≡◌, ℕ, true, zero, suc, List, [], ◌∷◌, ◌++◌, Option, None, Some, IfSome, IsSomeAnd, slice_get, slice_set}
 use Rattle.std.specs.Option.{option_map_or}
-use Rattle.at_sync.specs.Boards.{BoardState, place_in}
+use Rattle.sync_board.specs.Boards.{BoardState, place_in}
 use Rattle.chares.specs.declared.trace_entry.TraceEntry.{TraceEntry}
 use Rattle.chares.specs.declared.trace_entry.TraceEntry.TheVariants.{Departed}
 use Rattle.foreign_chare.specs.Scripts.{Stamp}

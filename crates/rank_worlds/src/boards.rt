@@ -1,7 +1,7 @@
 //! The board behind a handle as the board of the world.
 
 ghost use Rattle.std.specs.Prelude.{◌≡◌, ◌<◌, ℕ, Bool, Option, true, [], ◌∷◌, Some};
-ghost use Rattle.at_sync.specs.Boards.{Decides, after_finish, after_report, new_board};
+ghost use Rattle.sync_board.specs.Boards.{Decides, after_finish, after_report, new_board};
 ghost use Rattle.board_handle.specs.Calls.{IsTaken, strategy_in};
 ghost use Rattle.board_handle.specs.Owning.{BoardView};
 ghost use Rattle.chares.specs.declared.note.Note.TheVariants.{Finish, Sync};

@@ -1,7 +1,7 @@
 //! How often letters are forwarded between ranks that keep the rules of stamped runs.
 
 ghost use Rattle.std.specs.Prelude.{◌≡◌, ℕ, List};
-ghost use Rattle.at_sync.specs.declared.strategy.Strategy.{Strategy};
+ghost use Rattle.sync_board.specs.declared.strategy.Strategy.{Strategy};
 ghost use Rattle.foreign_chare.specs.Scripts.{Stamp};
 ghost use Rattle.overtaking_laws.specs.Hops.{IsStampedChase};
 ghost use Rattle.overtaking_laws.specs.StampedRuns.{AfterStamped, ReachesStamped, StampedStep, StampedView, opening_stamped};

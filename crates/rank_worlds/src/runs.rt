@@ -1,7 +1,7 @@
 //! What holds of every run of ranks, whose notes are messages to the board.
 
 ghost use Rattle.std.specs.Prelude.{◌≡◌, ◌≤◌, ℕ, List, ◌++◌, Some, IfSome, IsSome, slice_get};
-ghost use Rattle.at_sync.specs.declared.strategy.Strategy.{Strategy};
+ghost use Rattle.sync_board.specs.declared.strategy.Strategy.{Strategy};
 ghost use Rattle.chares.specs.declared.trace_entry.TraceEntry.{TraceEntry};
 ghost use Rattle.event_laws.specs.Agreement.{Agrees, AllTaken, DecidesOfMarks};
 ghost use Rattle.event_laws.specs.Barrier.{IsBarrier, ResumesInPlace};
@@ -24,7 +24,7 @@ use std::alloc::Allocator;
 /// What holds of every run of ranks, from the opening of their handles on. The function does nothing: its clauses are the laws.
 ///
 /// Where a rank says that a note is done, the note is under way, and the board takes it later. In a world of all ranks each PE is what its
-/// handle has, but for an address that it keeps, and still owes the notes that are under way. The location words may be any. The opening
+/// handle has, except for an address that it keeps, and still owes the notes that are under way. The location words may be any. The opening
 /// world is one. From each, the events of the steps lead to another, with the same trace: that of a call is the event of this call, or none
 /// where a rank says that a note is done; as the board takes a note it is the report of that rank; and a decision is one.
 ///

@@ -1,7 +1,7 @@
 //! The handles of all ranks as the PEs of one world.
 
 ghost use Rattle.std.specs.Prelude.{◌≡◌, ℕ, List, [], MatchOption};
-ghost use Rattle.at_sync.specs.declared.strategy.Strategy.{Strategy};
+ghost use Rattle.sync_board.specs.declared.strategy.Strategy.{Strategy};
 ghost use Rattle.foreign_chare.specs.Scripts.{Stamp};
 ghost use Rattle.overtaking_laws.specs.FreeRuns.{HappensUnordered};
 ghost use Rattle.overtaking_laws.specs.StaleRuns.{ReachesByCopies, with_words};

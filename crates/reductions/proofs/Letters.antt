@@ -40,7 +40,7 @@ both_posted p q r pack value_pack sends more first second =
     (first ∙ ap (posted p) (user_letters pack value_pack sends)) second
     ∙ ap (posted p) (sym (map-append (λ x. (x.0, tree_pack pack value_pack x.1)) (as_user sends) more))
 
--- the same of a value that goes on from an element
+-- the messages of a chare, and then a value that goes on from an element
 pub and_passed_on : {P M V : Type 0} (p q r : Posting P) (pack : M → List ℕ) (value_pack : V → List ℕ) (sends : List (ℕ × M)) (n i : ℕ) (goes_on same : Option V)
     → p.n ≡ n → q ≡ posted p (letters (user_pack pack) sends) → r ≡ posted q (letters (tree_pack pack value_pack) (passed_on q.n i goes_on)) → goes_on ≡ same
     → r ≡ posted p (letters (tree_pack pack value_pack) (as_user sends ++ passed_on n i same))

@@ -5,7 +5,7 @@ use Rattle.std.specs.Float.{Float, binary64}
 use Rattle.std.specs.Float.Ieee.{add, lt}
 use Rattle.std.specs.Int.{w64, int_max, int_min, saturate_signed}
 
--- a value packs into at most so many bytes
+-- a value packs into at most this many bytes
 abbrev pub VALUE_BYTES : ℕ
 VALUE_BYTES = 32
 

@@ -1,3 +1,5 @@
+//! The trait of a value that a reduction combines.
+
 ghost use Rattle.std.specs.Prelude.{◌≡◌, ◌≤◌, length};
 ghost use Rattle.reductions.specs.Combining.{VALUE_BYTES};
 

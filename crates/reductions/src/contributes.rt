@@ -1,3 +1,5 @@
+//! The trait of a chare that takes part in reductions.
+
 ghost use Rattle.std.specs.Prelude.{◌≡◌, ◌≢◌, ℕ, ◌+◌, ◌<◌, ◌≤◌, List, length, IfErr, IfOk, OnOk};
 ghost use Rattle.chare_index.specs.declared.limits.TheConstants.Limits.{STATE_BYTES};
 ghost use Rattle.chares.specs.Posting.{posted};

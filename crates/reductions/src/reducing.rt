@@ -1,3 +1,5 @@
+//! Turns a chare that takes part in reductions into a chare with messages. The elements form a tree.
+
 ghost use Rattle.std.specs.Prelude.{◌≡◌, ◌≢◌, ◌⊎◌, ℕ, ◌+◌, ◌<◌, ◌≤◌, ◌∷◌, [], List, length, IfErr, IfOk, OnErr, OnOk};
 ghost use Rattle.chare_index.specs.declared.limits.TheConstants.Limits.{BODY_BYTES, ELEMENTS, LETTERS};
 ghost use Rattle.chares.specs.Posting.{posted};

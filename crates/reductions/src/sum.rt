@@ -1,3 +1,5 @@
+//! A sum of numbers, as a reduction.
+
 use crate::combines::Combines;
 use pup_pack::{Pup, PupError};
 use std::alloc::Allocator;

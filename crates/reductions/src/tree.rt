@@ -26,7 +26,7 @@ pub(crate) fn parent(me: Index) -> Index
     Index::new(me.get().saturating_sub(width)).unwrap()
 }
 
-/// Whether an element has a child in a slot, among so many elements.
+/// Whether an element has a child in a slot, among this many elements.
 pub(crate) fn has_child(n: u32, me: Index, in_slot: u8) -> bool
     requires slot { in_slot < SLOTS }
     ensures value { result ≡ has_child n me in_slot }

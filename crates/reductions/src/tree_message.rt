@@ -1,3 +1,5 @@
+//! The messages between the elements: those of the chares, and those of a reduction.
+
 use chare_index::Limits;
 use pup_pack::{Fields, Pup, PupError};
 use std::alloc::Allocator;

@@ -64,7 +64,7 @@ pub record IsLevelTo (height : ℕ → ℕ) (low far cut : ℕ) : Type 0 where
   pub level : height cut ≡ height low
   pub last : (x : ℕ) → cut < x → x ≤ far → height cut < height x
 
--- the same, up to the present cut or to low itself
+-- the last such place up to the present cut, or low itself
 abbrev pub IsLevel : (ℕ → ℕ) → ℕ → ℕ → ℕ → Type 0
 IsLevel height present low cut = IsLevelTo height low (max present low) cut
 

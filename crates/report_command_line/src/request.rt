@@ -1,3 +1,5 @@
+//! The options of `lb_report`.
+
 use chain_refinement::Tolerance;
 use std::alloc::Global;
 

@@ -1,3 +1,5 @@
+//! Reads the numbers of PEs that `--procs` lists.
+
 ghost use Rattle.std.specs.Prelude.{◌≡◌, ◌++◌, All, IfOk, OnOk};
 ghost use Rattle.std.specs.String.{string_bytes};
 ghost use Rattle.report_command_line.specs.Numbers.{IsNumber, no_numbers_line, numerals, numerals_after};

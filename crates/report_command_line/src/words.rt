@@ -1,3 +1,5 @@
+//! The arguments of `lb_report`, and how they are read.
+
 ghost use Rattle.std.specs.Prelude.{◌≡◌, ◌↔◌, ℕ, [], IfOk, IsTrue, Some, codes, map, option_map, unwrap_or};
 ghost use Rattle.clap.specs.Built.{FitsChain};
 ghost use Rattle.clap.specs.Walk.{texts};

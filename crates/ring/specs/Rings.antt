@@ -10,7 +10,7 @@ use Rattle.chares.specs.declared.sends.SendError.{SendError}
 use Rattle.chares.specs.declared.sends.SendError.TheVariants.{Worn}
 use Rattle.chares.specs.Steps.{Outcome}
 
--- so many visits are left after a handler, which posts these letters; it has finished if no visit is left
+-- this many visits are left after a handler, which posts these letters; it has finished if no visit is left
 abbrev pub leaves : ℕ → List (ℕ × List ℕ) → Outcome ℕ
 leaves left sends = record { state = left; effect = record { units = 1; at_sync = false; finished = left == 0 }; sends = sends }
 
@@ -22,7 +22,7 @@ hands_on stays me n = if stays then [] else ((me + 1) % n, []) ∷ []
 abbrev pub starts : ℕ → ℕ → ℕ → Outcome ℕ
 starts left me n = leaves left (hands_on (left == 0 || not (me == 0)) me n)
 
--- a member hands the token on, but for the last visit to member 0
+-- a member hands the token on, except at the last visit to member 0
 abbrev pub visited : ℕ → ℕ → ℕ → Outcome ℕ
 visited left me n = leaves (left - 1) (hands_on ((left - 1) == 0 && me == 0) me n)
 

@@ -4,7 +4,7 @@ use Rattle.std.specs.List.{All, range_with_len}
 use Rattle.std.specs.Prelude.{IsTrue}
 use Rattle.std.proofs.lemmas.Bool.{cases_lt, eq-eqb, eqb-true}
 use Rattle.std.proofs.lemmas.List.Elements.{All-nil, All-cons, All-head, All-tail}
-use Rattle.at_sync.specs.Boards.{BoardState, kept_of}
+use Rattle.sync_board.specs.Boards.{BoardState, kept_of}
 use Rattle.chares.specs.declared.note.Mark.{Mark}
 use Rattle.chares.specs.declared.note.Mark.TheVariants.{Synced, Resumed}
 use Rattle.chares.specs.declared.note.Note.TheVariants.{Sync, Finish}

@@ -4,7 +4,7 @@ use Rattle.std.specs.List.{All}
 use Rattle.std.specs.List.Sorted.{IsStrictlyIncreasing}
 use Rattle.std.proofs.lemmas.List.{drop_all, drop_more}
 use Rattle.std.proofs.lemmas.List.Elements.{All-nil, All-cons, All-head, All-tail}
-use Rattle.at_sync.specs.Boards.{BoardState}
+use Rattle.sync_board.specs.Boards.{BoardState}
 use Rattle.chares.specs.declared.note.Mark.{Mark}
 use Rattle.chares.specs.declared.note.Mark.TheVariants.{Synced, Resumed}
 use Rattle.round_marks.specs.Marked.{AreSynced, IsResumption, IsResumptionMark, IsSyncOf, round_reached, rounds_resumed}
@@ -20,7 +20,7 @@ module _ {A : Type 0} (b : BoardState A) (e home : ℕ) where
   GoesRight reached least (Resumed round pe ∷ marks) =
       ((least ≤ round) × IsResumption b e home round pe) × GoesRight reached (round + 1) marks
 
-  -- the same of each list by itself
+  -- right marks in three parts: how they go on, when they resume, and of which rounds they are
   abbrev Parts : ℕ → ℕ → List Mark → Type 0
   Parts reached least marks = GoesOn b e reached marks × Resumes least marks × All (IsResumptionMark b e home) marks
 

@@ -4,7 +4,7 @@
 use Rattle.std.specs.Prelude.{◌≡◌, ℕ, ◌+◌, ◌-◌, ◌<◌, ◌≤◌, ◌==◌, List, length, All, count_by, slice_get, Option, None, Some, IfSome, MatchOption}
 use Rattle.std.specs.List.{filter_map, range_with_len}
 use Rattle.std.specs.List.Sorted.{IsStrictlyIncreasing}
-use Rattle.at_sync.specs.Boards.{BoardState, kept_of, place_in}
+use Rattle.sync_board.specs.Boards.{BoardState, kept_of, place_in}
 use Rattle.chares.specs.declared.note.Mark.{Mark}
 use Rattle.chares.specs.declared.note.Mark.TheVariants.{Synced, Resumed}
 use Rattle.chares.specs.declared.note.Note.{Note}

@@ -1,6 +1,6 @@
 -- When nothing is left to do in a run, though not every element has finished: no event but a look that finds nothing could happen.
 use Rattle.std.specs.Prelude.{◌≡◌, List, [], All, None, IfSome, true}
-use Rattle.at_sync.specs.Boards.{BoardState, kept_of}
+use Rattle.sync_board.specs.Boards.{BoardState, kept_of}
 use Rattle.chares.specs.Elements.{ElementView}
 use Rattle.lb_database.specs.Measuring.{IsComplete}
 use Rattle.pe_state.specs.Pes.{PeView, Parcel, waits_for}

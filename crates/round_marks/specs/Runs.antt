@@ -1,7 +1,7 @@
 -- When the marks of all elements of a run agree with the rounds that a board decided: of those in rooms, and of those that
 -- are packed, in a hand, an outbox or a queue. The run says of each element on which PE it opened: its home.
 use Rattle.std.specs.Prelude.{ℕ, List, All, Option, None, Some, IfSome, IsSomeAnd, slice_get}
-use Rattle.at_sync.specs.Boards.{BoardState}
+use Rattle.sync_board.specs.Boards.{BoardState}
 use Rattle.chares.specs.declared.carried.Carried.TheVariants.{Letter, Element}
 use Rattle.chares.specs.declared.note.Mark.{Mark}
 use Rattle.chares.specs.Elements.{ElementView}

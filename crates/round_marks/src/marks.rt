@@ -5,11 +5,11 @@ ghost use Rattle.std.specs.List.Sorted.{IsStrictlyIncreasing};
 ghost use Rattle.lb_database.specs.Measuring.{elements};
 ghost use Rattle.round_marks.specs.Marked.{AreMarked, AreSynced, IsMeasuredAs, IsResumption, IsResumptionMark, IsSyncOf, StandsAsMarked, round_reached, rounds_resumed};
 
-use at_sync::Board;
 use chare_index::{Index, Limits, Pe, Round};
 use chares::{KeptMark, Mark, Note};
 use lb_snapshot::{Snapshot, Units};
 use std::alloc::Allocator;
+use sync_board::Board;
 
 /// Whether the marks of element `e` agree with what the board decided. The element opens on the PE `home`, and is in the
 /// room of the PE `place`, or is packed where there is none. The check takes no memory, and time linear in the number of

@@ -3,11 +3,11 @@
 ghost use Rattle.std.specs.Prelude.{◌≡◌, ◌↔◌, All, IsTrue, [], map};
 ghost use Rattle.round_marks.specs.Quiet.{IsAtRest, IsQuiet, IsQuietPe};
 
-use at_sync::Board;
 use chare_index::Round;
 use chares::{Chare, Element};
 use pe_state::{HeldParcel, PeEnd};
 use std::alloc::Allocator;
+use sync_board::Board;
 
 /// Whether nothing was left to do in a run: its board waits for reports, every element has started, none waits for the end of a round
 /// that is decided, no note is owed, and no parcel is anywhere but on a shelf. The check takes no memory, and time linear in the

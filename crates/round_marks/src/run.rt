@@ -4,11 +4,11 @@ ghost use Rattle.std.specs.Prelude.{◌↔◌, All, IfSome, IsTrue, map};
 ghost use Rattle.round_marks.specs.Runs.{AreAllMarked, IsMarked, IsMarkedOn, IsMarkedParcel, IsMarkedPe};
 
 use crate::marks::marks_agree;
-use at_sync::Board;
 use chare_index::{Index, Pe};
 use chares::{Carried, Chare, Element, KeptMark};
 use pe_state::{HeldParcel, Item, PeEnd};
 use std::alloc::Allocator;
+use sync_board::Board;
 
 /// Whether the marks of all elements of a run agree with what its board decided, as [`element_agrees`] checks for each:
 /// for those that its PEs have at the end, and for those that are packed in the parcels that it left in its queues. `homes` has the PE

@@ -21,7 +21,7 @@ use Rattle.rts_core.specs.Runs.{Reaches}
 use Rattle.rts_core.specs.Worlds.{WorldView, home, placed_on, all_placed, opening_world}
 use Rattle.rts_core.proofs.Rooms.{EachAt, each_found, each_changed, each_joined, each_without, at_place}
 use Rattle.rts_core.proofs.Turns.{EachTurn, each_map, happens_so}
-use Rattle.at_sync.specs.declared.strategy.Strategy.{Strategy}
+use Rattle.sync_board.specs.declared.strategy.Strategy.{Strategy}
 
 -- what is to be kept: of the element with an index, and of one that is packed
 module _ {C : Type 0} (step : Step C) (pack : C → List ℕ) (F : ℕ → ElementView C → Type 0) (K : PackedView → Type 0) where
@@ -33,7 +33,7 @@ module _ {C : Type 0} (step : Step C) (pack : C → List ℕ) (F : ℕ → Eleme
     pub packs : (e : ℕ) (el : ElementView C) → F e el → K (packed pack el)
     pub unpacks : (p : PackedView) (chare : C) → K p → F p.index (unpacked p chare)
 
--- the same of a parcel, of all that a PE has, and of all that a world has
+-- what is to be kept of a parcel, of all that a PE has, and of all that a world has
 abbrev pub ParcelKept : (PackedView → Type 0) → Parcel → Type 0
 ParcelKept K (Letter l) = Unit {0}
 ParcelKept K (Element p) = K p

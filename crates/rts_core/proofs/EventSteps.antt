@@ -11,7 +11,7 @@ use Rattle.chares.specs.declared.trace_entry.TraceEntry.{TraceEntry}
 use Rattle.chares.specs.declared.trace_entry.TraceEntry.TheVariants.{Departed, Decided}
 use Rattle.chares.specs.Elements.{ElementView}
 use Rattle.chares.specs.Steps.{Step}
-use Rattle.at_sync.specs.Boards.{BoardState, place_in}
+use Rattle.sync_board.specs.Boards.{BoardState, place_in}
 use Rattle.pup_pack.specs.declared.error.PupError.{PupError}
 use Rattle.pe_state.specs.Pes.{PeView, Parcel, Acting, wanted, looked, front_address, front_parcel, gave_up, received, noted, resumed, resume_entries, departed, acting, waits_for}
 use Rattle.pe_state.specs.Rooms.{found}

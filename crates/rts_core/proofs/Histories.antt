@@ -6,7 +6,7 @@ use Rattle.std.proofs.lemmas.List.Elements.{All-push, All-head, All-tail, All-se
 use Rattle.std.proofs.lemmas.Option.{slice_get_within, get_or_from_slice_get}
 use Rattle.chare_index.specs.declared.limits.TheConstants.Limits.{STATE_BYTES}
 use Rattle.pup_pack.specs.declared.error.PupError.{PupError}
-use Rattle.at_sync.specs.Boards.{BoardState, after_report, after_finish, place_in}
+use Rattle.sync_board.specs.Boards.{BoardState, after_report, after_finish, place_in}
 use Rattle.lb_database.specs.Measuring.{elements}
 use Rattle.chares.specs.declared.note.Note.{Note}
 use Rattle.chares.specs.declared.note.Note.TheVariants.{Sync, Finish}

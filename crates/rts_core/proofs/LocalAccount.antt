@@ -30,7 +30,7 @@ use Rattle.rts_core.proofs.LocalCalls.{step_posts, nothing_yet}
 use Rattle.rts_core.proofs.OpeningWeights.{opened_lives, opening_weighs, opening_open, empty_weigh}
 use Rattle.rts_core.proofs.RunAccount.{unlived}
 use Rattle.rts_core.proofs.Sent.{sends_weight}
-use Rattle.at_sync.specs.declared.strategy.Strategy.TheVariants.{Least}
+use Rattle.sync_board.specs.declared.strategy.Strategy.TheVariants.{Least}
 
 pub lives_joined : (k : Life → ℕ) (xs ys : List Parcel) → sum_by k (flat_map lives_in (xs ++ ys)) ≡ sum_by k (flat_map lives_in xs) + sum_by k (flat_map lives_in ys)
 lives_joined k xs ys = ap (sum_by k) (flat_map-append lives_in xs ys) ∙ sum_by-append k (flat_map lives_in xs) (flat_map lives_in ys)

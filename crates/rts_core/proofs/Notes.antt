@@ -2,10 +2,10 @@
 use Rattle.std.proofs.Common.{◌≡◌, ℕ, ◌<◌, ◌≤◌, Some, None, arith}
 use Rattle.std.proofs.lemmas.Bool.Decides.{nat_tests}
 use Rattle.chares.specs.declared.note.Note.TheVariants.{Sync, Finish}
-use Rattle.at_sync.specs.Boards.{BoardState, after_report, after_finish}
-use Rattle.at_sync.specs.Refusals.{RefusesFinish, database_error_of}
-use Rattle.at_sync.specs.declared.error.BoardError.{BoardError}
-use Rattle.at_sync.specs.declared.error.BoardError.TheVariants.{Stranger, WrongRound, Twice, TooLarge, Incomplete, OutOfMemory, Worn}
+use Rattle.sync_board.specs.Boards.{BoardState, after_report, after_finish}
+use Rattle.sync_board.specs.Refusals.{RefusesFinish, database_error_of}
+use Rattle.sync_board.specs.declared.error.BoardError.{BoardError}
+use Rattle.sync_board.specs.declared.error.BoardError.TheVariants.{Stranger, WrongRound, Twice, TooLarge, Incomplete, OutOfMemory, Worn}
 use Rattle.chare_index.specs.declared.limits.TheConstants.Limits.{STATE_BYTES}
 use Rattle.lb_database.specs.Measuring.{elements}
 use Rattle.lb_database.specs.Refusals.{IsReport, RefusesReport}

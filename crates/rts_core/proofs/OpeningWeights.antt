@@ -17,7 +17,7 @@ use Rattle.rts_core.specs.Places.{Life}
 use Rattle.rts_core.specs.Worlds.{WorldView, home, placed_on, all_placed, opening_world}
 use Rattle.rts_core.proofs.Weights.{Weight, of_pe, of_queue, of_room, of_element, of_world, sum_joined}
 use Rattle.rts_core.proofs.WorldSteps.{AreOf, Numbered, known, sum_at, each_set}
-use Rattle.at_sync.specs.declared.strategy.Strategy.{Strategy}
+use Rattle.sync_board.specs.declared.strategy.Strategy.{Strategy}
 
 -- an element with a lower index is not in the room
 pub absent_step : (e i : ℕ) → i < e → is_eq (nat_cmp e i) ≡ false

@@ -17,13 +17,13 @@ use Rattle.chares.specs.Elements.{opening_element}
 use Rattle.chares.specs.Steps.{Step}
 use Rattle.pe_state.specs.Pes.{PeView, new_pe, placed}
 use Rattle.pe_state.specs.Rooms.{found}
-use Rattle.at_sync.specs.Boards.{BoardState, new_board}
+use Rattle.sync_board.specs.Boards.{BoardState, new_board}
 use Rattle.chare_index.specs.declared.limits.TheConstants.Limits.{ELEMENTS, PES}
 use Rattle.pe_state.specs.Histories.{HasHistories, IsParcelHistory}
 use Rattle.pe_state.proofs.Histories.{new_holds, placed_holds}
 use Rattle.rts_core.specs.Histories.{AreHistories}
 use Rattle.rts_core.specs.Worlds.{IsWorld, home, placed_on, all_placed}
-use Rattle.at_sync.specs.declared.strategy.Strategy.{Strategy}
+use Rattle.sync_board.specs.declared.strategy.Strategy.{Strategy}
 
 -- each element opens on one of the PEs
 pub home_below : (e n pes : ℕ) → e < n → 1 ≤ pes → home e n pes < pes

@@ -22,7 +22,7 @@ use Rattle.rts_core.proofs.Listings.{no_life, no_letter, sum_zero, world_letters
 use Rattle.rts_core.proofs.OpeningWeights.{opened_lives, opening_of, opening_numbered, opening_knows, opening_weighs, opening_counts, one_at, opened_once}
 use Rattle.rts_core.proofs.RunLaws.{by_said, by_index, by_journal, number_said, Kept, step_keeps, kept_join, run_keeps}
 use Rattle.rts_core.proofs.Sent.{by_message, each_one, length_sum, histories_of, sends_weight, sent_step, counted_step}
-use Rattle.at_sync.specs.declared.strategy.Strategy.{Strategy}
+use Rattle.sync_board.specs.declared.strategy.Strategy.{Strategy}
 
 pub below_le : (j count : ℕ) → below j count ≤ 1
 below_le j count = grind (arith, nat_tests)

@@ -11,7 +11,7 @@ use Rattle.chares.specs.declared.trace_entry.TraceEntry.TheVariants.{Departed, D
 use Rattle.chares.specs.Elements.{ElementView, PackedView}
 use Rattle.chares.specs.Letters.{LetterView}
 use Rattle.chares.specs.Steps.{Step}
-use Rattle.at_sync.specs.Boards.{BoardState, Decides, place_in}
+use Rattle.sync_board.specs.Boards.{BoardState, Decides, place_in}
 use Rattle.pup_pack.specs.declared.error.PupError.{PupError}
 use Rattle.pe_state.specs.Pes.{PeView, Parcel, Item, Acting, wanted, looked, front_address, front_parcel, gave_up, received, noted, resumed, resume_entries, departed, installed, executed, shelving, forwarding, passing, on_letter, installing, on_element, on_parcel, acting_on, acting, waits_for}
 use Rattle.pe_state.specs.Rooms.{found}

@@ -6,7 +6,7 @@ use Rattle.chares.specs.Steps.{Step}
 use Rattle.pup_pack.specs.declared.error.PupError.{PupError}
 use Rattle.rts_core.specs.declared.event.Event.{Event}
 use Rattle.rts_core.specs.Accounts.{Accounted, AreSent, IsCounted}
-use Rattle.at_sync.specs.Boards.{BoardState}
+use Rattle.sync_board.specs.Boards.{BoardState}
 use Rattle.pe_state.specs.Pes.{PeView}
 use Rattle.rts_core.specs.Events.{Happens, MayDecide, or_nothing, enabled}
 use Rattle.rts_core.specs.Histories.{AreHistories}
@@ -18,7 +18,7 @@ use Rattle.rts_core.proofs.OpeningWeights.{opening_of}
 use Rattle.rts_core.proofs.RunLaws.{Kept, run_keeps, step_keeps, kept_join}
 use Rattle.rts_core.proofs.Sent.{histories_of, sent_step, counted_step}
 use Rattle.rts_core.proofs.WorldSteps.{AreOf, Stepped}
-use Rattle.at_sync.specs.declared.strategy.Strategy.{Strategy}
+use Rattle.sync_board.specs.declared.strategy.Strategy.{Strategy}
 
 module _ {C A E : Type 0} (step : Step C) (fits : C → Type 0) (pack : C → List ℕ) (unpack : List ℕ → Result (C × ℕ) PupError)
     (opened : List C) (pes : ℕ) (strategy : Strategy) (w w' : WorldView C A) (event : Event) where
@@ -43,7 +43,7 @@ module _ {C A E : Type 0} (step : Step C) (fits : C → Type 0) (pack : C → Li
 
 module _ {C A : Type 0} (step : Step C) (fits : C → Type 0) (pack : C → List ℕ) (unpack : List ℕ → Result (C × ℕ) PupError)
     (opened : List C) (w w' : WorldView C A) (event : Event) (p : ℕ) where
-  -- the same of a step of one PE
+  -- the letters in places and journals add up to what was sent, after a step of one PE
   pub sent_at : {E : Type 0} (r : Result (List TraceEntry) E) → AreHistories step fits pack opened w → AreSent step opened w
       → IfOk r (λ reports. (w', reports) ≡ or_nothing w (enabled step pack unpack w event p)) → OnErr r (w' ≡ w) → AreSent step opened w'
   sent_at (Ok reports) are sent ok err =

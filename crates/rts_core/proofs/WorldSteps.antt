@@ -9,7 +9,7 @@ use Rattle.chares.specs.Elements.{ElementView}
 use Rattle.chares.specs.Letters.{LetterView}
 use Rattle.chares.specs.Posting.{letter_to}
 use Rattle.chares.specs.Steps.{Step}
-use Rattle.at_sync.specs.Boards.{BoardState}
+use Rattle.sync_board.specs.Boards.{BoardState}
 use Rattle.pe_state.specs.Pes.{PeView, Parcel}
 use Rattle.pe_state.specs.Rooms.{found}
 use Rattle.rts_core.specs.Accounts.{Said, is_number, posts, executions, posted_count}

@@ -8,7 +8,7 @@ use Rattle.std.proofs.lemmas.Option.{slice_get_past, slice_get_read}
 use Rattle.std.proofs.Math.Seq.{take-append_seam}
 use Rattle.std.proofs.lemmas.List.Elements.{All-set}
 use Rattle.pup_pack.specs.declared.error.PupError.{PupError}
-use Rattle.at_sync.specs.Boards.{BoardState}
+use Rattle.sync_board.specs.Boards.{BoardState}
 use Rattle.lb_database.specs.Measuring.{elements}
 use Rattle.chares.specs.declared.trace_entry.TraceEntry.{TraceEntry}
 use Rattle.chares.specs.Steps.{Step}
@@ -72,7 +72,7 @@ pub histories_local : {C A : Type 0} (step : Step C) (fits : C → Type 0) (pack
 histories_local step fits pack opened pes w p d h k =
     record { pes = All-set (HasHistories step fits pack opened) w.pes p d.pe k.histories h.pes; queues = k.parcels }
 
--- the same after the board has changed
+-- it is still a world of that run after the board has changed
 pub world_board : {C A : Type 0} (n pes : ℕ) (w : WorldView C A) (b : BoardState A) → IsWorld n pes w
     → elements b.database ≡ elements w.board.database → b.pes ≡ w.board.pes
     → IsWorld n pes (record { pes = w.pes; queues = w.queues; words = w.words; board = b })

@@ -2,7 +2,7 @@
 -- are those of docs/EVENTS.md; what a handler does, and Act in its four cases, is said of one PE.
 use Rattle.std.specs.Prelude.{◌≡◌, ℕ, ◌+◌, List, [], ◌∷◌, ◌++◌, Option, None, Some, Bool, not, ◌&&◌, ◌==◌, ◌⊎◌, Result, if◌then◌else◌, nat_lt, is_none, slice_get, slice_set, MatchOption}
 use Rattle.std.specs.Option.{option_map, option_and_then}
-use Rattle.at_sync.specs.Boards.{BoardState, Decides, place_in, after_report, after_finish}
+use Rattle.sync_board.specs.Boards.{BoardState, Decides, place_in, after_report, after_finish}
 use Rattle.lb_database.specs.Measuring.{IsComplete, elements, report_of}
 use Rattle.chares.specs.declared.note.Note.{Note}
 use Rattle.chares.specs.declared.note.Note.TheVariants.{Sync, Finish}

@@ -10,7 +10,7 @@ use Rattle.pe_state.specs.Pes.{PeView, acting}
 use Rattle.chares.specs.Elements.{Refuses}
 use Rattle.pe_state.specs.Refusals.{RefusesStep, RefusesAct, RefusesResume}
 use Rattle.pup_pack.specs.declared.error.PupError.{PupError}
-use Rattle.at_sync.specs.Boards.{BoardState}
+use Rattle.sync_board.specs.Boards.{BoardState}
 use Rattle.rts_core.specs.Events.{LocalView, start_event, flush_event, due, depart_event, resume_event, pe_of, local_view}
 use Rattle.rts_core.specs.Worlds.{WorldView}
 use Rattle.rts_core.specs.declared.event.Event.{Event}

@@ -4,10 +4,10 @@
 use Rattle.std.specs.Prelude.{◌≡◌, ℕ, ◌+◌, ◌*◌, ◌/◌, ◌<◌, ◌≤◌, List, [], ◌∷◌, length, map, replicate, slice_get, slice_set, All, Option, None, Some}
 use Rattle.std.specs.List.{range_with_len}
 use Rattle.chare_index.specs.declared.limits.TheConstants.Limits.{ELEMENTS, PES}
-use Rattle.at_sync.specs.Boards.{BoardState, new_board}
+use Rattle.sync_board.specs.Boards.{BoardState, new_board}
 use Rattle.lb_database.specs.Measuring.{elements}
 use Rattle.pe_state.specs.Pes.{PeView, Parcel, new_pe, placed}
-use Rattle.at_sync.specs.declared.strategy.Strategy.{Strategy}
+use Rattle.sync_board.specs.declared.strategy.Strategy.{Strategy}
 
 -- the PEs, the parcels in the queue of each, front first, the PE on which each element is looked for, and the board
 pub record WorldView (C A : Type 0) : Type 0 where

@@ -1,3 +1,5 @@
+//! The events of a world.
+
 ghost use Rattle.std.specs.Prelude.{◌≡◌};
 ghost use Rattle.rts_core.specs.Events.{pe_of};
 

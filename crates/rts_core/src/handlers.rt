@@ -10,11 +10,11 @@ ghost use Rattle.rts_core.specs.Parts.{or_same};
 ghost use Rattle.rts_core.specs.Refusals.{RefusesStart, RefusesGoingOn};
 
 use crate::reports::Reports;
-use at_sync::Board;
 use chare_index::{Index, Limits, NoGate, Pe, Round};
 use chares::{Chare, Openings};
 use pe_state::{PeState, StepError};
 use std::alloc::Allocator;
+use sync_board::Board;
 
 /// Start: an element that has not started starts.
 pub(crate) fn start<C: Chare<A>, H: Openings<C>, A: Allocator + Copy>(

@@ -11,7 +11,7 @@ ghost use Rattle.pe_state.specs.Histories.{HasHistories};
 ghost use Rattle.rts_core.specs.Histories.{KeepsSent};
 ghost use Rattle.rts_core.specs.Ledgers.{Ledger, no_ledger, AddsUp, IsLocalAccount, IsUnused};
 ghost use Rattle.rts_core.specs.Runs.{ForEachRun, ForEachEvent};
-ghost use Rattle.at_sync.specs.declared.strategy.Strategy.{Strategy};
+ghost use Rattle.sync_board.specs.declared.strategy.Strategy.{Strategy};
 ghost use Rattle.rts_core.specs.Worlds.{WorldView, opening_pes, opening_world};
 
 use chares::Chare;

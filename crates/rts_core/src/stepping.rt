@@ -15,11 +15,11 @@ use crate::queue::Queue;
 use crate::reports::Reports;
 use crate::sync::{depart, report};
 use crate::transport::{deliver_at, flush, look};
-use at_sync::Board;
 use chare_index::Pe;
 use chares::{Chare, Openings};
 use pe_state::{PeState, StepError};
 use std::alloc::Allocator;
+use sync_board::Board;
 
 /// Makes the PE of an event take its step, and returns the trace entries. An event that is not enabled
 /// changes nothing.

@@ -13,12 +13,12 @@ ghost use Rattle.rts_core.specs.Refusals.{RefusesDecide};
 
 use crate::handlers::due_at;
 use crate::reports::Reports;
-use at_sync::Board;
 use chare_index::{Index, Limits, Pe, Round};
 use chares::{Chare, Note, Openings, StateBytes, TraceEntry};
 use lb_snapshot::Units;
 use pe_state::{PeState, StepError};
 use std::alloc::{AllocError, Allocator};
+use sync_board::Board;
 
 /// Report: the first note that the PE owes goes to the board.
 pub(crate) fn report<C: Chare<A>, H: Openings<C>, A: Allocator + Copy>(

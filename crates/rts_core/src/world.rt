@@ -3,6 +3,7 @@
 ghost use Rattle.std.specs.Prelude.{◌++◌, ◌+◌, ◌≡◌, ◌<◌, ◌≤◌, ℕ, List, [], length, OnOk, OnErr, IfOk, IfErr, IfSome, MatchOption, slice_get, All};
 ghost use Rattle.std.specs.Option.{option_copied};
 ghost use Rattle.lb_database.specs.Measuring.{elements};
+ghost use Rattle.sync_board.specs.declared.strategy.Strategy.TheVariants.{Least};
 ghost use Rattle.pe_state.specs.Pes.{PeView};
 ghost use Rattle.rts_core.specs.Events.{Happens, MayDecide, or_nothing, enabled, local_view};
 ghost use Rattle.chares.specs.declared.trace_entry.TraceEntry.{TraceEntry};
@@ -20,12 +21,12 @@ use crate::queue::Queue;
 use crate::reports::Reports;
 use crate::stepping::step_in;
 use crate::sync::decide;
-use at_sync::{Board, Strategy};
 use chare_index::{Index, Limits, Pe, Pes};
 use chares::{Chare, Openings};
 use pe_state::{PeState, StepError};
 use std::alloc::{AllocError, Allocator, Global};
 use std::marker::Model;
+use sync_board::{Board, Strategy};
 
 /// The PEs of a run with a queue before each, the location word of each element, and the board. A step that is refused leaves
 /// the world unchanged. Contracts see it as the record `WorldView`. Every element in it is what its journal says, wherever it
@@ -37,7 +38,7 @@ use std::marker::Model;
 /// queue of the other PE, taken from it and executed; the other letter waits in its outbox.
 ///
 /// ```text
-/// let mut world = World::new(rt.alloc(), 2, chares, Strategy::Least)?;
+/// let mut world = World::new(rt.alloc(), 2, chares)?;
 /// world.step(Event::Start(p0, e0))?;
 /// world.step(Event::Start(p1, e1))?;
 /// world.step(Event::Look(p0))?;
@@ -75,9 +76,22 @@ impl<C: Chare<A>, H: Openings<C>, A: Allocator> Model for World<C, H, A> {
 
 impl<C: Chare<A>, H: Openings<C>, A: Allocator + Copy> World<C, H, A> {
     /// The opening of a run: element `i` of `n`, not started, is on PE `i * pes / n`, rounded down, which is its location
-    /// word, and all else is empty; rounds are decided by `strategy`. There are 1 to 256 PEs and at most 65,536 chares, which
-    /// are those that the run opens with. Where memory is refused the chares are dropped.
-    pub fn new(
+    /// word, and all else is empty; rounds are decided by [`Strategy::Least`]. There are 1 to 256 PEs and at most 65,536
+    /// chares, which are those that the run opens with. Where memory is refused the chares are dropped.
+    pub fn new(alloc: A, pes: u32, chares: Vec<C, A>) -> Result<Self, AllocError>
+        requires some_pe { 1 ≤ pes }
+        requires few_pes { pes ≤ Limits.PES }
+        requires few { length chares.items ≤ Limits.ELEMENTS }
+        requires run { pes ≡ H.pes }
+        requires opened { chares.items ≡ H.opened }
+        ensures made { IfOk result (λ world. world ≡ opening_world pes chares.items Least) }
+        ensures history { IfOk result (λ world. AreHistories C.step C.fits C.pack H.opened world) }
+    {
+        World::with_strategy(alloc, pes, chares, Strategy::Least)
+    }
+
+    /// The opening of a run as [`new`](World::new) makes it, whose rounds are decided by `strategy`.
+    pub fn with_strategy(
         alloc: A,
         pes: u32,
         chares: Vec<C, A>,
@@ -96,7 +110,7 @@ impl<C: Chare<A>, H: Openings<C>, A: Allocator + Copy> World<C, H, A> {
         let states = opening_pes(alloc, count, chares)?;
         let queues = opening_queues(alloc, count)?;
         let words = opening_words(alloc, n, count)?;
-        let board = Board::new(alloc, n, pes, strategy)?;
+        let board = Board::with_strategy(alloc, n, pes, strategy)?;
         Ok(World {
             pes: states,
             queues,

@@ -2,7 +2,7 @@
 use Rattle.std.proofs.Common.{◌≡◌, ◌∙◌, ℕ, suc, ◌+◌, ◌≤◌, List, [], ◌∷◌, length, map, Some, arith, ap, refl}
 use Rattle.std.specs.Prelude.{slice_get}
 use Rattle.std.specs.List.{range_with_len}
-use Rattle.at_sync.specs.declared.strategy.Strategy.TheVariants.{Least}
+use Rattle.sync_board.specs.declared.strategy.Strategy.TheVariants.{Least}
 use Rattle.rts_core.specs.Worlds.{opening_pes}
 use Rattle.rts_core.proofs.OpeningWeights.{opening_numbered}
 

@@ -1,7 +1,7 @@
 -- The rounds of a board, by the number of its elements and of its PEs, and its strategy.
 use Rattle.std.proofs.Common.{◌≡◌, ℕ, subst}
-use Rattle.at_sync.specs.Boards.{AreDecided, BoardState, IsBoard}
-use Rattle.at_sync.specs.declared.strategy.Strategy.{Strategy}
+use Rattle.sync_board.specs.Boards.{AreDecided, BoardState, IsBoard}
+use Rattle.sync_board.specs.declared.strategy.Strategy.{Strategy}
 use Rattle.lb_database.specs.Measuring.{elements}
 
 pub decided_on : {A : Type 0} (b : BoardState A) (n pes : ℕ) (strategy : Strategy) → elements b.database ≡ n → b.pes ≡ pes → b.strategy ≡ strategy

@@ -1,3 +1,4 @@
 pub mod Configs
 pub mod Openings
 pub mod Outcomes
+pub mod Usual

@@ -1,8 +1,8 @@
 -- What a run begins with.
 use Rattle.std.specs.Prelude.{◌≡◌, ℕ, List, [], length, map, sum_by, All}
 use Rattle.std.specs.List.{range_with_len}
-use Rattle.at_sync.specs.Boards.{BoardState}
-use Rattle.at_sync.specs.declared.strategy.Strategy.{Strategy}
+use Rattle.sync_board.specs.Boards.{BoardState}
+use Rattle.sync_board.specs.declared.strategy.Strategy.{Strategy}
 use Rattle.chare_index.specs.declared.limits.TheConstants.Limits.{SEATS}
 use Rattle.lb_database.specs.Measuring.{elements}
 use Rattle.pe_queues.specs.Seats.{new_seat, pes, PostView, SeatView}
@@ -12,7 +12,7 @@ use Rattle.pe_state.specs.Pes.{Parcel}
 use Rattle.pe_worker.specs.Seated.{Beginning}
 use Rattle.run_account.specs.RunAccounts.{IsRunAccount, left_world}
 
--- A run of these chares on so many PEs begins so, whether it opens or is carried on: with PEs in order whose account holds, an empty
+-- A run of these chares on this many PEs begins so, whether it opens or is carried on: with PEs in order whose account holds, an empty
 -- queue for each of them, and all seats shared out among them.
 pub record IsBeginning {C : Type 0} (step : Step C) (count : ℕ) (chares : List C) (run : Beginning C) : Type 0 where
   pub account : IsRunAccount step chares (left_world run.starts [])

@@ -2,8 +2,8 @@
 use Rattle.std.specs.Prelude.{◌≡◌, ◌≢◌, ℕ, List, [], ◌∷◌, length, map, Option, None, Some, IfSome}
 use Rattle.std.specs.List.{range_with_len}
 use Rattle.std.specs.Option.{option_or}
-use Rattle.at_sync.specs.Boards.{AreDecided, BoardState, IsBoard, HaveFinished}
-use Rattle.at_sync.specs.declared.strategy.Strategy.{Strategy}
+use Rattle.sync_board.specs.Boards.{AreDecided, BoardState, IsBoard, HaveFinished}
+use Rattle.sync_board.specs.declared.strategy.Strategy.{Strategy}
 use Rattle.chares.specs.Elements.{Refuses}
 use Rattle.chares.specs.Steps.{Step}
 use Rattle.lb_database.specs.Measuring.{elements}
@@ -18,6 +18,9 @@ use Rattle.round_marks.specs.Runs.{AreAllMarked}
 use Rattle.rts_core.specs.Histories.{AreHistories}
 use Rattle.rts_core.specs.Orders.{AreInOrder}
 use Rattle.run_account.specs.RunAccounts.{IsRunAccount, left_world}
+use Rattle.rts_run.specs.declared.options.Idle.{Idle}
+use Rattle.rts_run.specs.declared.options.Idle.TheVariants.{Turns}
+use Rattle.rts_run.specs.declared.options.Idle.TheVariants as Idle
 
 -- the PE on which each element opened; its PEs, in order; what is left in the queue of each, front first; the board, with what was
 -- kept of each round that was decided; and the fault that ended it, if one did
@@ -57,3 +60,8 @@ pub record IsOutcome {C A : Type 0} (step : Step C) (fits : C → Type 0) (pack 
   pub finished : o.fault ≡ None → HaveFinished o.board
   pub all_finished : o.fault ≡ None → HaveAllFinished o.ends o.left
   pub quiet : o.fault ≡ Some Quiet → IsQuiet o.board o.ends o.left
+
+-- where workers end idle by their turns alone, the fault is never that nothing was left to do
+abbrev pub EndsIdle : {C A : Type 0} → Idle → OutcomeView C A → Type 0
+EndsIdle Turns o = o.fault ≢ Some Quiet
+EndsIdle Idle.Quiet o = Unit {0}

@@ -1,16 +1,13 @@
+//! The settings of a run.
+
 ghost use Rattle.std.specs.Prelude.{◌≡◌, ◌≤◌, IsTrue, ◌↔◌, MatchOption};
-ghost use Rattle.at_sync.specs.declared.strategy.Strategy.TheVariants.{Least};
-ghost use Rattle.chare_index.specs.declared.limits.TheConstants.Limits.{BODY_BYTES};
-ghost use Rattle.chares.specs.declared.history.History.TheVariants.{Kept};
 ghost use Rattle.rts_run.specs.Configs.{IsFirstOutside, IsWithin, MayBegin};
 
 use crate::error::Setting;
-use at_sync::Strategy;
 use chare_index::Limits;
-use chares::{BodyLimit, History};
 
-/// The numbers of a run, and how its rounds are decided.
-#[derive(Clone, Copy, Debug, PartialEq)]
+/// The numbers of a run.
+#[derive(Clone, Copy, Debug, PartialEq, Eq)]
 pub struct Config {
     /// The number of PEs, 1 to [`Limits::PES`]. Each has a thread of its own.
     pub pes: u32,
@@ -28,23 +25,14 @@ pub struct Config {
     /// The most workers that decide a round, 1 to [`Limits::PROBE_WORKERS`]. With few PEs a single worker is faster, and only one
     /// is used.
     pub probe_workers: u32,
-    /// How many bytes the body of a letter may have. A handler that posts a longer one is refused.
-    pub longest: BodyLimit,
-    /// How each round is decided.
-    pub strategy: Strategy,
-    /// Whether elements keep what they have handled. Where they do, each letter takes memory until the run ends; where they do not,
-    /// an element settles its journal: [`Annals`](chares::Annals) counts what is settled, and keeps the rest. What is said of
-    /// journals holds of either.
-    pub history: History,
 }
 
 impl Config {
     /// The usual numbers of a run on this number of PEs, 1 to [`Limits::PES`]: queues with capacity for 1,024 parcels, rounds
-    /// decided by [`Strategy::Least`] with up to 4 workers, PE workers that give up after 1,000,000,000 idle turns in a row, about
-    /// five minutes, letters with bodies of up to 1,024 bytes, and elements that keep what they have handled. A program whose handlers
-    /// take as long sets [`turns`](Config::turns) higher.
+    /// decided by up to 4 workers, and PE workers that give up after 1,000,000,000 idle turns in a row, about five minutes. A
+    /// program whose handlers take as long sets [`turns`](Config::turns) higher.
     pub fn usual(pes: u32) -> Self
-        ensures value { result ≡ record { pes = pes; capacity = 1024; turns = 1000000000; probe_workers = 4; longest = BODY_BYTES; strategy = Least; history = Kept } }
+        ensures value { result ≡ record { pes = pes; capacity = 1024; turns = 1000000000; probe_workers = 4 } }
         ensures within { 1 ≤ pes → pes ≤ Limits.PES → IsWithin result }
     {
         Config {
@@ -52,9 +40,6 @@ impl Config {
             capacity: 1_024,
             turns: 1_000_000_000,
             probe_workers: 4,
-            longest: BodyLimit::usual(),
-            strategy: Strategy::Least,
-            history: History::Kept,
         }
     }
 

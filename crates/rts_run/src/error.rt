@@ -1,3 +1,5 @@
+//! Why a run does not begin.
+
 ghost use Rattle.std.specs.Prelude.{◌≡◌};
 ghost use Rattle.rts_run.specs.Configs.{error_number};
 

@@ -1,10 +1,11 @@
 //! A run over threads: a worker for each PE, the queues and location words between them, and the board under its lock.
 //!
-//! - [`run`]: runs chares until every one has finished, or a fault is met.
-//! - [`run_watched`]: the same, observed by a [`Watch`].
-//! - [`Config`]: on how many PEs, with which limits (a [`BodyLimit`] among them), how rounds are decided (a [`Strategy`], within a
-//!   [`Tolerance`]), and whether elements keep what they have handled (a [`History`]).
-//! - [`Outcome`]: what a run left. Nothing is lost, whatever the schedule was and whatever went wrong.
+//! - [`run`]: runs chares until every one has finished, or a fault is met; [`Config`]: on how many PEs, and with which limits.
+//! - [`run_with`]: a run with other [`Options`] than the usual ones: how long letters may be (a [`BodyLimit`]), how rounds are decided
+//!   (a [`Strategy`], within a [`Tolerance`]), whether elements keep what they have handled (a [`History`]), and what happens where
+//!   workers find nothing to do ([`Idle`]).
+//! - [`run_watched`]: such a run, observed by a [`Watch`].
+//! - [`Outcome`], with a [`PeEnd`] for each PE: what a run left. Nothing is lost, whatever the schedule was and whatever went wrong.
 //! - [`OpenedRun`], with [`open_post`] and [`run_opened`]: what a run begins with, for one that opens in another way.
 //! - [`RunError`]: why a run did not begin, with the [`Setting`] that is out of its limits. [`Fault`]: why one ended early.
 //!
@@ -33,16 +34,19 @@ mod counting;
 mod error;
 mod gathering;
 mod opened_run;
+mod options;
 mod outcome;
 mod running;
 mod workers;
 
-pub use at_sync::Strategy;
 pub use chain_refinement::Tolerance;
 pub use chares::{BodyLimit, History};
 pub use config::Config;
 pub use error::{RunError, Setting};
 pub use opened_run::{OpenedRun, open_post};
+pub use options::{Idle, Options};
 pub use outcome::Outcome;
+pub use pe_state::PeEnd;
 pub use pe_worker::{Fault, NoWatch, PeStep, Watch};
-pub use running::{run, run_opened, run_watched};
+pub use running::{run, run_opened, run_watched, run_with};
+pub use sync_board::Strategy;

@@ -10,8 +10,8 @@ ghost use Rattle.rts_run.specs.Configs.{IsWithin};
 ghost use Rattle.rts_run.specs.Openings.{AreNewSeats, AreOfRun, IsBeginning};
 
 use crate::config::Config;
+use crate::options::{Idle, Options};
 use crate::workers::open_workers;
-use at_sync::Board;
 use barrier::RunStrategy;
 use chare_index::{Limits, Pe, Pes};
 use chares::{Chare, Openings};
@@ -22,6 +22,7 @@ use rts_core::{opening_pes, opening_words};
 use std::alloc::{AllocError, Allocator};
 use std::collections::VecDeque;
 use std::marker::Model;
+use sync_board::{Board, Strategy};
 
 /// A run that has opened, or opened again, before its workers begin: its queues with a seat for each PE, its PEs, a location word for
 /// each element, and its board. Contracts see its beginning.
@@ -53,13 +54,14 @@ impl<C: Chare<A>, H: Openings<C> + RunStrategy, A: Allocator + Copy> OpenedRun<C
     pub(crate) fn new(
         alloc: A,
         config: &Config,
+        strategy: Strategy,
         chares: Vec<C, A>,
     ) -> Result<(Self, Vec<Pe, A>), AllocError>
         requires within { IsWithin config.now }
         requires few { length chares.items ≤ Limits.ELEMENTS }
         requires run { config.now.pes ≡ H.pes }
         requires opened { chares.items ≡ H.opened }
-        requires by_strategy { config.now.strategy ≡ H.strategy }
+        requires by_strategy { strategy ≡ H.strategy }
         ensures capacity { IfOk result (λ made. made.0.post.capacity ≡ config.now.capacity) }
         ensures homes { IfOk result (λ made. made.1.items ≡ opening_words (length H.opened) H.pes) }
     {
@@ -67,7 +69,7 @@ impl<C: Chare<A>, H: Openings<C> + RunStrategy, A: Allocator + Copy> OpenedRun<C
         let pes = Pes::of(config.pes);
         let homes = opening_words(alloc, n, pes)?;
         let words = Locations::<OfRun<C, H>, A>::new(alloc, &homes, config.pes)?;
-        let board = Board::new(alloc, n, config.pes, config.strategy)?;
+        let board = Board::with_strategy(alloc, n, config.pes, strategy)?;
         let (post, seats) = open_post::<C, H, A>(alloc, config)?;
         let states = opening_pes(alloc, pes, chares)?;
         let opened = OpenedRun {
@@ -108,6 +110,7 @@ impl<C: Chare<A>, H: Openings<C> + RunStrategy, A: Allocator + Copy> OpenedRun<C
         self,
         alloc: A,
         config: &Config,
+        options: &Options,
     ) -> Result<(Field<C, H, J, A>, VecDeque<Worker<C, H, J, A>, A>), AllocError>
         requires beginning { self ≡ J.beginning }
         requires within { IsWithin config.now }
@@ -124,14 +127,15 @@ impl<C: Chare<A>, H: Openings<C> + RunStrategy, A: Allocator + Copy> OpenedRun<C
             board,
         } = self;
         let (states, seats) = (VecDeque::from_vec(states), VecDeque::from_vec(seats));
-        let workers = open_workers::<C, H, J, A>(alloc, config, &board, states, seats)?;
+        let workers = open_workers::<C, H, J, A>(alloc, config, options, &board, states, seats)?;
         let field = Field::new(
             alloc,
             post,
             words,
             board,
             config.turns,
-            config.history,
+            options.idle == Idle::Quiet,
+            options.history,
             config.probe_workers,
         )?;
         Ok((field, workers))

@@ -2,7 +2,7 @@
 
 ghost use Rattle.std.specs.Prelude.{◌≡◌, ◌+◌, ◌≤◌, length, map};
 ghost use Rattle.chare_index.specs.declared.limits.TheConstants.Limits.{PES};
-ghost use Rattle.at_sync.specs.Boards.{IsBoard};
+ghost use Rattle.sync_board.specs.Boards.{IsBoard};
 ghost use Rattle.rts_core.specs.Accounts.{IsCounted, posted_count, executed_count, held_count};
 ghost use Rattle.run_account.specs.RunAccounts.{left_world};
 ghost use Rattle.lb_database.specs.Measuring.{elements};
@@ -12,7 +12,6 @@ ghost use Rattle.std.specs.List.{range_with_len};
 ghost use Rattle.std.specs.Option.{option_copied};
 
 use crate::counting::{held_by, posted_by, queued_in};
-use at_sync::Board;
 use chare_index::{Index, Pe};
 use chares::{Chare, Element};
 use lb_refinement::Refined;
@@ -22,6 +21,7 @@ use pe_worker::Fault;
 use rts_core::Account;
 use std::alloc::{Allocator, Global};
 use std::marker::Model;
+use sync_board::Board;
 
 /// What a run left: the PE on which each element opened, its PEs as their workers ended, the parcels in their queues, the board with
 /// each round that was decided, and the fault that ended the run early, if one did. Its type does not name the run, so that it may be handed on freely; the

@@ -2,7 +2,7 @@
 
 ghost use Rattle.std.specs.Prelude.{◌≡◌, ◌≢◌, ◌≤◌, IfOk, IfSome, IsTrue, MatchResult, None, Some, length, map};
 ghost use Rattle.std.specs.VecDeque.{deque_len};
-ghost use Rattle.at_sync.specs.Boards.{HaveFinished};
+ghost use Rattle.sync_board.specs.Boards.{HaveFinished};
 ghost use Rattle.pe_worker.specs.Causes.{HasCause};
 ghost use Rattle.pe_worker.specs.declared.fault.Fault.TheVariants.{Mismatch, Quiet, Stopped, Unpack};
 ghost use Rattle.round_marks.specs.Finished.{HaveAllFinished};
@@ -12,14 +12,16 @@ ghost use Rattle.rts_core.specs.Accounts.{IsCounted};
 ghost use Rattle.rts_core.specs.Worlds.{opening_words};
 ghost use Rattle.run_account.specs.RunAccounts.{left_world};
 ghost use Rattle.rts_run.specs.Configs.{IsWithin, MayBegin, RefusesRun};
-ghost use Rattle.rts_run.specs.Outcomes.{IsOutcome};
+ghost use Rattle.rts_run.specs.Outcomes.{EndsIdle, IsOutcome};
+ghost use Rattle.rts_run.specs.Usual.{usual_options};
+ghost use Rattle.rts_run.specs.declared.options.Idle.TheVariants as Idle;
 
 use crate::config::Config;
 use crate::error::RunError;
 use crate::gathering::gather;
 use crate::opened_run::OpenedRun;
+use crate::options::{Idle, Options};
 use crate::outcome::Outcome;
-use at_sync::Board;
 use barrier::RunStrategy;
 use chare_index::{Gate, Limits, Pe};
 use chares::{Chare, Openings};
@@ -32,21 +34,23 @@ use std::collections::VecDeque;
 use std::marker::Brand;
 use std::sync::Wait;
 use std::thread::Threads;
+use sync_board::Board;
 use worker_threads::Crew;
 
 /// Runs chares on PEs until every one has finished, or a fault is met, and gives what is left. Element `i` is the `i`-th
 /// chare, and opens on PE `i * pes / n`, rounded down, of `n` elements. Each PE has a worker in a thread of its own; the
 /// handlers are handed the gate, and pass it with what numbers they like. The probe workers that decide a round pass it too,
 /// each with its number below `probe_workers`, while one of them waits for the others under the lock of the board: so a gate
-/// that waits there holds up every worker that reports. With no chare the run ends at once.
+/// that waits there holds up every worker that reports. With no chare the run ends at once. It has the
+/// [usual options](Options::usual): [`run_with`] takes others.
 ///
 /// Whatever the schedule was and whatever went wrong, the outcome loses nothing: the clause `outcome` says what holds of it. Its
 /// fields are: `account`, where each letter is; `histories`, what each element is; `in_order`, that each started before its first
 /// letter, and then waited and was resumed for each round in turn; `rounds`, what was decided, on a board of these chares and PEs
-/// (`elements`, `on_pes`) that decides as the config says (`by_strategy`); and `marks`, that the elements started on their homes (`homes`),
+/// (`elements`, `on_pes`) that decides as the options say (`by_strategy`); and `marks`, that the elements started on their homes (`homes`),
 /// and were measured and placed as the rounds say, unless its fault is [`Mismatch`](Fault::Mismatch). That comes only where they were not (`mismatch`), and in
 /// place of any other. Else the fault is that of the lowest PE whose worker met one, and has a cause (`cause`). Where it is
-/// [`Quiet`](Fault::Quiet), nothing was left to do (`quiet`). Without one every element has finished (`all_finished`), and the board
+/// [`Quiet`](Fault::Quiet), nothing was left to do (`quiet`), and the options ask for that fault (`idle`). Without one every element has finished (`all_finished`), and the board
 /// was told so (`finished`).
 ///
 /// # Errors
@@ -61,13 +65,41 @@ pub fn run<
     A: Allocator + Copy + Send + Sync,
 >(rt: &R, alloc: A, config: &Config, gate: &G, chares: Vec<C, A>) -> Result<Outcome<C, A>, RunError>
     ensures answer { MatchResult result (λ _. MayBegin config.now (length chares.items)) (RefusesRun config.now (length chares.items)) }
-    ensures outcome { IfOk result (IsOutcome C.step C.fits C.pack C.refuses chares.items config.now.pes config.now.strategy) }
+    ensures outcome { IfOk result (IsOutcome C.step C.fits C.pack C.refuses chares.items config.now.pes usual_options.strategy) }
+    ensures idle { IfOk result (EndsIdle usual_options.idle) }
     ensures homes { IfOk result (λ o. o.homes ≡ opening_words (length chares.items) config.now.pes) }
 {
-    run_watched(rt, alloc, config, gate, &NoWatch, chares)
+    let options = Options::usual();
+    run_with(rt, alloc, config, &options, gate, chares)
 }
 
-/// Runs chares as [`run`] does, while a [`Watch`](crate::Watch) is called for each round as it is decided.
+/// Runs chares as [`run`] does, with these options in place of the usual ones.
+///
+/// # Errors
+///
+/// Those of [`run`].
+pub fn run_with<
+    C: Chare<A> + Send,
+    G: Gate + Sync,
+    R: Threads + Wait + Sync,
+    A: Allocator + Copy + Send + Sync,
+>(
+    rt: &R,
+    alloc: A,
+    config: &Config,
+    options: &Options,
+    gate: &G,
+    chares: Vec<C, A>,
+) -> Result<Outcome<C, A>, RunError>
+    ensures answer { MatchResult result (λ _. MayBegin config.now (length chares.items)) (RefusesRun config.now (length chares.items)) }
+    ensures outcome { IfOk result (IsOutcome C.step C.fits C.pack C.refuses chares.items config.now.pes options.now.strategy) }
+    ensures idle { IfOk result (EndsIdle options.now.idle) }
+    ensures homes { IfOk result (λ o. o.homes ≡ opening_words (length chares.items) config.now.pes) }
+{
+    run_watched(rt, alloc, config, options, gate, &NoWatch, chares)
+}
+
+/// Runs chares as [`run_with`] does, while a [`Watch`](crate::Watch) is called for each round as it is decided.
 ///
 /// # Errors
 ///
@@ -82,18 +114,20 @@ pub fn run_watched<
     rt: &R,
     alloc: A,
     config: &Config,
+    options: &Options,
     gate: &G,
     watch: &V,
     chares: Vec<C, A>,
 ) -> Result<Outcome<C, A>, RunError>
     ensures answer { MatchResult result (λ _. MayBegin config.now (length chares.items)) (RefusesRun config.now (length chares.items)) }
-    ensures outcome { IfOk result (IsOutcome C.step C.fits C.pack C.refuses chares.items config.now.pes config.now.strategy) }
+    ensures outcome { IfOk result (IsOutcome C.step C.fits C.pack C.refuses chares.items config.now.pes options.now.strategy) }
+    ensures idle { IfOk result (EndsIdle options.now.idle) }
     ensures homes { IfOk result (λ o. o.homes ≡ opening_words (length chares.items) config.now.pes) }
 {
     if let Some(setting) = config.first_outside(chares.len()) {
         return Err(RunError::Config(setting));
     }
-    match run_as::<C, Brand, G, V, R, A>(rt, alloc, config, gate, watch, chares) {
+    match run_as::<C, Brand, G, V, R, A>(rt, alloc, config, options, gate, watch, chares) {
         Ok(outcome) => Ok(outcome),
         Err(_) => Err(RunError::OutOfMemory),
     }
@@ -111,6 +145,7 @@ fn run_as<
     rt: &R,
     alloc: A,
     config: &Config,
+    options: &Options,
     gate: &G,
     watch: &V,
     chares: Vec<C, A>,
@@ -119,12 +154,13 @@ fn run_as<
     requires few { length chares.items ≤ Limits.ELEMENTS }
     requires run { config.now.pes ≡ H.pes }
     requires opened { chares.items ≡ H.opened }
-    requires by_strategy { config.now.strategy ≡ H.strategy }
+    requires by_strategy { options.now.strategy ≡ H.strategy }
     ensures outcome { IfOk result (IsOutcome C.step C.fits C.pack C.refuses H.opened H.pes H.strategy) }
+    ensures idle { IfOk result (EndsIdle options.now.idle) }
     ensures homes { IfOk result (λ o. o.homes ≡ opening_words (length H.opened) H.pes) }
 {
-    let (opened, homes) = OpenedRun::<C, H, A>::new(alloc, config, chares)?;
-    run_opened(rt, alloc, config, gate, watch, opened, homes)
+    let (opened, homes) = OpenedRun::<C, H, A>::new(alloc, config, options.strategy, chares)?;
+    run_opened(rt, alloc, config, options, gate, watch, opened, homes)
 }
 
 /// The run of PEs that have opened, under a name of its beginning that it picks. `homes` has the PE on which each element opened, by
@@ -141,6 +177,7 @@ pub fn run_opened<
     rt: &R,
     alloc: A,
     config: &Config,
+    options: &Options,
     gate: &G,
     watch: &V,
     opened: OpenedRun<C, H, A>,
@@ -150,12 +187,13 @@ pub fn run_opened<
     requires run { config.now.pes ≡ H.pes }
     requires capacity { opened.post.capacity ≡ config.now.capacity }
     ensures outcome { IfOk result (IsOutcome C.step C.fits C.pack C.refuses H.opened H.pes H.strategy) }
+    ensures idle { IfOk result (EndsIdle options.now.idle) }
     ensures homes { IfOk result (λ o. o.homes ≡ homes.items) }
 {
-    run_named::<C, H, Brand, G, V, R, A>(rt, alloc, config, gate, watch, opened, homes)
+    run_named::<C, H, Brand, G, V, R, A>(rt, alloc, config, options, gate, watch, opened, homes)
 }
 
-// The same, under this name.
+// Runs what was opened. `J` is the type that names the beginning of the run.
 fn run_named<
     C: Chare<A> + Send,
     H: Openings<C> + RunStrategy + Send + Sync,
@@ -168,6 +206,7 @@ fn run_named<
     rt: &R,
     alloc: A,
     config: &Config,
+    options: &Options,
     gate: &G,
     watch: &V,
     opened: OpenedRun<C, H, A>,
@@ -178,13 +217,14 @@ fn run_named<
     requires run { config.now.pes ≡ H.pes }
     requires capacity { opened.post.capacity ≡ config.now.capacity }
     ensures outcome { IfOk result (IsOutcome C.step C.fits C.pack C.refuses H.opened H.pes H.strategy) }
+    ensures idle { IfOk result (EndsIdle options.now.idle) }
     ensures homes { IfOk result (λ o. o.homes ≡ homes.items) }
 {
     let count = config.pes as usize;
     let room = Vec::with_capacity(alloc, count)?;
     let left = LeftBuffers::new(alloc, count, config.capacity as usize)?;
     let crew = Crew::with_capacity(alloc, count)?;
-    let (field, workers) = opened.begin::<J>(alloc, config)?;
+    let (field, workers) = opened.begin::<J>(alloc, config, options)?;
     let mut done = work_all(rt, gate, watch, &field, crew, workers);
     let Some(first) = take_next(&mut done) else {
         unreachable!()
@@ -192,7 +232,7 @@ fn run_named<
     let (gathered, fault) = gather(field.post(), first, done, room);
     let (post, board) = field.into_parts();
     let (ends, left) = gathered.settled(rt, post, left);
-    Ok(ended::<C, H, A>(homes, ends, left, board, fault))
+    Ok(ended::<C, H, A>(homes, ends, left, board, options.idle, fault))
 }
 
 // Lets each worker work in a thread of its own.
@@ -228,6 +268,7 @@ fn ended<C: Chare<A>, H: Openings<C>, A: Allocator>(
     ends: Vec<PeEnd<C, A>, A>,
     left: Vec<Vec<HeldParcel<A>, A>, A>,
     board: Board<A>,
+    idle: Idle,
     met: Option<Fault>,
 ) -> Outcome<C, A>
     requires few_pes { length ends.items ≤ Limits.PES }
@@ -244,10 +285,11 @@ fn ended<C: Chare<A>, H: Openings<C>, A: Allocator>(
     ensures finished { result.fault ≡ None → HaveFinished result.board }
     ensures all_finished { result.fault ≡ None → HaveAllFinished result.ends result.left }
     ensures quiet { result.fault ≡ Some Quiet → IsQuiet result.board result.ends result.left }
+    ensures idle { EndsIdle idle result }
 {
     if run_agrees(&board, &homes, &ends, &left) {
         let finished = all_finished(&board, &ends, &left);
-        let quiet = is_quiet(&board, &ends, &left, met);
+        let quiet = is_quiet(&board, &ends, &left, idle, met);
         let fault = fault_at_end::<C, H, A>(finished, quiet, met);
         return Outcome::new(homes, ends, left, board, fault);
     }
@@ -266,17 +308,19 @@ fn all_finished<C: Chare<A>, A: Allocator>(
     board.all_finished() && run_finished(ends, left)
 }
 
-// Whether nothing was left to do, where a worker found so.
+// Whether nothing was left to do, where a worker was to look for that, and found so.
 fn is_quiet<C: Chare<A>, A: Allocator>(
     board: &Board<A>,
     ends: &[PeEnd<C, A>],
     left: &[Vec<HeldParcel<A>, A>],
+    idle: Idle,
     met: Option<Fault>,
 ) -> bool
+    ensures asked { IsTrue result → idle ≡ Idle.Quiet }
     ensures quiet { IsTrue result → IsQuiet board.now ends.now (map (λ q. q.items) left.now) }
-    ensures all { met ≡ Some Quiet → IsQuiet board.now ends.now (map (λ q. q.items) left.now) → IsTrue result }
+    ensures all { idle ≡ Idle.Quiet → met ≡ Some Quiet → IsQuiet board.now ends.now (map (λ q. q.items) left.now) → IsTrue result }
 {
-    met == Some(Fault::Quiet) && run_is_quiet(board, ends, left)
+    idle == Idle::Quiet && met == Some(Fault::Quiet) && run_is_quiet(board, ends, left)
 }
 
 // The fault of a run whose first worker that met a fault met this one. That nothing was left to do has to show in what was left. Where

@@ -6,7 +6,7 @@ ghost use Rattle.std.specs.VecDeque.{deque_len};
 ghost use Rattle.pe_queues.specs.Seats.{new_seat, pes};
 
 use crate::config::Config;
-use at_sync::Board;
+use crate::options::Options;
 use barrier::RunStrategy;
 use chares::{BodyLimit, Chare, Openings};
 use pe_queues::Seat;
@@ -15,6 +15,7 @@ use pe_worker::{Agenda, RunBeginning, SeatedPe, Worker};
 use run_account::take_next;
 use std::alloc::{AllocError, Allocator};
 use std::collections::VecDeque;
+use sync_board::Board;
 
 /// A worker for each PE, in order, with its seat and its agenda. The only error is that memory was refused.
 pub(crate) fn open_workers<
@@ -25,6 +26,7 @@ pub(crate) fn open_workers<
 >(
     alloc: A,
     config: &Config,
+    options: &Options,
     board: &Board<A>,
     mut states: VecDeque<PeState<C, H, A>, A>,
     mut seats: VecDeque<Seat<Parcel<C, H, A>, A>, A>,
@@ -45,7 +47,7 @@ pub(crate) fn open_workers<
             unreachable!()
         };
         let agenda = Agenda::new(alloc, &pe, board, config.pes)?;
-        let seated = seated(pe, seat, config.longest);
+        let seated = seated(pe, seat, options.longest);
         workers.push_back_reserved(Worker::new(seated, agenda));
     }
     Ok(workers)
@@ -53,7 +55,7 @@ pub(crate) fn open_workers<
 
 // A PE with its seat, on which letters are posted with bodies of up to this length.
 fn seated<C: Chare<A>, H: Openings<C> + RunStrategy, J: RunBeginning<C>, A: Allocator + Copy>(
-    mut pe: PeState<C, H, A>,
+    pe: PeState<C, H, A>,
     seat: Seat<Parcel<C, H, A>, A>,
     longest: BodyLimit,
 ) -> SeatedPe<C, H, J, A>
@@ -61,8 +63,9 @@ fn seated<C: Chare<A>, H: Openings<C> + RunStrategy, J: RunBeginning<C>, A: Allo
     requires seat { seat ≡ new_seat J.beginning.post seat.seats }
     requires share { slice_get J.beginning.shares pe.me ≡ Some seat.seats }
     requires served { pes J.beginning.post ≡ H.pes }
-    ensures made { result ≡ record { pe = pe; seat = seat } }
+    ensures made { result ≡ record { pe = record pe { longest = longest }; seat = seat } }
 {
-    pe.set_longest(longest);
-    SeatedPe::new(pe, seat)
+    let mut seated = SeatedPe::new(pe, seat);
+    seated.set_longest(longest);
+    seated
 }

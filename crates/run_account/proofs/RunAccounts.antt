@@ -9,7 +9,7 @@ use Rattle.std.proofs.lemmas.List.Elements.{All-nil, All-cons, All-head, All-tai
 use Rattle.std.proofs.lemmas.List.FromFn.{length-map-range_with_len}
 use Rattle.std.proofs.lemmas.List.Sums.{sum_by-cons}
 use Rattle.chare_index.specs.declared.limits.TheConstants.Limits.{SEATS}
-use Rattle.at_sync.specs.Boards.{BoardState}
+use Rattle.sync_board.specs.Boards.{BoardState}
 use Rattle.chares.specs.Letters.{LetterView}
 use Rattle.chares.specs.Steps.{Step}
 use Rattle.pe_state.specs.Pes.{PeView, Parcel}

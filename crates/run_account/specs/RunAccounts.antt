@@ -4,7 +4,7 @@
 use Rattle.std.specs.Prelude.{◌≡◌, ℕ, ◌+◌, ◌<◌, List, [], length, map, sum_by, slice_get, nat_lt, ◌==◌, if◌then◌else◌}
 use Rattle.std.specs.List.{flat_map}
 use Rattle.std.specs.Option.{option_map_or}
-use Rattle.at_sync.specs.Boards.{new_board}
+use Rattle.sync_board.specs.Boards.{new_board}
 use Rattle.chares.specs.Letters.{LetterView}
 use Rattle.chares.specs.Steps.{Step}
 use Rattle.pe_state.specs.Pes.{PeView, Parcel}
@@ -13,7 +13,7 @@ use Rattle.rts_core.specs.Accounts.{times, is_number, AreSent, IsCounted}
 use Rattle.rts_core.specs.Own.{AreOwn}
 use Rattle.rts_core.specs.Places.{letters, journaled, lives}
 use Rattle.rts_core.specs.Worlds.{WorldView}
-use Rattle.at_sync.specs.declared.strategy.Strategy.TheVariants.{Least}
+use Rattle.sync_board.specs.declared.strategy.Strategy.TheVariants.{Least}
 
 -- what a run left, as a world whose location words and board do not matter: its PEs, and what is left in the queue of
 -- each

@@ -56,7 +56,7 @@ impl<C: Chare<A>, H: Openings<C>, J: RunBeginning<C>, A: Allocator> Gathered<C, 
         }
     }
 
-    /// The same with one more PE, the next in order, in a buffer that has the capacity. This takes no memory.
+    /// Adds the next PE in order. The buffer has the capacity, so this takes no memory.
     pub fn with(self, post: &Post<Parcel<C, H, A>, A>, next: SeatedPe<C, H, J, A>) -> Self
         requires own { post.now ≡ J.beginning.post }
         requires next { next.pe.me ≡ length self.ends }

@@ -1,3 +1,5 @@
+//! Takes the first value of a list, with a contract that loops can use.
+
 ghost use Rattle.std.specs.Prelude.{◌≡◌, ◌∷◌, [], MatchOption};
 
 use std::alloc::Allocator;

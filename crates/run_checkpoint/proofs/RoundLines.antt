@@ -16,7 +16,7 @@ lines_more r (e ∷ decided) d =
     ap (λ t. decided_line r e ++ t) (lines_more (r + 1) decided d ∙ ap (λ n. round_lines (r + 1) decided ++ decided_line n d) (omega arith))
     ∙ sym (append_assoc (decided_line r e) (round_lines (r + 1) decided) (decided_line (r + length (e ∷ decided)) d))
 
--- the first i of so many rounds are read
+-- the first i of this many rounds are read
 pub record Before (bytes : List ℕ) (decided : List DecidedRound) (i : ℕ) (rest : List ℕ) : Type 0 where
   pub spelled : bytes ≡ round_lines 1 decided ++ rest
   pub counted : length decided ≡ i

@@ -31,7 +31,7 @@ module _ {E : Type 0} where
   nothing Q old text (Ok done) is = absurd is
   nothing Q old text (Err e) is = ([], text, refl, Appends-nil old)
 
-  -- the same text, spelled in another way
+  -- a text that equals the one that was written
   pub spelled : (old new : Option (List ℕ)) (text other : List ℕ) (result : Result ⊤ E) → text ≡ other → Puts old new text result → Puts old new other result
   spelled old new text other result same puts = subst (λ t. Puts old new t result) same puts
 

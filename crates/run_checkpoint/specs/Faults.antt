@@ -43,7 +43,7 @@ pub record IsRoundForm (d : DecidedRound) : Type 0 where
   pub bottleneck : IsShort d.bottleneck
   pub moved : IsShort d.moved
 
--- so many rounds, each within its limits
+-- this many rounds, each within its limits
 pub record AreRounds (count : ℕ) (decided : List DecidedRound) : Type 0 where
   pub counted : length decided ≡ count
   pub all : All IsDecided decided
@@ -69,7 +69,7 @@ IsApart decided places w (Limit n) =
     ⊎ ((n ≡ length decided + 2) × AreItsRounds decided w × (AreItsPlaces places w → ⊥))
 IsApart decided places w e = ⊥
 
--- a fault of a workload, of a line with so many lines more before it
+-- a fault of a workload, of a line with this many lines more before it
 abbrev pub shifted : WorkError → ℕ → CheckpointError
 shifted (WorkError.Form n) before = Form (min 4294967295 (n + before))
 shifted (WorkError.Limit n) before = Limit (min 4294967295 (n + before))
@@ -77,7 +77,7 @@ shifted WorkError.Long before = Long
 shifted WorkError.Read before = Read
 shifted WorkError.OutOfMemory before = OutOfMemory
 
--- the text of the workload, before which there are so many lines, has a fault
+-- the text of the workload, before which there are this many lines, has a fault
 pub record IsBadWorkload (before : ℕ) (bytes : List ℕ) (e : CheckpointError) : Type 0 where
   pub fault : WorkError
   pub has : IsWorkloadFault bytes fault
@@ -107,17 +107,17 @@ IsPlacesFault decided bytes e =
 abbrev pub IsBadRound : ℕ → List ℕ → CheckpointError → Type 0
 IsBadRound r bytes e = IsBadLine IsRoundForm IsDecided (decided_line r) (r + 1) bytes e
 
--- fewer than so many rounds, each within its limits
+-- fewer than this many rounds, each within its limits
 pub record AreFewRounds (count : ℕ) (decided : List DecidedRound) : Type 0 where
   pub few : length decided < count
   pub all : All IsDecided decided
 
--- of so many lines of rounds the first faulty one has this fault
+-- of this many lines of rounds the first faulty one has this fault
 abbrev pub AreBadRounds : ℕ → List ℕ → CheckpointError → Type 0
 AreBadRounds count bytes e =
     IsBehind (AreFewRounds count) (round_lines 1) (λ decided rest. IsBadRound (length decided + 1) rest e) bytes
 
--- the fault of what follows the first line, which says so many rounds
+-- the fault of what follows the first line, which says this many rounds
 abbrev pub IsBodyFault : ℕ → List ℕ → CheckpointError → Type 0
 IsBodyFault rounds bytes e =
     AreBadRounds rounds bytes e

@@ -14,7 +14,7 @@ sender n i = if i == 0 then n - 1 else i - 1
 abbrev pub amounts_of : WorkloadView → ℕ → List ℕ
 amounts_of w i = map (λ row. slice_index row i) w.amounts
 
--- tally i of a workload after so many of its rounds
+-- tally i of a workload after this many of its rounds
 abbrev pub tally_after : WorkloadView → ℕ → ℕ → TallyView
 tally_after w rounds i = record {
   posted = rounds;
@@ -32,11 +32,11 @@ tallies_after w rounds = map (tally_after w rounds) (range_with_len 0 w.chares)
 abbrev pub neighbor : ℕ → ℕ → ℕ
 neighbor n i = (i + 1) % n
 
--- the body of the letter that chare i gets in the round after so many: the amount of its sender
+-- the body of the letter that chare i gets in the round after this many: the amount of its sender
 abbrev pub next_body : WorkloadView → ℕ → ℕ → List ℕ
 next_body w rounds i = to_be_bytes w32 (slice_index (amounts_of w (sender w.chares i)) rounds)
 
--- what chare i of a workload is after it was resumed, and after it got its letter of the round after so many
+-- what chare i of a workload is after it was resumed, and after it got its letter of the round after this many
 module _ (w : WorkloadView) (rounds i : ℕ) where
   abbrev pub resumed : TallyView → TallyView
   resumed t = (tally_step t i w.chares (Resumption rounds)).state

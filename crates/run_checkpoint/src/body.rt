@@ -1,3 +1,5 @@
+//! Reads what follows the first line of a checkpoint.
+
 ghost use Rattle.std.specs.Prelude.{◌≡◌, ◌⊎◌, ◌≤◌, MatchResult};
 ghost use Rattle.run_checkpoint.specs.Bodies.{IsBody};
 ghost use Rattle.run_checkpoint.specs.Faults.{IsBodyFault};
@@ -12,7 +14,7 @@ use crate::rounds::read_rounds;
 use crate::workload_part::read_workload;
 use std::alloc::Allocator;
 
-/// The checkpoint whose text these bytes end, after its first line, which says so many rounds.
+/// The checkpoint whose text these bytes end, after its first line, which says this many rounds.
 ///
 /// # Errors
 ///

@@ -1,3 +1,5 @@
+//! A checkpoint: the decided rounds of a run, the places of its chares, and the workload.
+
 ghost use Rattle.std.specs.Prelude.{◌≡◌, ◌⊎◌, ◌+◌, ◌≤◌, Err, IfSome, List, MatchResult, length, ℕ};
 ghost use Rattle.std.specs.Io.KnownBytes.{Consumes};
 ghost use Rattle.run_checkpoint.specs.Faults.{IsFault};

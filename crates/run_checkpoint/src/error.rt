@@ -1,3 +1,5 @@
+//! Why a checkpoint is not read.
+
 ghost use Rattle.std.specs.Prelude.{◌≡◌};
 ghost use Rattle.run_checkpoint.specs.Faults.{error_number};
 ghost use Rattle.run_checkpoint.specs.declared.error.CheckpointError.TheVariants.{OutOfMemory};

@@ -1,3 +1,5 @@
+//! Reads the first line of a checkpoint.
+
 ghost use Rattle.std.specs.Prelude.{◌≡◌, MatchOption, MatchResult};
 ghost use Rattle.run_checkpoint.specs.Faults.{IsBadHead, IsHead};
 ghost use Rattle.run_checkpoint.specs.Scanning.{IsFront, head_at};

@@ -1,3 +1,5 @@
+//! Laws of the text of a checkpoint: a text is that of at most one checkpoint, and a checkpoint has at most one text.
+
 ghost use Rattle.std.specs.Prelude.{◌≡◌, ◌<◌, ◌≤◌, ℕ, List, length, replicate};
 ghost use Rattle.run_checkpoint.specs.Faults.{IsFault};
 ghost use Rattle.run_checkpoint.specs.Tallies.{TakesRound, amounts_of, tally_after};

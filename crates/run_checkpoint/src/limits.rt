@@ -1,3 +1,5 @@
+//! Checks the numbers of a checkpoint against its workload.
+
 ghost use Rattle.std.specs.Prelude.{◌<◌, All, MatchBool, MatchOption, length, ◌^◌};
 ghost use Rattle.run_checkpoint.specs.Faults.{AreItsPlaces, AreItsRounds, IsApart};
 ghost use Rattle.run_checkpoint.specs.declared.error.CheckpointError.TheVariants.{Limit};

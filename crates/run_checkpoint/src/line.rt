@@ -1,3 +1,5 @@
+//! Reads the line of one round.
+
 ghost use Rattle.std.specs.Prelude.{◌≡◌, ◌^◌, ◌<◌, MatchOption, MatchResult};
 ghost use Rattle.run_checkpoint.specs.Faults.{IsBadRound};
 ghost use Rattle.run_checkpoint.specs.Scanning.{IsFront, round_at};

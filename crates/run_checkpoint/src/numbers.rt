@@ -1,3 +1,5 @@
+//! Reads words and numbers of a line.
+
 ghost use Rattle.std.specs.Prelude.{◌≡◌, MatchOption};
 ghost use Rattle.run_checkpoint.specs.Scanning.{behind, digits_at, is_full, number_at};
 

@@ -1,3 +1,5 @@
+//! Reads the line of the places.
+
 ghost use Rattle.std.specs.Prelude.{◌≡◌, ◌⊎◌, ◌<◌, ◌++◌, IfOk, [], ◌∷◌, MatchBool, MatchResult, length};
 ghost use Rattle.chare_index.specs.declared.limits.TheConstants.Limits.{ELEMENTS, PES};
 ghost use Rattle.run_checkpoint.specs.Faults.{AreBadPlaces, ArePlaces};

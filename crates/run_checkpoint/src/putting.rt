@@ -1,3 +1,5 @@
+//! Writes bytes to a writer, without a second attempt.
+
 ghost use Rattle.std.specs.Io.KnownBytes.{Appends};
 ghost use Rattle.run_checkpoint.specs.Writing.{Puts};
 

@@ -1,3 +1,5 @@
+//! Reads the lines of all rounds.
+
 ghost use Rattle.std.specs.Prelude.{◌≡◌, ◌⊎◌, ◌<◌, ◌^◌, ◌++◌, ◌∷◌, [], MatchResult, OnOk};
 ghost use Rattle.run_checkpoint.specs.Faults.{AreBadRounds, AreRounds};
 ghost use Rattle.run_checkpoint.specs.Scanning.{IsFront};
@@ -9,7 +11,7 @@ use crate::error::CheckpointError;
 use crate::line::read_round;
 use std::alloc::{AllocError, Allocator};
 
-/// Reads the lines of so many rounds onto a list that is empty, and returns the bytes after them.
+/// Reads the lines of this many rounds onto a list that is empty, and returns the bytes after them.
 ///
 /// # Errors
 ///

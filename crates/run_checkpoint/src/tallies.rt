@@ -1,3 +1,5 @@
+//! The chares of a workload as they are after some of its rounds.
+
 ghost use Rattle.std.specs.Prelude.{◌≡◌, ◌≤◌, ◌<◌, All, IfOk, OnOk, length, map, replicate, slice_index, sum, true};
 ghost use Rattle.run_checkpoint.specs.Tallies.{sender, tallies_after, tally_after};
 ghost use Rattle.tally.specs.Tallies.{is_tally};
@@ -9,8 +11,8 @@ use std::alloc::{AllocError, Allocator};
 use tally::Tally;
 use workload::Workload;
 
-/// The tallies of a workload after so many of its rounds, in order. Tally `i` has posted and got as many amounts, and its sum is
-/// that of the first so many amounts of chare `i - 1`, or of the last one for chare 0. Its own amounts are amount `i` of each
+/// The tallies of a workload after this many of its rounds, in order. Tally `i` has posted and got as many amounts, and its sum is
+/// that of the first this many amounts of chare `i - 1`, or of the last one for chare 0. Its own amounts are amount `i` of each
 /// line, and it has the padding of the workload.
 ///
 /// # Errors
@@ -32,7 +34,7 @@ pub fn tallies_after<A: Allocator + Copy>(
     Ok(tallies)
 }
 
-// Tally `i` of a workload after so many of its rounds.
+// Tally `i` of a workload after this many of its rounds.
 fn tally_after<A: Allocator + Copy>(
     alloc: A,
     workload: &Workload<A>,

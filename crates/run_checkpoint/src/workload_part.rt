@@ -1,3 +1,5 @@
+//! Reads the workload that ends a checkpoint.
+
 ghost use Rattle.std.specs.Prelude.{◌≡◌, ◌⊎◌, MatchResult};
 ghost use Rattle.workload.specs.Text.{IsText};
 ghost use Rattle.run_checkpoint.specs.Faults.{IsBadWorkload, shifted};
@@ -7,7 +9,7 @@ use crate::error::CheckpointError;
 use std::alloc::Allocator;
 use workload::{WorkError, Workload};
 
-/// The workload of this text, before which there are so many lines.
+/// The workload of this text, before which there are this many lines.
 ///
 /// # Errors
 ///
@@ -25,7 +27,7 @@ pub(crate) fn read_workload<A: Allocator + Copy>(
     }
 }
 
-// The same fault, of a line with so many lines more before it.
+// Renumbers the line of a fault, where `before` lines come before the workload.
 fn shifted(error: WorkError, before: u32) -> CheckpointError
     ensures { result ≡ shifted error before }
 {

@@ -1,3 +1,5 @@
+//! The options of `charm_run`, which of them exclude each other, and the task that they ask for.
+
 ghost use Rattle.std.specs.Prelude.{◌≡◌};
 ghost use Rattle.run_command_line.specs.Requests.{clash_of_checkpoint, clash_of_checkpoints, clash_of_every, clash_of_journal, clash_of_kept, clash_of_procs, clash_of_restart};
 ghost use Rattle.run_command_line.specs.Requests.{clash_on_one_thread, clash_with, clash_with_seeds, clash_without_seed, task_of, way_of};
@@ -46,7 +48,7 @@ pub enum Task<'a> {
     Threads,
     /// On one thread, in the order of events that this seed decides.
     Seed(u64),
-    /// The same by each of the seeds from 1 to this number.
+    /// On one thread, once by each of the seeds from 1 to this number.
     Seeds(u32),
     /// On one thread, by the list of events in the file of this name.
     Replay(&'a str),

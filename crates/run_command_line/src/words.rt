@@ -1,3 +1,5 @@
+//! The arguments of `charm_run`, and how they are read.
+
 ghost use Rattle.std.specs.Prelude.{◌≡◌, ◌≤◌, ◌↔◌, ℕ, IfOk, IsTrue, Some, codes, is_some, option_map, pos, true};
 ghost use Rattle.std.specs.Option.{ForSome};
 ghost use Rattle.clap.specs.Built.{FitsChain, TakesValue};

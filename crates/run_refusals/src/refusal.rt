@@ -1,3 +1,5 @@
+//! The reasons for which a run over lists is refused, and their numbers.
+
 ghost use Rattle.std.specs.Prelude.{◌≡◌, ◌≤◌};
 ghost use Rattle.run_refusals.specs.Refusals.{refusal_entry, refusal_number};
 

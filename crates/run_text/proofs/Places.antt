@@ -37,7 +37,7 @@ module _ {X Y : Type 0} (R : X → Y → Type 0) where
 abbrev pub Tie : Type 1
 Tie = Life → ℕ × ℕ → Type 0
 
--- the same of the element of a parcel
+-- what is said of the element of a parcel
 abbrev pub TiesIn : Tie → Parcel → Type 0
 TiesIn R parcel = AllZip R (lives_in parcel) (sums_in parcel)
 

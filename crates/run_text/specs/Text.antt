@@ -4,7 +4,7 @@ use Rattle.std.specs.Prelude.{ℕ, List, [], ◌∷◌, ◌++◌, length, codes,
 use Rattle.std.specs.Fmt.{decimal}
 use Rattle.std.specs.List.{flat_map, range_with_len}
 use Rattle.std.specs.Option.{option_map_or}
-use Rattle.at_sync.specs.Boards.{Kept, kept_of}
+use Rattle.sync_board.specs.Boards.{Kept, kept_of}
 use Rattle.lb_refinement.specs.Refined.{refined_bottleneck, refined_moved}
 use Rattle.pe_worker.specs.declared.fault.Fault.{Fault}
 use Rattle.pe_worker.specs.declared.fault.Fault.TheVariants.{OutOfMemory, Idle, Unpack, Stranger, TooLong, Worn, Mismatch, Stopped, Quiet}

@@ -1,7 +1,7 @@
 -- The events of a trace that show what happened.
 use Rattle.std.specs.Prelude.{ℕ, ◌-◌, ◌==◌, List, [], ◌∷◌, ◌++◌, map, sum_by, zip, if◌then◌else◌, Option, Some, None}
 use Rattle.std.specs.List.{flat_map, range_with_len}
-use Rattle.at_sync.specs.Boards.{Kept, kept_of}
+use Rattle.sync_board.specs.Boards.{Kept, kept_of}
 use Rattle.lb_snapshot.specs.Measured.{Taken}
 use Rattle.run_trace.specs.declared.event.TraceEvent.{TraceEvent}
 use Rattle.run_trace.specs.declared.event.TraceEvent.TheVariants.{Row, Slice, Instant, Decision, Load, Leaves, Comes}

@@ -1,3 +1,5 @@
+//! Why a trace is missing or incomplete.
+
 use std::alloc::AllocError;
 use thiserror::Error;
 

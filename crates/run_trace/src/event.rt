@@ -1,3 +1,5 @@
+//! The events of a trace, as a viewer shows them.
+
 /// What a PE did with an element in a slice of its row.
 #[derive(Clone, Copy, Debug, PartialEq, Eq)]
 pub enum Work {

@@ -1,3 +1,5 @@
+//! What happened in a run, and when.
+
 use chare_index::{Index, Pe, Round};
 
 /// What happened, and when. Times are nanoseconds from the beginning of the run; in a run on one thread each event takes

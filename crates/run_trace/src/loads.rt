@@ -3,7 +3,7 @@
 ghost use Rattle.std.specs.Prelude.{◌≡◌, ◌++◌, IfOk, OnOk, map};
 ghost use Rattle.std.specs.List.{flat_map, range_with_len};
 ghost use Rattle.std.specs.Option.{option_copied};
-ghost use Rattle.at_sync.specs.Boards.{kept_of};
+ghost use Rattle.sync_board.specs.Boards.{kept_of};
 ghost use Rattle.run_trace.specs.Shown.{load_events, load_on, loads_shown};
 
 use crate::event::TraceEvent;

@@ -1,3 +1,5 @@
+//! A trace that could not be kept, with the reason.
+
 use crate::error::TraceError;
 use std::alloc::AllocError;
 use std::fmt::{self, Display, Formatter};

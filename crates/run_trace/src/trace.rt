@@ -103,7 +103,7 @@ pub fn keep_trace<A: Allocator, W: Write + Drop>(
     }
 }
 
-// The same, to a file that was made.
+// Writes the trace to a file that was made.
 fn write_noted<A: Allocator, W: Write + Drop>(
     alloc: Global,
     file: W,

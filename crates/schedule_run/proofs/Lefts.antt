@@ -3,7 +3,7 @@ use Rattle.std.proofs.Common.{◌≡◌, ℕ, ◌+◌, List, ◌∷◌, length, 
 use Rattle.std.specs.Prelude.{◌<◌, ◌≤◌, ◌^◌, IfErr, MatchResult}
 use Rattle.std.proofs.lemmas.List.{length-map}
 use Rattle.std.proofs.lemmas.List.FromFn.{length-map-range_with_len}
-use Rattle.at_sync.specs.declared.strategy.Strategy.{Strategy}
+use Rattle.sync_board.specs.declared.strategy.Strategy.{Strategy}
 use Rattle.rts_core.specs.Worlds.{opening_world}
 use Rattle.rts_core.specs.declared.event.Event.{Event}
 use Rattle.rts_run.specs.declared.error.Setting.{Setting}

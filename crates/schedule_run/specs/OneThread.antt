@@ -1,6 +1,6 @@
 -- What a workload's run on one thread left, and what is written of it.
 use Rattle.std.specs.Prelude.{◌≡◌, ℕ, List, Option, None, Some, Result}
-use Rattle.at_sync.specs.declared.strategy.Strategy.{Strategy}
+use Rattle.sync_board.specs.declared.strategy.Strategy.{Strategy}
 use Rattle.pup_pack.specs.declared.error.PupError.{PupError}
 use Rattle.rts_core.specs.Worlds.{opening_world}
 use Rattle.rts_core.specs.declared.event.Event.{Event}

@@ -1,7 +1,7 @@
 -- The runs of a workload by many seeds, and what is written of them.
 use Rattle.std.specs.Prelude.{◌≡◌, ◌⊎◌, ℕ, ◌+◌, List, [], ◌∷◌, ◌++◌, codes, length, map, Option, None, Some, Result}
 use Rattle.std.specs.Fmt.{decimal}
-use Rattle.at_sync.specs.declared.strategy.Strategy.{Strategy}
+use Rattle.sync_board.specs.declared.strategy.Strategy.{Strategy}
 use Rattle.pe_worker.specs.declared.fault.Fault.{Fault}
 use Rattle.chares.specs.Steps.{Step}
 use Rattle.pup_pack.specs.declared.error.PupError.{PupError}

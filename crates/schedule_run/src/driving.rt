@@ -17,12 +17,12 @@ ghost use Rattle.workload_run.specs.declared.ended.RunEnd.TheVariants.{OutOfMemo
 
 use crate::on_one::DrivenOnOne;
 use crate::running::{follow, search};
-use at_sync::Strategy;
 use pup_pack::Pup;
 use rts_core::Event;
 use schedules::{Explored, ReplayError};
 use std::alloc::Allocator;
 use std::io::Write;
+use sync_board::Strategy;
 use tally::Tally;
 use workload::Workload;
 use workload_run::{report_memory, tell_outcome};

@@ -85,7 +85,7 @@ fn room<A: Allocator>(alloc: A) -> Result<Vec<u8, A>, AllocError>
     Ok(piece)
 }
 
-// The same, onto a list that is empty.
+// Reads all bytes of a reader onto an empty list.
 fn read_onto<R: Read, A: Allocator>(
     mut bytes: Vec<u8, A>,
     reader: &mut R,

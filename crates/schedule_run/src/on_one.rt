@@ -1,3 +1,5 @@
+//! The result of running a workload on one thread.
+
 ghost use Rattle.std.specs.Prelude.{◌≡◌};
 ghost use Rattle.std.specs.Option.{option_map};
 ghost use Rattle.workload_run.specs.Statuses.{status_of};
@@ -24,7 +26,7 @@ impl<A: Allocator + Copy> DrivenOnOne<A> {
         self.ended.status()
     }
 
-    /// The same as the result of a run over threads, whose rounds can be dumped. The steps are dropped.
+    /// Turns it into the result of a run over threads, whose rounds can be dumped. The steps are dropped.
     pub fn into_driven(self) -> Driven<A>
         ensures ended { result.ended ≡ self.ended }
         ensures outcome { result.outcome ≡ option_map (λ x. x.outcome) self.explored }

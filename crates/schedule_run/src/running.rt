@@ -10,11 +10,11 @@ ghost use Rattle.tally.specs.Tallies.{tally_pack, tally_step};
 ghost use Rattle.workload.specs.Text.{IsWithin};
 ghost use Rattle.workload_run.specs.Tallies.{tallies_of};
 
-use at_sync::Strategy;
 use pup_pack::Pup;
 use rts_core::Event;
 use schedules::{Bias, Explored, ReplayError, Schedule, explore, replay};
 use std::alloc::{AllocError, Allocator};
+use sync_board::Strategy;
 use tally::Tally;
 use workload::Workload;
 use workload_run::tallies_of;

@@ -62,7 +62,7 @@ module _ {C A : Type 0} (step : Step C) (pack : C → List ℕ) (unpack : List �
       by None is e h = cc
       by (Some after) is e h = subst (λ (a : After C A). Stays w event p a) (sym e) h
 
-  -- what was known before an event is known after it, but for what it changes
+  -- what was known before an event is known after it, except for what it changes
   pub rest_known : (w w' : WorldView C A) (event : Event) (entries : List TraceEntry) (c : ChoicesView) → Knows w c → IsEnabled step pack unpack w event
       → Happens step pack unpack w event (w', entries) → MatchOption (pe_of event) (length c.looks ≡ length w'.pes) (λ p. KnowsBut w' c p (put_into w event) entries)
   rest_known w w' event entries c knows may did = by (pe_of event) refl may did
@@ -147,7 +147,7 @@ module _ {C A : Type 0} (step : Step C) (pack : C → List ℕ) (unpack : List �
         next = subst (λ (b : Bias). IsChosen step pack unpack b (turn_of before.world chooser) event) by chosen;
       })
 
--- the same by equal values
+-- what the rest of a draw knows depends only on the values
 pub rest_at : {C A : Type 0} (event : Event) (w w' : WorldView C A) (c c' : ChoicesView) (q q' : Option ℕ) (es es' : List TraceEntry) → w' ≡ w → c' ≡ c → q' ≡ q → es' ≡ es
     → MatchOption (pe_of event) (length c.looks ≡ length w.pes) (λ p. KnowsBut w c p q es)
     → MatchOption (pe_of event) (length c'.looks ≡ length w'.pes) (λ p. KnowsBut w' c' p q' es')

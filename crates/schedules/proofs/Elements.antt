@@ -4,7 +4,7 @@ use Rattle.std.specs.Prelude.{IfSome, Result, is_some, slice_get, slice_set, nat
 use Rattle.std.specs.Option.{option_and_then, option_map, option_map_or}
 use Rattle.std.proofs.lemmas.Bool.Decides.{eqb_tells}
 use Rattle.std.proofs.lemmas.List.{length-set}
-use Rattle.at_sync.specs.Boards.{BoardState, Kept, kept_of}
+use Rattle.sync_board.specs.Boards.{BoardState, Kept, kept_of}
 use Rattle.chares.specs.Elements.{ElementView}
 use Rattle.chares.specs.Steps.{Step}
 use Rattle.chares.specs.declared.trace_entry.TraceEntry.{TraceEntry}

@@ -67,7 +67,7 @@ module _ {C A : Type 0} (step : Step C) (pack : C → List ℕ) (refuses : Refus
         (subst (λ (s : List Made). PicksUpTo step pack unpack w events (refused_in ending) s (left_by x)) (sym steps)
         (subst (λ (v : WorldView C A). PicksUpTo step pack unpack w events (refused_in ending) course.steps v) (sym world) h))
 
-  -- the same where memory may have been refused
+  -- the end of a run, where memory may have been refused
   module _ {E : Type 0} (course : CourseView C A) (ending : Ending) where
     pub run_left : (r : Result (ExploredView C A) E) (limit : ℕ)
         → IfOk r (λ x. left_by x ≡ course.world) → IfOk r (λ x. x.steps ≡ course.steps) → IfOk r (λ x. x.refused ≡ refused_in ending)

@@ -4,7 +4,7 @@ use Rattle.std.proofs.Common.{◌≡◌, ◌≢◌, ◌∙◌, ℕ, zero, suc, L
 use Rattle.std.specs.Prelude.{IfSome, Result, Ok, Err, slice_get, slice_set, if◌then◌else◌, not, is_none, ◌==◌}
 use Rattle.std.specs.Option.{option_and_then, option_map, option_map_or}
 use Rattle.std.proofs.lemmas.List.{length-set}
-use Rattle.at_sync.specs.Boards.{BoardState}
+use Rattle.sync_board.specs.Boards.{BoardState}
 use Rattle.lb_database.specs.Measuring.{elements}
 use Rattle.chares.specs.Elements.{ElementView, PackedView}
 use Rattle.chares.specs.Letters.{Done, LetterView}

@@ -1,6 +1,6 @@
 -- What a course leaves is its world.
 use Rattle.std.proofs.Common.{◌≡◌, ◌∙◌, ℕ, List, sym, ap, subst}
-use Rattle.at_sync.specs.Boards.{BoardState}
+use Rattle.sync_board.specs.Boards.{BoardState}
 use Rattle.pe_state.specs.Pes.{PeView, Parcel}
 use Rattle.rts_core.specs.Accounts.{IsCounted}
 use Rattle.rts_core.specs.Worlds.{WorldView}

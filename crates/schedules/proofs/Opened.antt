@@ -4,7 +4,7 @@ use Rattle.std.specs.List.{range_with_len}
 use Rattle.std.specs.Prelude.{slice_get}
 use Rattle.std.proofs.lemmas.List.{length-set}
 use Rattle.std.proofs.lemmas.List.FromFn.{length-map-range_with_len}
-use Rattle.at_sync.specs.declared.strategy.Strategy.{Strategy}
+use Rattle.sync_board.specs.declared.strategy.Strategy.{Strategy}
 use Rattle.pe_state.specs.Pes.{PeView, new_pe, placed}
 use Rattle.rts_core.specs.Worlds.{WorldView, all_placed, home, opening_pes, opening_world, placed_on}
 

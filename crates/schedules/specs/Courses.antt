@@ -1,8 +1,8 @@
 -- What a course of a world left.
 use Rattle.std.specs.Prelude.{◌≡◌, ℕ, List, ◌++◌, length, Option, None, Result}
 use Rattle.std.specs.Option.{option_to_list}
-use Rattle.at_sync.specs.Boards.{HaveFinished}
-use Rattle.at_sync.specs.declared.strategy.Strategy.{Strategy}
+use Rattle.sync_board.specs.Boards.{HaveFinished}
+use Rattle.sync_board.specs.declared.strategy.Strategy.{Strategy}
 use Rattle.chares.specs.Steps.{Step}
 use Rattle.courses.specs.Courses.{Leads, Made, events_of, trace_of}
 use Rattle.lb_database.specs.Measuring.{elements}

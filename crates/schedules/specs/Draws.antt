@@ -1,8 +1,8 @@
--- Which event a seed draws, as docs/SCHEDULES.md says: "How an event is drawn".
+-- Which event a seed draws, as docs/RUNS.md says: "How an event is drawn".
 use Rattle.std.specs.Prelude.{◌≡◌, ℕ, zero, suc, ◌-◌, ◌*◌, ◌/◌, ◌==◌, List, [], ◌∷◌, length, map, sum_by, Option, None, Some, Bool, true, false, ◌&&◌, if◌then◌else◌, nat_lt, is_none, is_some, slice_get, slice_set, IfSome, Result}
 use Rattle.std.specs.List.{filter_map, list_all, range_with_len}
 use Rattle.std.specs.Option.{option_and_then, option_map_or}
-use Rattle.at_sync.specs.Boards.{BoardState, place_in}
+use Rattle.sync_board.specs.Boards.{BoardState, place_in}
 use Rattle.chares.specs.Elements.{ElementView}
 use Rattle.chares.specs.Steps.{Step}
 use Rattle.chares.specs.declared.carried.Carried.TheVariants as Carried
@@ -86,7 +86,7 @@ module _ {C A : Type 0} where
   abbrev pub element_event : WorldView C A → ℕ → ℕ → Option Event
   element_event w e p = option_and_then (λ pe. option_and_then (element_goes w.board p e) (found e pe.room)) (slice_get w.pes p)
 
-  -- the same, where each element is looked for on the PE on which it was last
+  -- that event, where each element is looked for on the PE on which it was last
   abbrev pub event_of : WorldView C A → List ℕ → ℕ → Option Event
   event_of w places e = option_and_then (element_event w e) (slice_get places e)
 
@@ -140,7 +140,7 @@ module _ (bias : Bias) (events : Kind → List Event) where
       let total = sum_by share kinds in
       if total == 0 then (None, state) else (picked kinds (scaled state total), next_state state)
 
-  -- the same, where an event of the PE that is starved is drawn again, so many times at most
+  -- a draw that is repeated while it gives an event of the starved PE, this many times at most
   abbrev pub drawn_in : ℕ → ℕ → Option Event × ℕ
   drawn_in zero state = drawn_once state
   drawn_in (suc times) state = if is_starved bias (drawn_once state).0 then drawn_in times (drawn_once state).1 else drawn_once state

@@ -47,7 +47,7 @@ module _ {C A : Type 0} (step : Step C) (pack : C → List ℕ) (refuses : Refus
   EndsCourse w AtRest AtLast Stopped = ¬ (IsDone w) × AtLast
   EndsCourse w AtRest AtLast (Refused refusal) = RefusesTaking step pack refuses unpack w refusal.event refusal.error
 
-  -- the same by the event that was refused, if there was one, and the fault
+  -- a course ended rightly, by the event that was refused, if there was one, and the fault
   abbrev pub EndsBy : WorldView C A → Type 0 → Type 0 → Option Event → Option Fault → Type 0
   EndsBy w AtRest AtLast None None = IsDone w
   EndsBy w AtRest AtLast None (Some Ends.Idle) = ¬ (IsDone w) × AtRest
@@ -62,6 +62,6 @@ module _ {C A : Type 0} (step : Step C) (pack : C → List ℕ) (refuses : Refus
   abbrev pub EndsRun : ℕ → ExploredView C A → Type 0
   EndsRun limit x = EndsBy (left_by x) (IsIdle step pack unpack (left_by x)) (length x.steps ≡ limit) x.refused x.outcome.fault
 
-  -- The same of a run by a list, which is never idle.
+  -- A run by a list of events ended rightly, as a run by a seed does, except that it is never idle.
   abbrev pub EndsList : ExploredView C A → Type 0
   EndsList x = EndsBy (left_by x) ⊥ (Unit {0}) x.refused x.outcome.fault

@@ -1,5 +1,5 @@
 -- SplitMix64: G. Steele, D. Lea and C. Flood, "Fast splittable pseudorandom number generators", OOPSLA 2014. Its state is a
--- number of 64 bits. docs/SCHEDULES.md describes it in prose.
+-- number of 64 bits. docs/RUNS.md describes it in prose.
 use Rattle.std.specs.Prelude.{ℕ, ◌+◌, ◌*◌, ◌/◌, ◌%◌, ◌^◌, bit_xor}
 
 -- the state after this one

@@ -1,6 +1,6 @@
 -- What a run by a list of events leads to.
 use Rattle.std.specs.Prelude.{◌≡◌, ℕ, List, ◌∷◌, ◌++◌, length, Option, None, Some, Result}
-use Rattle.at_sync.specs.declared.strategy.Strategy.{Strategy}
+use Rattle.sync_board.specs.declared.strategy.Strategy.{Strategy}
 use Rattle.chares.specs.Steps.{Step}
 use Rattle.courses.specs.Courses.{CourseView, IsEnabled, Leads, events_of}
 use Rattle.courses.specs.Picks.{PicksUpTo}

@@ -1,6 +1,6 @@
 -- Runs that are shrunk.
 use Rattle.std.specs.Prelude.{◌≡◌, ℕ, List, Bool, false, Result}
-use Rattle.at_sync.specs.declared.strategy.Strategy.{Strategy}
+use Rattle.sync_board.specs.declared.strategy.Strategy.{Strategy}
 use Rattle.chares.specs.Steps.{Step}
 use Rattle.pup_pack.specs.declared.error.PupError.{PupError}
 use Rattle.rts_core.specs.declared.event.Event.{Event}

@@ -1,3 +1,5 @@
+//! Which kinds of events are drawn more often or less often.
+
 ghost use Rattle.std.specs.Prelude.{◌≡◌, ◌≤◌};
 ghost use Rattle.schedules.specs.Draws.{factor, weight};
 

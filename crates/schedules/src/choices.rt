@@ -207,7 +207,7 @@ impl<A: Allocator> Choices<A> {
         }
     }
 
-    // The same of one entry.
+    // Updates where an element was last, if this entry installs it.
     fn settle_one(&mut self, p: Pe, entry: &TraceEntry)
         ensures only { self.new ≡ record self.old { places = settled p self.old.places (entry.now ∷ []) } }
     {

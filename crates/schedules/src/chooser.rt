@@ -1,4 +1,4 @@
-//! Which event happens next. docs/SCHEDULES.md says how it is drawn.
+//! Which event happens next. docs/RUNS.md says how it is drawn.
 
 ghost use Rattle.std.specs.Prelude.{◌≡◌, ◌*◌, ◌≤◌, IfOk, MatchOption, length, sum_by};
 ghost use Rattle.rts_core.specs.Events.{pe_of};

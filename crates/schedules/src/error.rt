@@ -1,3 +1,5 @@
+//! Why a list of events is not replayed.
+
 ghost use Rattle.std.specs.Prelude.{◌≡◌};
 
 use rts_run::Setting;

@@ -2,7 +2,7 @@
 
 ghost use Rattle.std.specs.Prelude.{◌≡◌, ◌+◌, IfOk, slice_get};
 ghost use Rattle.std.specs.Option.{option_copied};
-ghost use Rattle.at_sync.specs.Boards.{IsBoard};
+ghost use Rattle.sync_board.specs.Boards.{IsBoard};
 ghost use Rattle.pe_state.specs.InOrder.{element_on};
 ghost use Rattle.rts_core.specs.Accounts.{posted_count, executed_count, held_count};
 ghost use Rattle.schedules.specs.Courses.{events_tried, left_by};

@@ -24,7 +24,7 @@ use std::marker::Brand;
 /// Runs chares on one thread until every element has finished and no letter is held, the events of the schedule are used up,
 /// nothing is enabled, or a handler meets a fault; and returns what that left. Element `i` is the `i`-th chare, and opens on PE
 /// `i * pes / n`, rounded down, of `n` elements. Each next event is drawn among those that are enabled, by a generator with this
-/// seed: docs/SCHEDULES.md says how. The same schedule, seed and chares always lead to the same steps.
+/// seed: docs/RUNS.md says how. The same schedule, seed and chares always lead to the same steps.
 ///
 /// The clause `explored` says of the result: the steps lead from the opening to the world that is left, each of them enabled;
 /// each letter that was posted is in one place or was executed once, by its own element; each element is what its journal says;

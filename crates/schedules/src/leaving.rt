@@ -8,7 +8,6 @@ ghost use Rattle.schedules.specs.Endings.{fault_in, fault_of, refused_in};
 ghost use Rattle.schedules.specs.declared.leaving.Ending.TheVariants.{Done};
 
 use crate::explored::Explored;
-use at_sync::Board;
 use chare_index::{Limits, Pe, Pes};
 use chares::{Chare, Openings};
 use courses::{Course, Refusal};
@@ -19,6 +18,7 @@ use rts_run::Outcome;
 use run_account::take_next;
 use std::alloc::{AllocError, Allocator};
 use std::collections::VecDeque;
+use sync_board::Board;
 
 /// How a course ended.
 #[derive(Clone, Copy)]

@@ -6,7 +6,7 @@
 //! - [`Explored`]: what such a run left: an [`Outcome`](rts_run::Outcome) as of a run over threads, and each
 //!   [`Step`].
 //!
-//! docs/SCHEDULES.md says how an event is drawn, so that a seed means the same in every version.
+//! docs/RUNS.md says how an event is drawn, so that a seed means the same in every version.
 #![tactic(auto)]
 
 mod bias;

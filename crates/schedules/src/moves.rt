@@ -4,12 +4,12 @@ ghost use Rattle.std.specs.Prelude.{◌≡◌, false, slice_get};
 ghost use Rattle.std.specs.Option.{option_map_or};
 ghost use Rattle.schedules.specs.Draws.{element_event, goes_to, is_waiting, may_act_on, moves_at, moves_of, place_of};
 
-use at_sync::Board;
 use chare_index::{Index, Pe, Round};
 use chares::{Carried, Chare, Openings};
 use pe_state::PeState;
 use rts_core::{Event, World};
 use std::alloc::Allocator;
+use sync_board::Board;
 
 /// Which steps a PE may make that name no element.
 #[derive(Clone, Copy, Debug)]

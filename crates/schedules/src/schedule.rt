@@ -1,12 +1,14 @@
+//! The settings of a run on one thread.
+
 ghost use Rattle.std.specs.Prelude.{◌≡◌, MatchOption};
-ghost use Rattle.at_sync.specs.declared.strategy.Strategy.TheVariants.{Least};
+ghost use Rattle.sync_board.specs.declared.strategy.Strategy.TheVariants.{Least};
 ghost use Rattle.rts_run.specs.declared.error.RunError.TheVariants.{Config};
 ghost use Rattle.schedules.specs.Schedules.{MayExplore, RefusesSchedule, no_bias};
 
 use crate::bias::Bias;
-use at_sync::Strategy;
 use chare_index::Limits;
 use rts_run::Setting;
+use sync_board::Strategy;
 
 /// The numbers of a run on one thread, and how its events are drawn.
 #[derive(Clone, Copy, Debug, PartialEq)]

@@ -1,3 +1,5 @@
+//! What a program tells its user about a file that it could not use.
+
 ghost use Rattle.std.specs.Prelude.{◌≡◌, ◌++◌, ℕ, List, codes, IfNone, IfSome, IsFalse, IsTrue};
 ghost use Rattle.streams.specs.Telling.{Tells, TellsAll, fault_line};
 

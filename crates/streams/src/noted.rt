@@ -1,31 +1,34 @@
-ghost use Rattle.std.specs.Prelude.{◌≡◌, None};
+//! A reader or writer that remembers its last error.
 
+ghost use Rattle.std.specs.Prelude.{◌≡◌, false, None};
+
+use crate::log::CallLog;
 use std::io::{self, Read, Write};
 
-/// A reader or a writer that keeps the last error of the one inside, so that it can be reported.
+/// A reader or a writer with the log of its calls, so that its last error can be reported.
 #[derive(Drop)]
 pub struct Noted<S> {
     inner: S,
-    failure: Option<io::Error>,
+    log: CallLog,
 }
 
 impl<S> Noted<S> {
-    /// This reader or writer, before any error.
+    /// This reader or writer, before any call.
     pub fn new(inner: S) -> Noted<S>
         ensures inner { result.inner ≡ inner }
-        ensures none { result.failure ≡ None }
+        ensures none { result.log.failure ≡ None }
     {
         Noted {
             inner,
-            failure: None,
+            log: CallLog::new(),
         }
     }
 
     /// The last error.
     pub fn failure(&self) -> Option<io::Error>
-        ensures value { result ≡ self.now.failure }
+        ensures value { result ≡ self.now.log.failure }
     {
-        self.failure
+        self.log.failure()
     }
 }
 
@@ -33,11 +36,7 @@ impl<S: Read> Read for Noted<S> {
     ghost remaining = { λ noted. S.remaining noted.inner };
 
     fn read(&mut self, buf: &mut [u8]) -> io::Result<usize> {
-        let answer = self.inner.read(buf);
-        if let Err(error) = answer {
-            self.failure = Some(error);
-        }
-        answer
+        self.log.read(&mut self.inner, buf)
     }
 }
 
@@ -45,18 +44,10 @@ impl<S: Write> Write for Noted<S> {
     ghost contents = { λ noted. S.contents noted.inner };
 
     fn write(&mut self, buf: &[u8]) -> io::Result<usize> {
-        let answer = self.inner.write(buf);
-        if let Err(error) = answer {
-            self.failure = Some(error);
-        }
-        answer
+        self.log.write(&mut self.inner, buf)
     }
 
     fn flush(&mut self) -> io::Result<()> {
-        let answer = self.inner.flush();
-        if let Err(error) = answer {
-            self.failure = Some(error);
-        }
-        answer
+        self.log.flush(&mut self.inner)
     }
 }

@@ -1,3 +1,5 @@
+//! The limits of a tally.
+
 /// The limits of a [`Tally`](crate::Tally). Each quantity goes from 0 up to the constant, both included.
 #[derive(Clone, Copy, Debug, PartialEq, Eq)]
 pub struct TallyLimits;

@@ -1,3 +1,5 @@
+//! A worker that was started, in a thread or in its caller.
+
 ghost use Rattle.std.specs.Prelude.{◌≡◌, IfErr, IfOk};
 ghost use Rattle.worker_threads.specs.Workers.{KeepsNumber};
 

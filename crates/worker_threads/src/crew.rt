@@ -1,3 +1,5 @@
+//! A thread pool: starts a thread for each worker, waits for all of them, and returns their results in order.
+
 ghost use Rattle.std.specs.Prelude.{◌≡◌, ◌<◌, ◌≤◌, IfOk, OnErr, map, []};
 ghost use Rattle.std.specs.VecDeque.{deque_len, deque_capacity};
 ghost use Rattle.worker_threads.specs.Workers.{KeepsNumber};

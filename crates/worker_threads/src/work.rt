@@ -1,3 +1,5 @@
+//! The traits of a worker, of what it ends as, and of the rule by which threads are started.
+
 ghost use Rattle.std.specs.Prelude.{◌≡◌, ℕ};
 
 /// What takes part in a run: a worker, or what a worker ends as. By its number it is known which worker an end

@@ -1,3 +1,5 @@
+//! Why a workload is not read.
+
 ghost use Rattle.std.specs.Prelude.{◌≡◌};
 ghost use Rattle.workload.specs.Faults.{error_number};
 ghost use Rattle.workload.specs.declared.error.WorkError.TheVariants.{OutOfMemory};

@@ -1,3 +1,5 @@
+//! Reads a workload byte by byte, and reports the first fault.
+
 ghost use Rattle.std.specs.Prelude.{◌≡◌, ◌≢◌, ◌+◌, ◌-◌, ◌<◌, ◌⊎◌, ◌==◌, if◌then◌else◌, true, false, [], ◌∷◌, ◌++◌, length, slice_get, IsTrue, MatchResult, Ok, Err, Some, vec_len, vec_capacity};
 ghost use Rattle.workload.specs.Faults.{in_range, is_whole};
 ghost use Rattle.workload.specs.declared.form.TheConstants.{BLANK, NEWLINE};

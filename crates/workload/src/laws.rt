@@ -1,3 +1,5 @@
+//! Laws of the text of a workload: a text is that of at most one workload, and a workload has at most one text.
+
 ghost use Rattle.std.specs.Prelude.{◌≡◌, ◌⊎◌, ◌++◌, ◌<◌, ℕ, List, length};
 ghost use Rattle.workload.specs.declared.error.WorkError.{WorkError};
 ghost use Rattle.workload.specs.Faults.{IsFault, IsLineFault, IsOpen};

@@ -1,3 +1,5 @@
+//! A workload: the PEs, the rounds and the chares of a run, with the amounts of each chare.
+
 ghost use Rattle.std.specs.Prelude.{◌≡◌, ◌⊎◌, ◌+◌, ◌≤◌, List, ℕ, length, IfSome, MatchResult, Err};
 ghost use Rattle.std.specs.Io.KnownBytes.{Consumes};
 ghost use Rattle.workload.specs.declared.error.WorkError.{WorkError};

@@ -17,7 +17,7 @@ use Rattle.workload_run.specs.Tallies.{tallies_of}
 use Rattle.workload_run.specs.Telling.{ReportsFault, WritesText}
 use Rattle.workload_run.specs.declared.ended.RunEnd.{RunEnd}
 use Rattle.workload_run.specs.declared.ended.RunEnd.TheVariants.{OutOfMemory}
-use Rattle.at_sync.specs.declared.strategy.Strategy.{Strategy}
+use Rattle.sync_board.specs.declared.strategy.Strategy.{Strategy}
 
 -- where the bytes of the reader are known, they are the text of the workload that was read
 pub known_text : (bytes : Option (List ℕ)) (w : WorkloadView) → IfSome bytes (λ all. (Ok w ≡ Err Why.Read) ⊎ IsReadAnswer all (Ok w)) → IfSome bytes (IsText w)

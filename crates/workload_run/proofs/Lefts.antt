@@ -1,7 +1,7 @@
 -- What a run of the tallies of a workload left.
 use Rattle.std.proofs.Common.{◌≡◌, ℕ, List, length, subst, sym, ◌∙◌}
 use Rattle.std.proofs.lemmas.List.FromFn.{length-map-range_with_len}
-use Rattle.at_sync.specs.declared.strategy.Strategy.{Strategy}
+use Rattle.sync_board.specs.declared.strategy.Strategy.{Strategy}
 use Rattle.rts_run.specs.Outcomes.{IsOutcome, OutcomeView}
 use Rattle.run_text.specs.Sums.{AreTallies}
 use Rattle.run_text.proofs.Histories as of_runs

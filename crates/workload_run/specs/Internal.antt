@@ -1,6 +1,6 @@
 -- What the contracts of inner functions say.
 use Rattle.std.specs.Prelude.{ℕ, List, Option, None, Some}
-use Rattle.at_sync.specs.declared.strategy.Strategy.{Strategy}
+use Rattle.sync_board.specs.declared.strategy.Strategy.{Strategy}
 use Rattle.rts_run.specs.Outcomes.{OutcomeView}
 use Rattle.run_text.specs.Text.{outcome_text}
 use Rattle.tally.specs.Tallies.{TallyView}

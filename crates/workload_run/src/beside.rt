@@ -1,3 +1,5 @@
+//! Writes an event list or a trace beside the text of a run.
+
 ghost use Rattle.std.specs.Prelude.{◌≡◌, ◌∷◌, [], None, IfNone, IfSome, MatchOption, if◌then◌else◌};
 ghost use Rattle.streams.specs.Writing.{WritesPrefix};
 ghost use Rattle.workload_run.specs.Besides.{lost_line};

@@ -1,3 +1,5 @@
+//! The result of running a workload.
+
 ghost use Rattle.std.specs.Prelude.{◌≡◌, []};
 ghost use Rattle.std.specs.Option.{option_map_or};
 ghost use Rattle.workload_run.specs.Statuses.{status_of};

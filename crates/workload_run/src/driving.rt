@@ -1,3 +1,5 @@
+//! Runs a workload over threads, from the bytes of a reader to the text on a writer.
+
 ghost use Rattle.std.specs.Prelude.{◌≡◌, ◌≤◌, ◌⊎◌, ℕ, List, Option, None, Some, IfOk, IfErr};
 ghost use Rattle.workload.specs.Text.{IsWithin};
 ghost use Rattle.workload_run.specs.Driving.{EndsDrive, IsLeftBy, IsOfWorkload, ReportsUnread};
@@ -9,17 +11,17 @@ use crate::ended::RunEnd;
 use crate::onlooker::Onlooker;
 use crate::tallies::tallies_of;
 use crate::telling::{report_fault, report_memory, tell_outcome};
-use at_sync::Strategy;
 use carried_runs::{NoPauses, Pauses, run_in_parts};
 use chare_index::{Limits, NoGate};
 use pe_worker::NoWatch;
 use pup_pack::Pup;
-use rts_run::{BodyLimit, Config, History, Outcome};
+use rts_run::{Config, History, Options, Outcome};
 use std::alloc::{AllocError, Allocator};
 use std::io::{self, Read, Write};
 use std::sync::Wait;
 use std::thread::Threads;
 use streams::Noted;
+use sync_board::Strategy;
 use tally::Tally;
 use workload::{WorkError, Workload};
 
@@ -222,13 +224,15 @@ fn outcome_of<
         capacity: CAPACITY,
         turns,
         probe_workers: PROBE_WORKERS,
-        longest: BodyLimit::usual(),
+    };
+    let options = Options {
         strategy,
         history,
+        ..Options::usual()
     };
     let chares = tallies_of(alloc, &workload)?;
     drop(workload);
-    match run_in_parts(rt, alloc, &config, &NoGate, watch, pauses, chares) {
+    match run_in_parts(rt, alloc, &config, &options, &NoGate, watch, pauses, chares) {
         Ok(outcome) => Ok(outcome),
         Err(_) => Err(AllocError),
     }

@@ -1,3 +1,5 @@
+//! Writes the dump of each round to a file of its own.
+
 ghost use Rattle.std.specs.Prelude.{◌≡◌, ◌∷◌, [], ℕ, List, Option, IfOk, IfErr};
 ghost use Rattle.std.specs.String.{string_bytes};
 ghost use Rattle.workload_run.specs.Dumping.{AsksFor, AsksInTurn, AsksOnce, MayFail, file_name};

@@ -1,3 +1,5 @@
+//! Writes dumps while a run is paused, so that a run that is killed later has left them.
+
 ghost use Rattle.std.specs.Prelude.{◌≡◌, ◌≤◌, None, drop, length};
 ghost use Rattle.std.specs.Option.{option_map};
 ghost use Rattle.workload_run.specs.Dumping.{AsksInTurn, AsksRest};

@@ -1,3 +1,5 @@
+//! How the run of a workload ends, with the exit status.
+
 ghost use Rattle.std.specs.Prelude.{◌≡◌};
 ghost use Rattle.workload_run.specs.Statuses.{status_of};
 

@@ -1,3 +1,5 @@
+//! Writes the dumps of a run that has ended, and works out the exit status.
+
 ghost use Rattle.std.specs.Prelude.{◌≡◌, [], None, IfNone, IfSome, IsFalse, IsTrue};
 ghost use Rattle.std.specs.Option.{option_map_or};
 ghost use Rattle.streams.specs.Writing.{WritesPrefix};

@@ -1,3 +1,5 @@
+//! The trait of an observer of a workload's run, who is told how many rounds there are.
+
 use pe_worker::{NoWatch, Watch};
 use progress_line::ShownProgress;
 use std::time::Clock;

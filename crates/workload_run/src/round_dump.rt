@@ -1,3 +1,5 @@
+//! Writes the dump of one round, in either format.
+
 ghost use Rattle.std.specs.Prelude.{◌≡◌, ◌⊎◌, IfOk, IfErr, IsFalse, IsTrue};
 ghost use Rattle.workload_run.specs.declared.round_dump.DumpFormat.TheVariants.{Lbd1, Lbd2};
 ghost use Rattle.workload_run.specs.Dumping.{MayFail, PutsRound, recorded, recorded_of};

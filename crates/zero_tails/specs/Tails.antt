@@ -13,7 +13,7 @@ use Rattle.pup_pack.specs.Pairs.{unpack_pair}
 use Rattle.pup_pack.specs.Structs.{made, decoded}
 use Rattle.pup_pack.specs.Trips.{bytes_trips, coded_trips, decoded_trips, pair_trips, u32_trips}
 
--- so many zeros
+-- this many zeros
 abbrev pub zeros : ℕ → List ℕ
 zeros n = replicate n 0
 

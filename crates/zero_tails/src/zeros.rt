@@ -7,7 +7,7 @@ use pup_pack::{Pup, PupError};
 use std::alloc::Global;
 use std::marker::Model;
 
-/// So many bytes, all 0. It packs into their number, in four bytes, and then them. Contracts see it as their number.
+/// This many bytes, all 0. It packs into their number, in four bytes, and then them. Contracts see it as their number.
 #[derive(Clone, Copy, Debug, PartialEq, Eq)]
 pub struct Zeros {
     count: u32,
@@ -24,7 +24,7 @@ impl Model for Zeros {
 }
 
 impl Zeros {
-    /// So many.
+    /// This many.
     pub fn new(count: u32) -> Self
         ensures value { result ≡ count }
     {

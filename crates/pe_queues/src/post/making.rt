@@ -43,7 +43,7 @@ impl<T: Drop, A: Allocator> Post<T, A> {
         Ok((Post { queues, capacity }, seat))
     }
 
-    // So many seats, which together are all seats.
+    // This many seats, which together are all seats.
     pub(super) fn hand_out(
         &self,
         alloc: A,

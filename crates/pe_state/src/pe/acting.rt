@@ -208,7 +208,7 @@ impl<C: Chare<A>, H: Openings<C>, A: Allocator + Copy> PeState<C, H, A> {
             gate,
             end.me,
             end.n,
-            self.longest,
+            end.longest,
             letter,
             &mut end.room,
             &mut end.outbox,

@@ -74,7 +74,7 @@ impl<C: Chare<A>, H: Openings<C>, A: Allocator + Copy> PeState<C, H, A> {
             gate,
             end.me,
             end.n,
-            self.longest,
+            end.longest,
             index,
             round,
             &mut end.room,

@@ -10,7 +10,7 @@ use crate::end::PeEnd;
 use crate::parcel::{HeldParcel, Item};
 use crate::pe::PeState;
 use chare_index::{Limits, Pe};
-use chares::{Addressed, BodyLimit, Chare, Openings};
+use chares::{Addressed, Chare, Openings};
 use std::alloc::{AllocError, Allocator};
 use std::collections::VecDeque;
 use std::marker::PhantomData;
@@ -37,7 +37,6 @@ impl<C: Chare<A>, H: Openings<C>, A: Allocator> PeState<C, H, A> {
         Ok(PeState {
             end,
             pes,
-            longest: BodyLimit::usual(),
             alloc,
             of: PhantomData,
         })
@@ -61,7 +60,7 @@ fn take_back<C: Chare<A>, A: Allocator>(
     Ok(())
 }
 
-// The address again: this PE where it names none of so many.
+// Keeps the address if it is one of the PEs of the run, and otherwise takes this PE.
 fn address_again(address: Option<Pe>, pes: u32, me: Pe) -> Option<Pe>
     ensures value { result ≡ address_again pes me address }
 {

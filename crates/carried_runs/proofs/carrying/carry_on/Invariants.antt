@@ -4,4 +4,4 @@ abbrev pub ghosts-carry_on_as-H-Openings : goal.ghosts-carry_on_as-H-Openings
 ghosts-carry_on_as-H-Openings g a = record { opened = a._opening.now.value.items; pes = a.config.now.pes }
 
 abbrev pub ghosts-carry_on_as-H-RunStrategy : goal.ghosts-carry_on_as-H-RunStrategy
-ghosts-carry_on_as-H-RunStrategy g a = record { strategy = a.config.now.strategy }
+ghosts-carry_on_as-H-RunStrategy g a = record { strategy = a.options.now.strategy }

@@ -1,9 +1,11 @@
 use Rattle.std.proofs.Common.{◌≡◌}
-use Rattle.rts_run.specs.Outcomes.{IsOutcome}
+use Rattle.rts_run.specs.Outcomes.{EndsIdle, IsOutcome}
 use Rattle.carried_runs.proofs.parts.go_on.Given as goal
 
--- what was left so far is an outcome of the run from its beginning, whose elements opened where they did
+-- what was left so far is an outcome of the run from its beginning, which ended as the options ask,
+-- and whose elements opened where they did
 abbrev pub invariant-loop : goal.invariant-loop
 invariant-loop g l =
-    IsOutcome g.C.Chare.step g.C.Pup.fits g.C.Pup.pack g.C.Chare.refuses l.opening.value.items l.config.pes l.config.strategy l.outcome
+    IsOutcome g.C.Chare.step g.C.Pup.fits g.C.Pup.pack g.C.Chare.refuses l.opening.value.items l.config.pes l.options.strategy l.outcome
+    × EndsIdle l.options.idle l.outcome
     × (l.outcome.homes ≡ l.fn.outcome.homes)

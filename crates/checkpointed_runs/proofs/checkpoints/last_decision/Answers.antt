@@ -1,5 +1,5 @@
 use Rattle.std.proofs.Common.{◌≡◌, ◌∙◌, ap, arith, length}
-use Rattle.at_sync.specs.Boards.{decision_of}
+use Rattle.sync_board.specs.Boards.{decision_of}
 use Rattle.checkpointed_runs.proofs.Deciding.{all_placed, rounds_few, some_made, value_made}
 use Rattle.checkpointed_runs.proofs.checkpoints.last_decision.Goals as goal
 

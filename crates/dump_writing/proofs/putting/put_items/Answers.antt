@@ -10,8 +10,8 @@ loop-first-init g c = record {
   gone = none_gone (g.L.Items.item c.args.list.now) (g.W.Write.contents c.args.writer.now);
 }
 
-pub returns-in_err-put : goal.returns-in_err-put
-returns-in_err-put g c =
+pub returns-in_err-put-clause-written : goal.returns-in_err-put-clause-written
+returns-in_err-put-clause-written g c =
     let p = err_from_is_err_and c.from_residual.result c.from_residual.ensures.1 in
     let ordered : c.loop-first.first ≤ c.loop-first.first + c.min.result = omega arith in
     let inside : c.loop-first.first + c.min.result ≤ g.L.Items.count c.args.list.now = omega arith in
@@ -19,7 +19,7 @@ returns-in_err-put g c =
     subst (Puts (g.W.Write.contents c.args.writer.now) (g.W.Write.contents c.put.new.writer) (g.L.Items.text c.args.list.now)) (sym (p.1 ∙ ap Err p.2))
     (block_stopped (g.L.Items.item c.args.list.now) c.loop-first.first (c.loop-first.first + c.min.result) (g.L.Items.count c.args.list.now) block (g.L.Items.text c.args.list.now)
     (g.W.Write.contents c.args.writer.now) (g.W.Write.contents c.loop-first.writer) (g.W.Write.contents c.put.new.writer)
-    c.in_err-put.field-0.0 ordered inside (g.met.L.Items.is_joined c.args.list.now) c.fill.ensures c.loop-first.invariant.gone c.in_err-put.ensures)
+    c.in_err-put.field-0.0 ordered inside (g.met.L.Items.is_joined c.args.list.now) c.fill.ensures c.loop-first.invariant.gone c.in_err-put.ensures.written)
 
 pub loop-first-preserved : goal.loop-first-preserved
 loop-first-preserved g c =
@@ -29,5 +29,5 @@ loop-first-preserved g c =
       inside = inside;
       gone = block_gone (g.L.Items.item c.args.list.now) c.loop-first.first (c.loop-first.first + c.min.result) block
           (g.W.Write.contents c.args.writer.now) (g.W.Write.contents c.loop-first.writer) (g.W.Write.contents c.put.new.writer) ordered
-          c.fill.ensures c.loop-first.invariant.gone c.in_ok-put.ensures;
+          c.fill.ensures c.loop-first.invariant.gone c.in_ok-put.ensures.written;
     }

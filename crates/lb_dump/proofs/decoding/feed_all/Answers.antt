@@ -10,5 +10,8 @@ returns-clause-ended g c = c.feed_from.ensures.ended
 pub returns-clause-fault : goal.returns-clause-fault
 returns-clause-fault g c = c.feed_from.ensures.fault
 
+pub returns-clause-so_far : goal.returns-clause-so_far
+returns-clause-so_far g c = c.feed_from.ensures.so_far
+
 pub returns-clause-failed : goal.returns-clause-failed
 returns-clause-failed g c = c.feed_from.ensures.failed

@@ -1,7 +1,7 @@
 use Rattle.std.proofs.Common.{◌≡◌, ℕ, ◌<◌, [], ◌∷◌, Bool, true, Option, None, Some, if◌then◌else◌, refl, sym, ap, subst, ◌∙◌, arith}
 use Rattle.std.specs.Prelude.{IsNone, ◌&&◌, ◌==◌, is_none, nat_lt}
 use Rattle.std.proofs.lemmas.Bool.Decides.{nat_tests}
-use Rattle.at_sync.specs.Boards.{after_finish, after_report}
+use Rattle.sync_board.specs.Boards.{after_finish, after_report}
 use Rattle.chares.specs.declared.trace_entry.TraceEntry.TheVariants.{Decided}
 use Rattle.lb_database.specs.Measuring.{elements, report_of}
 use Rattle.rank_worlds.proofs.boards.rank_board_laws.Goals as goal

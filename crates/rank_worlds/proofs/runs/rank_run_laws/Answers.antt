@@ -1,6 +1,6 @@
 use Rattle.std.proofs.Common.{◌≡◌, ℕ, List, [], length, subst, arith}
 use Rattle.std.specs.Prelude.{Contains}
-use Rattle.at_sync.specs.Boards.{Kept}
+use Rattle.sync_board.specs.Boards.{Kept}
 use Rattle.chares.specs.declared.trace_entry.TraceEntry.{TraceEntry}
 use Rattle.chares.specs.declared.trace_entry.TraceEntry.TheVariants.{Decided, Resumed}
 use Rattle.event_laws.specs.Agreement.{Agrees, AllTaken, DecidesOfMarks, IsTakenOf}

@@ -1,7 +1,7 @@
 use Rattle.std.proofs.Common.{◌≡◌, length, None, ap, sym, ◌∙◌}
 use Rattle.std.specs.Option.{option_copied}
 use Rattle.std.proofs.lemmas.Bool.{eqb-true, not-false}
-use Rattle.at_sync.specs.Boards.{kept_of}
+use Rattle.sync_board.specs.Boards.{kept_of}
 use Rattle.round_marks.proofs.Reached.{under_way}
 use Rattle.round_marks.proofs.marks.is_next_sync.Goals as goal
 

@@ -4,4 +4,4 @@ abbrev pub ghosts-run_as-H-Openings : goal.ghosts-run_as-H-Openings
 ghosts-run_as-H-Openings g a = record { opened = a.chares.items; pes = a.config.now.pes }
 
 abbrev pub ghosts-run_as-H-RunStrategy : goal.ghosts-run_as-H-RunStrategy
-ghosts-run_as-H-RunStrategy g a = record { strategy = a.config.now.strategy }
+ghosts-run_as-H-RunStrategy g a = record { strategy = a.options.now.strategy }

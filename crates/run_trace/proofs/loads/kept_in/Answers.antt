@@ -1,5 +1,5 @@
 use Rattle.std.proofs.Common.{rules}
-use Rattle.at_sync.proofs.Rounds.{found_in}
+use Rattle.sync_board.proofs.Rounds.{found_in}
 use Rattle.run_trace.proofs.loads.kept_in.Goals as goal
 
 pub returns : goal.returns

@@ -1,5 +1,5 @@
 use Rattle.std.proofs.Common.{◌≡◌, ◌∙◌, ℕ, List, length, sym, ap, subst}
-use Rattle.at_sync.specs.Boards.{BoardState}
+use Rattle.sync_board.specs.Boards.{BoardState}
 use Rattle.courses.specs.Courses.{Leads, Made, events_of, trace_of}
 use Rattle.courses.proofs.Courses.{reaches}
 use Rattle.lb_database.specs.Measuring.{elements}

@@ -1,6 +1,6 @@
 use Rattle.std.proofs.Common.{◌≡◌, ◌∙◌, ◌<◌, ap, arith}
-use Rattle.at_sync.proofs.Places.{decided_before}
-use Rattle.at_sync.specs.Boards.{place_in}
+use Rattle.sync_board.proofs.Places.{decided_before}
+use Rattle.sync_board.specs.Boards.{place_in}
 use Rattle.lb_database.specs.Measuring.{elements}
 use Rattle.lb_refinement.specs.Refined.{refined_cuts, refined_names}
 use Rattle.barrier.proofs.Copies.{kept_places, same_place}

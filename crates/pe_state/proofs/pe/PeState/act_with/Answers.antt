@@ -19,6 +19,7 @@ in_letter : (g : _) (c : goal.After-act_on_letter g)
       outbox = c.end.inside.outbox.items;
       notes = c.end.inside.notes.items;
       count = c.end.inside.count;
+      longest = c.end.inside.longest;
       kept = c.end.inside.kept;
     }) c.in-Some.field-0 (Letter c.in-Letter.letter) c.in-Some.field-0.address
 in_letter g c = record { view_is = sym (c.end.view_is ∙ c.self.view_is); in_hand = sym c.take.ensures.value ∙ c.in-Some.is; parcel_is = c.in-Letter.is; look_is = refl }
@@ -42,6 +43,7 @@ in_element : (g : _) (c : goal.After-act_on_element g)
       outbox = c.end.inside.outbox.items;
       notes = c.end.inside.notes.items;
       count = c.end.inside.count;
+      longest = c.end.inside.longest;
       kept = c.end.inside.kept;
     }) c.in-Some.field-0 (Element c.in-Element.element) c.in-Some.field-0.address
 in_element g c = record { view_is = sym (c.end.view_is ∙ c.self.view_is); in_hand = sym c.take.ensures.value ∙ c.in-Some.is; parcel_is = c.in-Element.is; look_is = refl }

@@ -4,10 +4,10 @@ use Rattle.std.proofs.lemmas.List.{length-map}
 use Rattle.std.proofs.lemmas.List.Elements.{All-map}
 use Rattle.pe_state.specs.Histories.{IsParcelHistory}
 use Rattle.pe_queues.specs.Seats.{pes}
-use Rattle.at_sync.specs.Boards.{new_board}
+use Rattle.sync_board.specs.Boards.{new_board}
 use Rattle.run_account.proofs.RunAccounts.{all_seats, accounted}
 use Rattle.run_account.proofs.gathered.Gathered.settled.Goals as goal
-use Rattle.at_sync.specs.declared.strategy.Strategy.TheVariants.{Least}
+use Rattle.sync_board.specs.declared.strategy.Strategy.TheVariants.{Least}
 
 pub unreachable-requires : goal.unreachable-requires
 unreachable-requires g c =

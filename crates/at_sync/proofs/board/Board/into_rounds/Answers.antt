@@ -1,8 +1,0 @@
-use Rattle.std.proofs.Common.{subst}
-use Rattle.at_sync.specs.Boards.{IsBoard}
-use Rattle.at_sync.proofs.board.Board.into_rounds.Goals as goal
-
-pub returns-clause-decided : goal.returns-clause-decided
-returns-clause-decided g c =
-    let board : IsBoard {A = g.row.A.Denot} c.args.self = subst (IsBoard {A = g.row.A.Denot}) c.self.view_is c.self.invariant.0 in
-    board.decided

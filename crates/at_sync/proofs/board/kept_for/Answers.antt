@@ -1,6 +1,0 @@
-use Rattle.std.proofs.Common.{rules}
-use Rattle.at_sync.proofs.Rounds.{found_in}
-use Rattle.at_sync.proofs.board.kept_for.Goals as goal
-
-pub returns : goal.returns
-returns g c = search (rules, found_in)

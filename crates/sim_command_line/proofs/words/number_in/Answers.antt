@@ -1,5 +1,0 @@
-use Rattle.std.proofs.Common.{rules}
-use Rattle.sim_command_line.proofs.words.number_in.Goals as goal
-
-pub returns-clause-procs : goal.returns-clause-procs
-returns-clause-procs c = search rules
