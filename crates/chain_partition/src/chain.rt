@@ -82,6 +82,7 @@ impl<'a, A: Allocator> Chain<'a, A> {
         requires ordered { first ≤ end }
         requires within { end ≤ length self.now }
         ensures value { result ≡ load self.now first end }
+        ensures small { result < 2 ^ 63 }
     {
         load_between(self.loads, self.samples.as_slice(), first, end)
     }
@@ -90,6 +91,7 @@ impl<'a, A: Allocator> Chain<'a, A> {
     pub fn len(&self) -> usize
         ensures value { result ≡ length self.now }
         ensures few { result < 2 ^ 32 }
+        ensures chain { IsChain self.now }
     {
         self.loads.len()
     }

@@ -5,7 +5,8 @@
 //! - [`probe`]: whether blocks within a limit can hold all elements, as a [`Probe`]; [`probe_on`] takes the running sums of
 //!   the loads, a [`Prefix`].
 //! - [`Chain`]: loads beyond the limits of a snapshot, which a [`ChainError`] refuses only at 2^32 elements or a sum of 2^63.
-//!   [`divide_chain`], [`divide_chain_with`] and [`probe_chain`] take one, and any number of blocks.
+//!   [`divide_chain`], [`divide_chain_with`] and [`probe_chain`] take one, and any number of blocks. [`Chain::block_within`]
+//!   makes one step of a probe, the next [`Block`].
 //!
 //! ```
 //! use chain_partition::divide;
@@ -36,3 +37,4 @@ pub use outcome::Probe;
 pub use prefix::Prefix;
 pub use probing::{probe, probe_chain, probe_on};
 pub use threads::{divide_chain_with, divide_with};
+pub use walk::Block;

@@ -3,17 +3,36 @@
 ghost use Rattle.std.specs.Prelude.{◌≡◌, ◌<◌, ◌≤◌, ◌+◌, ◌^◌, IfOk, length};
 ghost use Rattle.lb_snapshot.specs.Measured.{load};
 ghost use Rattle.chain_partition.specs.Greedy.{IsBracket, IsGreatestEnd, IsGreedy};
-ghost use Rattle.chain_partition.specs.Sums.{IsSampled};
+ghost use Rattle.chain_partition.specs.Sums.{IsChain, IsSampled};
 
-use crate::chain::STRIDE;
+use crate::chain::{Chain, STRIDE};
 use lb_snapshot::Units;
 use std::alloc::{AllocError, Allocator};
 
 /// Where a block ends, and the load of its elements.
 #[derive(Clone, Copy)]
-pub(crate) struct Block {
-    pub(crate) end: usize,
-    pub(crate) load: u64,
+pub struct Block {
+    /// The element after its last one.
+    pub end: usize,
+    /// The sum of their loads.
+    pub load: u64,
+}
+
+impl<A: Allocator> Chain<'_, A> {
+    /// The block that begins at `first` and takes as many elements as fit within the limit: one step of a
+    /// [`probe`](crate::probe), whose blocks may each have a limit of their own. `before` is the load of the elements before
+    /// `first`. It takes no memory.
+    pub fn block_within(&self, first: usize, before: u64, limit: u64) -> Block
+        requires inside { first ≤ length self.now }
+        requires before { before ≡ load self.now 0 first }
+        ensures greatest { IsGreatestEnd self.now first limit result.end }
+        ensures onward { first ≤ result.end }
+        ensures few { result.end < 2 ^ 32 }
+        ensures load { result.load ≡ load self.now first result.end }
+        ensures chain { IsChain self.now }
+    {
+        end_of_block(self.loads(), self.samples(), first, before, limit)
+    }
 }
 
 // The end of a block is at least `fits`, up to which the block weighs `load`, and is before `beyond`.
