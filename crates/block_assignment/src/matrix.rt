@@ -1,6 +1,6 @@
 //! The costs of blocks whose elements are plain lists, with none of a snapshot's limits.
 
-ghost use Rattle.std.specs.Prelude.{◌≡◌, ℕ, ◌-◌, ◌<◌, ◌≤◌, [], length, slice_index, sum, sum_by, IfErr, IfOk, OnOk};
+ghost use Rattle.std.specs.Prelude.{◌≡◌, ℕ, ◌-◌, ◌<◌, ◌≤◌, [], length, slice_index, sum, sum_by, ◌↔◌, All, IsTrue, SomeIff, IfErr, IfOk, OnOk};
 ghost use Rattle.std.specs.List.{zip};
 ghost use Rattle.lb_certificates.specs.Naming.{naming_cost, moved_bytes, IsNaming};
 ghost use Rattle.lb_certificates.specs.Held.{WhereHeld};
@@ -91,6 +91,22 @@ impl<A: Allocator + Copy> CostMatrix<A> {
 }
 
 impl<A: Allocator> CostMatrix<A> {
+    /// The matrix of these costs, row by row, whatever they measure. It is `None` unless there are 1 to
+    /// [`MatrixLimits::BLOCKS`] blocks and a cost for each block on each of as many PEs, none above [`MatrixLimits::BYTES`].
+    pub fn new(blocks: u32, costs: Vec<u64, A>) -> Option<Self>
+        ensures made { SomeIff result (IsMatrix (record { blocks = blocks; costs = costs.items })) (record { blocks = blocks; costs = costs.items }) }
+    {
+        let few = 1 <= blocks && blocks <= MatrixLimits::BLOCKS;
+        if few && costs.len() as u64 == u64::from(blocks) * u64::from(blocks) && small(&costs) {
+            Some(CostMatrix {
+                count: blocks,
+                costs,
+            })
+        } else {
+            None
+        }
+    }
+
     /// The bytes of block `b` whose present PE is not `p`.
     pub fn cost(&self, b: u32, p: u32) -> u64
         requires block { b < self.now.blocks }
@@ -123,6 +139,13 @@ impl<A: Allocator> CostMatrix<A> {
     {
         Costs::new(self.count, &self.costs)
     }
+}
+
+// Whether no cost is above the limit.
+fn small(costs: &[u64]) -> bool
+    ensures { IsTrue result ↔ All (λ cost. cost ≤ BYTES) costs.now }
+{
+    costs.iter().all(|&cost| cost <= MatrixLimits::BYTES)
 }
 
 // Whether these lists are blocks of elements within the limits, and what is wrong first where they are not.
