@@ -104,7 +104,7 @@ impl<'a, A: Allocator> Chain<'a, A> {
     }
 
     /// The loads.
-    pub(crate) fn loads(&self) -> &[Units]
+    pub fn loads(&self) -> &[Units]
         ensures value { result.now ≡ self.now }
         ensures chain { IsChain result.now }
     {
