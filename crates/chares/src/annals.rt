@@ -1,9 +1,10 @@
 //! The annals of an element: its journal, of which only what came since it settled is kept.
 
-ghost use Rattle.std.specs.Prelude.{◌≡◌, ◌∷◌, ◌++◌, [], ◌<◌, List, length, OnOk};
-ghost use Rattle.chares.specs.Annals.{AnnalsView};
+ghost use Rattle.std.specs.Prelude.{◌≡◌, ◌∷◌, ◌++◌, [], ◌<◌, List, length, OnOk, true, false};
+ghost use Rattle.chares.specs.Annals.{AnnalsView, history_after};
 ghost use Rattle.chares.specs.Letters.{Done};
 ghost use Rattle.chares.specs.declared.entry.Entry.{Entry};
+ghost use Rattle.chares.specs.declared.history.History.TheVariants.{Kept, Dropped};
 
 use crate::history::History;
 use crate::journal::Journal;
@@ -21,7 +22,8 @@ const MOST_LETTERS: usize = 16;
 const LONG_BODY: usize = 64;
 
 /// All that an element has handled, in order. Its last entries are kept; those before are settled: they take no memory, and only
-/// contracts know them. How many are kept depends on the [`History`]. Contracts see the annals as the record `AnnalsView`.
+/// contracts know them. How many are kept depends on the [`History`]: annals that keep it have settled nothing. Contracts see the
+/// annals as the record `AnnalsView`.
 #[derive(Drop)]
 pub struct Annals<A: Allocator = Global> {
     past: Past,
@@ -31,8 +33,9 @@ pub struct Annals<A: Allocator = Global> {
 }
 
 impl<A: Allocator> Model for Annals<A> {
-    ghost use Rattle.std.specs.Prelude.{◌≡◌, ◌++◌, length};
+    ghost use Rattle.std.specs.Prelude.{◌≡◌, ◌++◌, [], length};
     ghost use Rattle.chares.specs.Annals.{AnnalsView};
+    ghost use Rattle.chares.specs.declared.history.History.TheVariants.{Kept};
 
     ghost Value = { AnnalsView };
 
@@ -40,11 +43,12 @@ impl<A: Allocator> Model for Annals<A> {
       entries = j.past.entries ++ j.kept.entries;
       kept = j.kept.entries;
       settled = j.settled;
+      history = j.history;
       letter_room = j.kept.letter_room;
       resumption_room = j.kept.resumption_room;
     } };
 
-    ghost invariant = { λ j. length j.past.entries ≡ j.settled };
+    ghost invariant = { λ j. (length j.past.entries ≡ j.settled) × (j.history ≡ Kept → j.past.entries ≡ []) };
 }
 
 impl<A: Allocator> Annals<A> {
@@ -53,6 +57,7 @@ impl<A: Allocator> Annals<A> {
     where
         A: Copy,
         ensures value { result.entries ≡ [] }
+        ensures history { result.history ≡ Kept }
     {
         Annals {
             past: Past::new(),
@@ -62,25 +67,30 @@ impl<A: Allocator> Annals<A> {
         }
     }
 
-    /// Annals of this many entries, all of them settled, which keep those to come.
+    /// Annals of this many entries, all of them settled, whose history is dropped.
     pub(crate) fn arrived(alloc: A, past: Past, settled: u64) -> Self
     where
         A: Copy,
         requires counted { length past.entries ≡ settled }
         ensures value { result.entries ≡ past.entries }
+        ensures history { result.history ≡ Dropped }
     {
         Annals {
             past,
             kept: Journal::new(alloc),
             settled,
-            history: History::Kept,
+            history: History::Dropped,
         }
     }
 
-    /// Keeps or drops what is handled from now on.
+    /// Keeps or drops what is handled. Annals that have settled something have dropped their history for good.
     pub(crate) fn set_history(&mut self, history: History)
-        ensures entries { self.new.entries ≡ self.old.entries }
+        ensures ok { self.new ≡ record self.old { history = history_after self.old.settled history } }
     {
+        if self.settled > 0 {
+            self.history = History::Dropped;
+            return;
+        }
         self.history = history;
     }
 
@@ -88,6 +98,8 @@ impl<A: Allocator> Annals<A> {
     pub(crate) fn reserve_letter(&mut self) -> Result<(), AllocError>
         ensures entries { self.new.entries ≡ self.old.entries }
         ensures reserved { OnOk result (0 < self.new.letter_room) }
+        ensures history { self.new.history ≡ self.old.history }
+        ensures keeps { self.old.history ≡ Kept → (self.new.kept ≡ self.old.kept) × (self.new.settled ≡ self.old.settled) }
     {
         if self.is_dropped() && self.keeps_much() {
             self.settle();
@@ -108,15 +120,18 @@ impl<A: Allocator> Annals<A> {
     pub(crate) fn reserve_resumption(&mut self) -> Result<(), AllocError>
         ensures entries { self.new.entries ≡ self.old.entries }
         ensures reserved { OnOk result (0 < self.new.resumption_room) }
+        ensures history { self.new.history ≡ self.old.history }
+        ensures keeps { self.old.history ≡ Kept → (self.new.kept ≡ self.old.kept) × (self.new.settled ≡ self.old.settled) }
     {
-        if self.is_dropped() {
-            self.settle();
-        }
+        self.settle();
         self.kept.reserve_resumption()
     }
 
     // Whether the history is dropped.
-    fn is_dropped(&self) -> bool {
+    fn is_dropped(&self) -> bool
+        ensures kept { self.now.history ≡ Kept → result ≡ false }
+        ensures dropped { result ≡ true → self.now.history ≡ Dropped }
+    {
         matches!(self.history, History::Dropped)
     }
 
@@ -124,6 +139,8 @@ impl<A: Allocator> Annals<A> {
     pub(crate) fn push_letter(&mut self, letter: Letter<A>)
         requires reserved { 0 < self.old.letter_room }
         ensures entries { self.new.entries ≡ self.old.entries ++ Entry.Letter letter ∷ [] }
+        ensures kept { self.new.kept ≡ self.old.kept ++ Entry.Letter letter ∷ [] }
+        ensures same { (self.new.settled ≡ self.old.settled) × (self.new.history ≡ self.old.history) }
     {
         self.kept.push_letter(letter);
     }
@@ -132,14 +149,21 @@ impl<A: Allocator> Annals<A> {
     pub(crate) fn push_resumption(&mut self, round: Round)
         requires reserved { 0 < self.old.resumption_room }
         ensures entries { self.new.entries ≡ self.old.entries ++ Entry.Resumption round ∷ [] }
+        ensures kept { self.new.kept ≡ self.old.kept ++ Entry.Resumption round ∷ [] }
+        ensures same { (self.new.settled ≡ self.old.settled) × (self.new.history ≡ self.old.history) }
     {
         self.kept.push_resumption(round);
     }
 
-    // Settles what is kept: it takes no more memory.
+    // Settles what is kept, where the history is dropped: it takes no more memory.
     fn settle(&mut self)
         ensures entries { self.new.entries ≡ self.old.entries }
+        ensures history { self.new.history ≡ self.old.history }
+        ensures keeps { self.old.history ≡ Kept → (self.new.kept ≡ self.old.kept) × (self.new.settled ≡ self.old.settled) }
     {
+        if !self.is_dropped() {
+            return;
+        }
         let Some(settled) = self.settled.checked_add(self.kept.len() as u64) else {
             return;
         };
@@ -148,18 +172,27 @@ impl<A: Allocator> Annals<A> {
         self.kept.clear();
     }
 
-    /// How many letters and resumptions are settled.
+    /// Whether all is kept, or what came before is dropped.
+    pub fn history(&self) -> History
+        ensures value { result ≡ self.now.history }
+    {
+        self.history
+    }
+
+    /// How many letters and resumptions are settled: none, where the history is kept.
     pub fn settled(&self) -> u64
         ensures value { result ≡ self.now.settled }
+        ensures all { self.now.history ≡ Kept → result ≡ 0 }
     {
         self.settled
     }
 
-    /// The letters and resumptions since, which are all but as many as are settled. A resumption counts the letters before it among
-    /// these.
+    /// The letters and resumptions since, which are all but as many as are settled: all, where the history is kept. A resumption
+    /// counts the letters before it among these.
     pub fn kept(&self) -> &Journal<A>
         ensures value { result.now.entries ≡ self.now.kept }
         ensures last { (past : List Done) × (length past ≡ self.now.settled) × (self.now.entries ≡ past ++ result.now.entries) }
+        ensures all { self.now.history ≡ Kept → result.now.entries ≡ self.now.entries }
     {
         &self.kept
     }

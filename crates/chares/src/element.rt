@@ -92,7 +92,7 @@ impl<C: Chare<A>, A: Allocator> Element<C, A> {
         &self.journal
     }
 
-    /// Keeps or drops what it handles from now on. Its journal is what it was.
+    /// Keeps or drops what it handles. One that has settled something has dropped its history for good. Its journal is what it was.
     pub fn set_history(&mut self, history: History)
         ensures same { self.new ≡ self.old }
     {
