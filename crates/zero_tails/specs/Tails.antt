@@ -12,6 +12,8 @@ use Rattle.pup_pack.specs.Packing.{RoundTrip}
 use Rattle.pup_pack.specs.Pairs.{unpack_pair}
 use Rattle.pup_pack.specs.Structs.{made, decoded}
 use Rattle.pup_pack.specs.Trips.{bytes_trips, coded_trips, decoded_trips, pair_trips, u32_trips}
+use Rattle.pup_pack.specs.declared.error.PupError.{PupError}
+use Rattle.pup_pack.specs.declared.error.PupError.TheVariants.{OutOfMemory, TooLong}
 
 -- this many zeros
 abbrev pub zeros : ℕ → List ℕ
@@ -49,6 +51,12 @@ trimmed_read x = if is_trimmed x then Some (padded x) else None
 
 abbrev pub FitsTrimmed : List ℕ → Type 0
 FitsTrimmed xs = length xs ≤ STATE_BYTES
+
+-- why there is no copy of a list: it is longer than a pack may be; or it is not, and memory was refused
+abbrev pub RefusesCopy : List ℕ → PupError → Type 0
+RefusesCopy xs TooLong = ¬ (FitsTrimmed xs)
+RefusesCopy xs OutOfMemory = FitsTrimmed xs
+RefusesCopy xs error = ⊥
 
 -- no more than there are
 kept_le_before : (x k n : ℕ) → k ≤ n → kept_before x k ≤ suc n

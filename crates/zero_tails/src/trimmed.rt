@@ -1,7 +1,7 @@
 //! Bytes without the zeros at their end.
 
-ghost use Rattle.std.specs.Prelude.{◌≡◌, ◌≤◌, ◌↔◌, false, length, IfOk, IfSome, IsNone, OnErr};
-ghost use Rattle.zero_tails.specs.Tails.{is_trimmed, kept_of, padded};
+ghost use Rattle.std.specs.Prelude.{◌≡◌, ◌≤◌, ◌↔◌, false, length, IfErr, IfOk, IfSome, IsNone, OnErr};
+ghost use Rattle.zero_tails.specs.Tails.{FitsTrimmed, RefusesCopy, is_trimmed, kept_of, padded};
 
 use chare_index::Limits;
 use pup_pack::{Bytes, Fields, Pup, PupError};
@@ -36,10 +36,14 @@ impl Trimmed {
     /// # Errors
     ///
     /// - [`TooLong`](PupError::TooLong): there are more than 1,048,576.
-    /// - [`OutOfMemory`](PupError::OutOfMemory): memory was refused.
+    /// - [`OutOfMemory`](PupError::OutOfMemory): there are no more, and memory was refused.
+    ///
+    /// There is no other.
     #[tactic(auto, using(crate::specs::Tails::again, crate::specs::Tails::parts_read))]
     pub fn of(alloc: Global, bytes: &[u8]) -> Result<Self, PupError>
         ensures value { IfOk result (λ t. t ≡ bytes.now) }
+        ensures fits { IfOk result (λ _. FitsTrimmed bytes.now) }
+        ensures refused { IfErr result (RefusesCopy bytes.now) }
     {
         if bytes.len() > Limits::STATE_BYTES as usize {
             return Err(PupError::TooLong);
