@@ -47,13 +47,13 @@ fn command<'a>(alloc: Global) -> Result<Command<'a>, AllocError> {
 }
 
 fn elements<'a>(alloc: Global) -> Arg<'a> {
-    let help = "How many strips there are, each with 16 cells: 64 where it is not said";
+    let help = "How many strips there are, each with 16 cells: 64{n}where it is not said";
     let range = value_parser!(u32).range(0..=i64::from(Limits::ELEMENTS));
     word(alloc, "elements", "N", help).value_parser(range)
 }
 
 fn pes<'a>(alloc: Global) -> Arg<'a> {
-    let help = "On how many PEs they run, each with a thread: 4 where it is not said";
+    let help = "On how many PEs they run, each with a thread: 4{n}where it is not said";
     let range = value_parser!(u32).range(1..=i64::from(Limits::PES));
     word(alloc, "pes", "P", help).value_parser(range)
 }
@@ -66,7 +66,7 @@ fn rounds<'a>(alloc: Global) -> Arg<'a> {
 
 fn work<'a>(alloc: Global) -> Arg<'a> {
     let help =
-        "How many rounds of mixing more a cell takes in the middle of the hot spot:{n}1000 where it is not said";
+        "How many rounds of mixing more a cell takes in{n}the middle of the hot spot: 1000 where it is not{n}said";
     let range = value_parser!(u32).range(0..=1_000_000);
     word(alloc, "work", "W", help).value_parser(range)
 }
@@ -78,7 +78,7 @@ fn is_static<'a>(alloc: Global) -> Arg<'a> {
 fn tolerance<'a>(alloc: Global) -> Arg<'a> {
     program_words::tolerance(
         alloc,
-        "Lets the greatest load of a PE lie up to T thousandths above the least{n}possible one, so that fewer bytes move; 0 to 1000",
+        "Lets the greatest load of a PE lie so many{n}thousandths above the least possible one, 0 to{n}1000, or so great a fraction, so that fewer bytes{n}move: 20 and 0.02 are the same",
     )
 }
 
@@ -87,7 +87,7 @@ fn trace<'a>(alloc: Global) -> Arg<'a> {
         alloc,
         "trace",
         "FILE",
-        "Writes what each PE did to FILE, in the Trace Event Format, for{n}chrome://tracing, Perfetto or `tezgumi timeline`",
+        "Writes what each PE did to FILE, in the Trace{n}Event Format, for chrome://tracing, Perfetto or{n}`tezgumi timeline`",
     )
 }
 
@@ -95,7 +95,7 @@ fn no_journal<'a>(alloc: Global) -> Arg<'a> {
     flag(
         alloc,
         "no-journal",
-        "Drops what each strip has handled, so that memory does not grow with{n}its letters",
+        "Drops what each strip has handled, so that memory{n}does not grow with its letters",
     )
 }
 

@@ -60,10 +60,10 @@ AsksAnyOrder words = one_of (codes "any-order") (matches_of program words) ≡ S
 -- the line where a check is asked for, and also a number of PEs, a tolerance, an order that is kept or any order; or such an order
 -- without a tolerance; or both with one
 abbrev pub both_line : Clash → List ℕ
-both_line ProcsAndCheck = codes "lb_sim: --procs and --check" ++ 10 ∷ []
-both_line ToleranceAndCheck = codes "lb_sim: --tolerance and --check" ++ 10 ∷ []
-both_line KeepOrderAndCheck = codes "lb_sim: --keep-order and --check" ++ 10 ∷ []
-both_line KeepOrderAlone = codes "lb_sim: --keep-order without --tolerance" ++ 10 ∷ []
-both_line AnyOrderAndCheck = codes "lb_sim: --any-order and --check" ++ 10 ∷ []
-both_line AnyOrderAlone = codes "lb_sim: --any-order without --tolerance" ++ 10 ∷ []
-both_line KeepOrderAndAnyOrder = codes "lb_sim: --keep-order and --any-order" ++ 10 ∷ []
+both_line ProcsAndCheck = codes "lb_sim: --procs and --check: a decision is checked for its own number of PEs; leave one out" ++ 10 ∷ []
+both_line ToleranceAndCheck = codes "lb_sim: --tolerance and --check: a check decides nothing; leave one out" ++ 10 ∷ []
+both_line KeepOrderAndCheck = codes "lb_sim: --keep-order and --check: a check decides nothing; leave one out" ++ 10 ∷ []
+both_line KeepOrderAlone = codes "lb_sim: --keep-order without --tolerance: add --tolerance T, or leave --keep-order out" ++ 10 ∷ []
+both_line AnyOrderAndCheck = codes "lb_sim: --any-order and --check: a check decides nothing; leave one out" ++ 10 ∷ []
+both_line AnyOrderAlone = codes "lb_sim: --any-order without --tolerance: add --tolerance T, or leave --any-order out" ++ 10 ∷ []
+both_line KeepOrderAndAnyOrder = codes "lb_sim: --keep-order and --any-order: the PEs keep their order, or may change it; leave one out" ++ 10 ∷ []

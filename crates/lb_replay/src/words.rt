@@ -22,25 +22,32 @@ use std::io::Write;
 use streams::write_out;
 
 /// What is printed where both a check and a number of PEs are asked for.
-const PROCS_AND_CHECK: &str = "lb_sim: --procs and --check\n";
+const PROCS_AND_CHECK: &str =
+    "lb_sim: --procs and --check: a decision is checked for its own number of PEs; leave one out\n";
 
 /// What is printed where both a check and a tolerance are asked for.
-const TOLERANCE_AND_CHECK: &str = "lb_sim: --tolerance and --check\n";
+const TOLERANCE_AND_CHECK: &str =
+    "lb_sim: --tolerance and --check: a check decides nothing; leave one out\n";
 
 /// What is printed where both a check and an order that is kept are asked for.
-const KEEP_ORDER_AND_CHECK: &str = "lb_sim: --keep-order and --check\n";
+const KEEP_ORDER_AND_CHECK: &str =
+    "lb_sim: --keep-order and --check: a check decides nothing; leave one out\n";
 
 /// What is printed where an order is to be kept, and no tolerance is given.
-const KEEP_ORDER_ALONE: &str = "lb_sim: --keep-order without --tolerance\n";
+const KEEP_ORDER_ALONE: &str =
+    "lb_sim: --keep-order without --tolerance: add --tolerance T, or leave --keep-order out\n";
 
 /// What is printed where both a check and any order are asked for.
-const ANY_ORDER_AND_CHECK: &str = "lb_sim: --any-order and --check\n";
+const ANY_ORDER_AND_CHECK: &str =
+    "lb_sim: --any-order and --check: a check decides nothing; leave one out\n";
 
 /// What is printed where any order is asked for, and no tolerance is given.
-const ANY_ORDER_ALONE: &str = "lb_sim: --any-order without --tolerance\n";
+const ANY_ORDER_ALONE: &str =
+    "lb_sim: --any-order without --tolerance: add --tolerance T, or leave --any-order out\n";
 
 /// What is printed where an order is to be kept, and may be any.
-const KEEP_ORDER_AND_ANY_ORDER: &str = "lb_sim: --keep-order and --any-order\n";
+const KEEP_ORDER_AND_ANY_ORDER: &str =
+    "lb_sim: --keep-order and --any-order: the PEs keep their order, or may change it; leave one out\n";
 
 /// Writes which two options cannot be combined, or which one needs another, and returns the status for that, [`NO_WORDS`].
 pub fn refuse_both<W: Write>(writer: &mut W, clash: Clash) -> u8
@@ -119,7 +126,7 @@ fn procs<'a>(alloc: Global) -> Arg<'a>
     ensures rule { rule_of result ≡ procs_rule }
     ensures fits { FitsChain result }
 {
-    let help = "Plans for P processors in place of the dump's own number";
+    let help = "Plans for P processors in place of the dump's{n}own number";
     word(alloc, "procs", "P", help).value_parser(number_of_pes())
 }
 
@@ -129,8 +136,10 @@ fn tolerance<'a>(alloc: Global) -> Arg<'a>
 {
     program_words::tolerance(
         alloc,
-        "Moves fewer bytes where no load is then above the least by{n}\
-         more than T thousandths. It does not go with --check",
+        "Moves fewer bytes where no load is then above{n}\
+         the least by more than so many thousandths, 0{n}\
+         to 1000, or a fraction: 20 and 0.02 are the{n}\
+         same. It does not go with --check",
     )
 }
 
@@ -141,8 +150,9 @@ fn keep_order<'a>(alloc: Global) -> Arg<'a>
     flag(
         alloc,
         "keep-order",
-        "With --tolerance: the processors keep their order along the{n}\
-         chain. It does not go with --check",
+        "With --tolerance: the processors keep their{n}\
+         order along the chain. It does not go with{n}\
+         --check",
     )
 }
 
@@ -153,8 +163,9 @@ fn any_order<'a>(alloc: Global) -> Arg<'a>
     flag(
         alloc,
         "any-order",
-        "With --tolerance: the processors may change their order along{n}\
-         the chain, so that the fewest bytes move. It does not go with{n}\
+        "With --tolerance: the processors may change{n}\
+         their order along the chain, so that the{n}\
+         fewest bytes move. It does not go with{n}\
          --keep-order nor with --check",
     )
 }
@@ -166,8 +177,9 @@ fn check<'a>(alloc: Global) -> Arg<'a>
     flag(
         alloc,
         "check",
-        "Checks the decision that the dump has, and prints its first{n}\
-         flaw, or that it is right. It does not go with --procs",
+        "Checks the decision that the dump has, and{n}\
+         prints its first flaw, or that it is right. It{n}\
+         does not go with --procs",
     )
 }
 

@@ -68,12 +68,13 @@ pub fn flag<'a>(alloc: Global, name: &'a str, help: &'a str) -> Arg<'a>
         .action(ArgAction::SetTrue)
 }
 
-/// The option `--tolerance`, which takes thousandths, 0 to 1,000 (`Tolerance::MOST`).
+/// The option `--tolerance`, which takes thousandths, 0 to 1,000 (`Tolerance::MOST`). [`on_words`](crate::on_words) reads a fraction
+/// as thousandths before.
 pub fn tolerance<'a>(alloc: Global, help: &'a str) -> Arg<'a>
     ensures rule { rule_of result ≡ tolerance_rule }
     ensures fits { FitsChain result }
 {
-    word(alloc, "tolerance", "T", help).value_parser(thousandths())
+    word(alloc, "tolerance", "THOUSANDTHS", help).value_parser(thousandths())
 }
 
 // A number of thousandths.

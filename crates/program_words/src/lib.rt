@@ -4,7 +4,7 @@
 //! - [`on_words`]: runs a program on its words; [`refused`]: prints why there is nothing to run; [`words_status`]: the status then.
 //! - [`NO_WORDS`], [`BAD_FILE`], [`RUN_FAULT`] and [`NO_OUTPUT`]: statuses of the programs.
 //! - [`new_program`]: a program before its arguments are declared; [`file`], [`word`], [`flag`] and [`tolerance`]: arguments;
-//!   [`tolerance_in`]: the tolerance that was found.
+//!   [`tolerance_in`]: the tolerance that was found; [`read_word`]: a word, where a tolerance may be a fraction.
 //!
 //! ```
 //! use program_words::{flag, new_program, tolerance, tolerance_in};
@@ -20,7 +20,9 @@
 #![tactic(auto)]
 
 mod arguments;
+mod fractions;
 mod words;
 
 pub use arguments::{file, flag, new_program, tolerance, tolerance_in, word};
+pub use fractions::read_word;
 pub use words::{BAD_FILE, NO_OUTPUT, NO_WORDS, RUN_FAULT, on_words, refused, words_status};

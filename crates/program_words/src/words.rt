@@ -4,7 +4,9 @@ ghost use Rattle.std.specs.Prelude.{◌≡◌, ◌≢◌, ◌⊎◌};
 ghost use Rattle.clap.specs.Values.{kind_of};
 ghost use Rattle.clap.specs.declared.error.kind.ErrorKind.TheVariants.{DisplayHelp, DisplayVersion};
 
+use crate::fractions::read_word;
 use clap::Error;
+use std::alloc::{AllocError, Global};
 use std::env::{self, Env};
 use std::process::ExitCode;
 
@@ -39,7 +41,8 @@ pub fn refused<R: Print + Eprint>(rt: &R, error: &Error) -> u8
 }
 
 /// Runs a program on the words of its command line, its own name first, and exits with the status that it returns; or with
-/// [`NO_WORDS`] where a word is not UTF-8 or memory ran out.
+/// [`NO_WORDS`] where a word is not UTF-8 or memory ran out. A tolerance that is a fraction is read in thousandths, as by
+/// [`read_word`].
 pub fn on_words<R: Env + AllocGlobal, F: FnOnce(&[&str]) -> u8>(rt: &R, run: F) -> ExitCode
     requires { F.IsAlwaysCallable run }
 {
@@ -49,12 +52,41 @@ pub fn on_words<R: Env + AllocGlobal, F: FnOnce(&[&str]) -> u8>(rt: &R, run: F) 
     let Ok(words) = args.collect::<Vec<String>>(rt.alloc()) else {
         return ExitCode::from(NO_WORDS);
     };
-    let Ok(words) = words
-        .iter()
-        .map(|word| word.as_str())
-        .collect::<Vec<&str>>(rt.alloc())
-    else {
+    let Ok(words) = slices(rt.alloc(), &words) else {
         return ExitCode::from(NO_WORDS);
     };
-    ExitCode::from(run(&words))
+    let Ok(read) = with_thousandths(rt.alloc(), &words) else {
+        return ExitCode::from(NO_WORDS);
+    };
+    let Ok(read) = slices(rt.alloc(), &read) else {
+        return ExitCode::from(NO_WORDS);
+    };
+    ExitCode::from(run(&read))
+}
+
+// The words with each tolerance in thousandths. Those from `--` on are no options, and stay as they are.
+fn with_thousandths(alloc: Global, words: &[&str]) -> Result<Vec<String>, AllocError> {
+    let end = words
+        .iter()
+        .position(|word| *word == "--")
+        .unwrap_or(words.len());
+    let mut read = Vec::new(alloc);
+    for k in 0..words.len() {
+        let word = if k < end {
+            let before = if k == 0 { "" } else { words[k - 1] };
+            read_word(alloc, before, words[k])?
+        } else {
+            String::from_str(alloc, words[k])?
+        };
+        read.push(word)?;
+    }
+    Ok(read)
+}
+
+// The texts of these strings.
+fn slices<'a>(alloc: Global, words: &'a [String]) -> Result<Vec<&'a str>, AllocError> {
+    words
+        .iter()
+        .map(|word| word.as_str())
+        .collect::<Vec<&str>>(alloc)
 }

@@ -233,27 +233,33 @@ fn is_told(rt: &impl AllocGlobal, clash: Clash, line: &str) -> bool {
 }
 
 static CLASHES: [(Clash, &str); 7] = [
-    (Clash::ProcsAndCheck, "lb_sim: --procs and --check\n"),
+    (
+        Clash::ProcsAndCheck,
+        "lb_sim: --procs and --check: a decision is checked for its own number of PEs; leave one out\n",
+    ),
     (
         Clash::ToleranceAndCheck,
-        "lb_sim: --tolerance and --check\n",
+        "lb_sim: --tolerance and --check: a check decides nothing; leave one out\n",
     ),
     (
         Clash::KeepOrderAndCheck,
-        "lb_sim: --keep-order and --check\n",
+        "lb_sim: --keep-order and --check: a check decides nothing; leave one out\n",
     ),
     (
         Clash::KeepOrderAlone,
-        "lb_sim: --keep-order without --tolerance\n",
+        "lb_sim: --keep-order without --tolerance: add --tolerance T, or leave --keep-order out\n",
     ),
-    (Clash::AnyOrderAndCheck, "lb_sim: --any-order and --check\n"),
+    (
+        Clash::AnyOrderAndCheck,
+        "lb_sim: --any-order and --check: a check decides nothing; leave one out\n",
+    ),
     (
         Clash::AnyOrderAlone,
-        "lb_sim: --any-order without --tolerance\n",
+        "lb_sim: --any-order without --tolerance: add --tolerance T, or leave --any-order out\n",
     ),
     (
         Clash::KeepOrderAndAnyOrder,
-        "lb_sim: --keep-order and --any-order\n",
+        "lb_sim: --keep-order and --any-order: the PEs keep their order, or may change it; leave one out\n",
     ),
 ];
 

@@ -57,7 +57,7 @@ fn files<'a>(alloc: Global) -> Arg<'a>
 {
     Arg::new(alloc, "file")
         .value_name("FILE")
-        .help("Dumps of load databases, as charm_run --dump writes them;{n}- is the standard input")
+        .help("Dumps of load databases, as charm_run --dump{n}writes them; - is the standard input")
         .required(true)
         .action(ArgAction::Append)
 }
@@ -67,7 +67,7 @@ fn procs<'a>(alloc: Global) -> Arg<'a>
     ensures fits { FitsChain result }
 {
     let help =
-        "Plans for each of these numbers of PEs, 1 to 256, in place{n}of the dump's own number";
+        "Plans for each of these numbers of PEs, 1 to{n}256, in place of the dump's own number";
     word(alloc, "procs", "P[,P..]", help)
 }
 
@@ -77,8 +77,10 @@ fn tolerance<'a>(alloc: Global) -> Arg<'a>
 {
     program_words::tolerance(
         alloc,
-        "Reports also on the decision that moves fewer bytes where no{n}\
-         load is then above the least by more than T thousandths",
+        "Reports also on the decision that moves fewer{n}\
+         bytes where no load is then above the least by{n}\
+         more than so many thousandths, 0 to 1000, or a{n}\
+         fraction: 20 and 0.02 are the same",
     )
 }
 
@@ -89,7 +91,7 @@ fn csv<'a>(alloc: Global) -> Arg<'a>
     flag(
         alloc,
         "csv",
-        "Prints comma-separated values in place of a table",
+        "Prints comma-separated values in place of a{n}table",
     )
 }
 
@@ -100,7 +102,7 @@ fn moves<'a>(alloc: Global) -> Arg<'a>
     flag(
         alloc,
         "moves",
-        "Lists the elements that move in place of the figures",
+        "Lists the elements that move in place of the{n}figures",
     )
 }
 

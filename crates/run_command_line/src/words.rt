@@ -37,24 +37,40 @@ fn line_of(clash: Clash) -> &'static str
     ensures { result.now ≡ clash_line clash }
 {
     match clash {
-        Clash::SeedAndSeeds => "charm_run: --seed and --seeds\n",
-        Clash::SeedAndReplay => "charm_run: --seed and --replay\n",
-        Clash::SeedsAndReplay => "charm_run: --seeds and --replay\n",
-        Clash::EventsWithoutSeed => "charm_run: --events without --seed\n",
-        Clash::SeedsAndDump => "charm_run: --seeds and --dump\n",
-        Clash::SeedsAndTrace => "charm_run: --seeds and --trace\n",
-        Clash::NoJournalOnOneThread => "charm_run: --no-journal with --seed, --seeds or --replay\n",
+        Clash::SeedAndSeeds =>
+            "charm_run: --seed and --seeds: give --seed S for one run, or --seeds N for many\n",
+        Clash::SeedAndReplay =>
+            "charm_run: --seed and --replay: the seed or the list decides the order of events; leave one out\n",
+        Clash::SeedsAndReplay =>
+            "charm_run: --seeds and --replay: the seeds or the list decide the order of events; leave one out\n",
+        Clash::EventsWithoutSeed =>
+            "charm_run: --events without --seed: add --seed S, for the run that the list is of\n",
+        Clash::SeedsAndDump =>
+            "charm_run: --seeds and --dump: dumps are of one run; give --seed S in place of --seeds\n",
+        Clash::SeedsAndTrace =>
+            "charm_run: --seeds and --trace: a trace is of one run; give --seed S in place of --seeds\n",
+        Clash::NoJournalOnOneThread =>
+            "charm_run: --no-journal with --seed, --seeds or --replay: a run on one thread keeps its journal; leave --no-journal out\n",
         Clash::CheckpointOnOneThread =>
-            "charm_run: --checkpoint with --seed, --seeds or --replay\n",
-        Clash::RestartOnOneThread => "charm_run: --restart with --seed, --seeds or --replay\n",
-        Clash::CheckpointAndDump => "charm_run: --checkpoint and --dump\n",
-        Clash::CheckpointAndLbd1 => "charm_run: --checkpoint and --lbd1\n",
-        Clash::CheckpointAndTrace => "charm_run: --checkpoint and --trace\n",
-        Clash::RestartAndDump => "charm_run: --restart and --dump\n",
-        Clash::RestartAndLbd1 => "charm_run: --restart and --lbd1\n",
-        Clash::RestartAndTrace => "charm_run: --restart and --trace\n",
-        Clash::EveryWithoutCheckpoint => "charm_run: --every without --checkpoint\n",
-        Clash::ProcsWithoutRestart => "charm_run: --procs without --restart\n",
+            "charm_run: --checkpoint with --seed, --seeds or --replay: only a run over threads keeps checkpoints; leave one out\n",
+        Clash::RestartOnOneThread =>
+            "charm_run: --restart with --seed, --seeds or --replay: a run goes on over threads; leave the other out\n",
+        Clash::CheckpointAndDump =>
+            "charm_run: --checkpoint and --dump: a run that keeps checkpoints writes no dumps; leave one out\n",
+        Clash::CheckpointAndLbd1 =>
+            "charm_run: --checkpoint and --lbd1: a run that keeps checkpoints writes no dumps; leave --lbd1 out\n",
+        Clash::CheckpointAndTrace =>
+            "charm_run: --checkpoint and --trace: a run that keeps checkpoints writes no trace; leave one out\n",
+        Clash::RestartAndDump =>
+            "charm_run: --restart and --dump: a run that goes on writes no dumps; leave --dump out\n",
+        Clash::RestartAndLbd1 =>
+            "charm_run: --restart and --lbd1: a run that goes on writes no dumps; leave --lbd1 out\n",
+        Clash::RestartAndTrace =>
+            "charm_run: --restart and --trace: a run that goes on writes no trace; leave --trace out\n",
+        Clash::EveryWithoutCheckpoint =>
+            "charm_run: --every without --checkpoint: add --checkpoint FILE, or leave --every out\n",
+        Clash::ProcsWithoutRestart =>
+            "charm_run: --procs without --restart: a workload has its own number of PEs; leave --procs out, or go on from a checkpoint with --restart\n",
     }
 }
 
@@ -175,9 +191,10 @@ fn tolerance<'a>(alloc: Global) -> Arg<'a>
 {
     program_words::tolerance(
         alloc,
-        "Lets the greatest load of a PE lie up to T thousandths{n}\
-             above the least possible one, so that fewer bytes{n}\
-             move; 0 to 1000",
+        "Lets the greatest load of a PE lie so many thousandths{n}\
+             above the least possible one, 0 to 1000, or so great a{n}\
+             fraction, so that fewer bytes move: 20 and 0.02 are the{n}\
+             same",
     )
 }
 
