@@ -1,4 +1,5 @@
 pub mod Dumps
+pub mod Recording
 pub mod Text
 pub mod Layout
 pub mod Fields

@@ -1,7 +1,9 @@
 //! What proves that a decision within a tolerance moves as few bytes as it may.
 
-use any_order::ByteBounds;
-use chain_refinement::{Heights, Tolerance};
+ghost use Rattle.std.specs.Prelude.{◌≡◌};
+
+use any_order::{ByteBounds, Reordered};
+use chain_refinement::{Heights, Refinement, Tolerance};
 use lb_certificates::{Cuts, Division, Naming};
 use std::alloc::{Allocator, Global};
 
@@ -22,6 +24,30 @@ pub struct OrderProof<A: Allocator = Global> {
     pub heights: Heights<A>,
 }
 
+impl<A: Allocator> OrderProof<A> {
+    /// The refinement with these cuts that this proves.
+    pub fn with_cuts(self, cuts: Cuts<A>) -> Refinement<A>
+        ensures value { result ≡ record { least = self.least; tolerance = self.tolerance; order = self.order; present = self.present;
+            cuts = cuts; heights = self.heights } }
+    {
+        let OrderProof {
+            least,
+            tolerance,
+            order,
+            present,
+            heights,
+        } = self;
+        Refinement {
+            least,
+            tolerance,
+            order,
+            present,
+            cuts,
+            heights,
+        }
+    }
+}
+
 /// The proof that no cuts within a tolerance move fewer bytes, whatever the names of the blocks. With the cuts and the names of the
 /// decision it is a [`Reordered`](any_order::Reordered), which [`check_reordered`](any_order::check_reordered) checks.
 #[derive(Drop)]
@@ -36,6 +62,29 @@ pub struct AnyOrderProof<A: Allocator = Global> {
     pub any: ByteBounds<A>,
     /// Such bounds where none of these blocks runs on the PE of the element behind them.
     pub free: ByteBounds<A>,
+}
+
+impl<A: Allocator> AnyOrderProof<A> {
+    /// The reordered division with these cuts and names that this proves.
+    pub fn with_blocks(self, cuts: Cuts<A>, names: Naming<A>) -> Reordered<A>
+        ensures value { result ≡ record { least = self.least; tolerance = self.tolerance; cuts = cuts; names = names; any = self.any;
+            free = self.free } }
+    {
+        let AnyOrderProof {
+            least,
+            tolerance,
+            any,
+            free,
+        } = self;
+        Reordered {
+            least,
+            tolerance,
+            cuts,
+            names,
+            any,
+            free,
+        }
+    }
 }
 
 /// What proves a decision within a tolerance.
