@@ -2,8 +2,7 @@
 use Rattle.std.specs.Prelude.{ℕ, ◌+◌, ◌<◌, ◌≤◌, nat_lt, if◌then◌else◌, List, [], length, slice_index, Option, None, Some}
 use Rattle.lb_certificates.specs.Naming.{blocks_between}
 use Rattle.lb_strategy.specs.Moves.{HasPlace, planned_pe}
-use Rattle.lb_refinement.specs.Refined.{refined_cuts, refined_names}
-use Rattle.lb_refinement.specs.declared.refined.Refined.{Refined}
+use Rattle.lb_strategy.specs.declared.decision.Decision.{Decision}
 
 -- which round's places these are, where the elements are cut into blocks, and the PE of each block
 pub record PlacesView : Type 0 where
@@ -16,8 +15,8 @@ abbrev pub no_places : PlacesView
 no_places = record { round = 0; cuts = []; names = [] }
 
 -- the places of a round, by the decision that was made for it
-abbrev pub places_by : {A : Type 0} → ℕ → Refined A → PlacesView
-places_by round decision = record { round = round; cuts = refined_cuts decision; names = refined_names decision }
+abbrev pub places_by : {A : Type 0} → ℕ → Decision A → PlacesView
+places_by round decision = record { round = round; cuts = decision.division.cuts; names = decision.naming }
 
 -- how many elements are cut into blocks: as many as the last cut says
 abbrev pub elements_cut : List ℕ → ℕ

@@ -12,8 +12,8 @@ ghost use Rattle.barrier.specs.Refusals.{IsRefusedDecision};
 use crate::board_size::BoardSize;
 use crate::round_places::RoundPlaces;
 use chare_index::{Gate, Index, Limits, Pe, Round};
-use lb_refinement::Refined;
 use lb_snapshot::{Snapshot, Units};
+use lb_strategy::Decision;
 use std::alloc::{Allocator, Global};
 use std::marker::{Model, PhantomData};
 use std::thread::Threads;
@@ -125,7 +125,7 @@ impl<J: BoardSize, A: Allocator> RunBoard<J, A> {
     }
 
     /// The snapshot and the decision of a round, as [`Board::kept_for`] gives them, or `None` where the round is not decided.
-    pub fn kept_for(&self, round: Round) -> Option<&(Snapshot<A>, Refined<A>)>
+    pub fn kept_for(&self, round: Round) -> Option<&(Snapshot<A>, Decision<A>)>
         ensures value { option_copied result ≡ kept_of self.now.rounds round }
     {
         self.board.kept_for(round)
@@ -155,7 +155,11 @@ impl<J: BoardSize, A: Allocator> RunBoard<J, A> {
         let Some(decision) = self.board.decision_for(round) else {
             return false;
         };
-        into.copy(round, decision.cuts(), decision.names());
+        into.copy(
+            round,
+            decision.division.cuts.as_slice(),
+            decision.naming.as_slice(),
+        );
         true
     }
 

@@ -4,8 +4,7 @@ use Rattle.std.proofs.lemmas.Option.{slice_get_past}
 use Rattle.chare_index.specs.declared.limits.TheConstants.Limits.{ROUND}
 use Rattle.sync_board.specs.Boards.{IsBoard, IsDecided, IsKeptIn, Kept, kept_of}
 use Rattle.lb_database.specs.Measuring.{IsMeasured, elements}
-use Rattle.lb_refinement.specs.Refined.{refined_cuts, refined_names}
-use Rattle.lb_refinement.specs.declared.refined.Refined.{Refined}
+use Rattle.lb_strategy.specs.declared.decision.Decision.{Decision}
 use Rattle.std_heap.specs.declared.Global.{Global}
 use Rattle.board_handle.specs.Owning.{BoardView}
 
@@ -15,10 +14,10 @@ not_past b zero board measured past = absurd (omega (arith, past))
 not_past b (suc r) board measured past = slice_get_past b.rounds r (omega (arith, past, board.numbered, measured.numbered))
 
 -- a decision has one cut more than PEs, and a name for each
-pub cut_count : (b : BoardView) (round : ℕ) (d : Refined Global) → IsKeptIn b round d → length (refined_cuts d) ≡ b.pes + 1
+pub cut_count : (b : BoardView) (round : ℕ) (d : Decision Global) → IsKeptIn b round d → length d.division.cuts ≡ b.pes + 1
 cut_count b round d kept = kept.decided.placed.blocks.counted
 
-pub name_count : (b : BoardView) (round : ℕ) (d : Refined Global) → IsKeptIn b round d → length (refined_names d) ≡ b.pes
+pub name_count : (b : BoardView) (round : ℕ) (d : Decision Global) → IsKeptIn b round d → length d.naming ≡ b.pes
 name_count b round d kept = kept.decided.placed.naming.counted
 
 -- a snapshot is of all elements

@@ -1,23 +1,20 @@
 //! The dump of a round.
 
-ghost use Rattle.std.specs.Prelude.{◌≡◌, IfOk, MatchResult, true};
+ghost use Rattle.std.specs.Prelude.{◌≡◌, MatchResult, true};
 ghost use Rattle.board_handle.specs.Calls.{IsSame, RefusesDump};
-ghost use Rattle.board_handle.specs.Dumps.{IsDump, recorded_of};
+ghost use Rattle.board_handle.specs.Dumps.{IsDump};
 
 use crate::error::HandleError;
 use crate::handle::BoardHandle;
 use crate::reading::round_of;
 use dump_format::{Dump, Recorded};
 use dump_writing::encode_dump;
-use lb_refinement::Refined;
-use lb_snapshot::Snapshot;
-use std::alloc::{AllocError, Global};
+use std::alloc::Global;
 use sync_board::Board;
 
 impl BoardHandle {
-    /// The dump of a round that is decided, in the format LBD2: what was reported, and the decision with its certificates where that
-    /// is a plan. A dump cannot hold cuts near the present ones, so of a round that was decided with them it has what was reported
-    /// alone.
+    /// The dump of a round that is decided, in the format LBD2: what was reported, and what
+    /// [`Recorded::of_round`](dump_format::Recorded::of_round) records of its decision.
     ///
     /// # Errors
     ///
@@ -47,7 +44,7 @@ fn dump_of(alloc: Global, board: &Board, round: u32) -> Result<Vec<u8>, HandleEr
     let Some((snapshot, decision)) = board.kept_for(round) else {
         return Err(HandleError::Undecided);
     };
-    let Ok(recorded) = recorded_of(snapshot, decision) else {
+    let Ok(recorded) = Recorded::of_round(snapshot, decision) else {
         return Err(HandleError::OutOfMemory);
     };
     let _sizes = snapshot.sizes();
@@ -59,17 +56,4 @@ fn dump_of(alloc: Global, board: &Board, round: u32) -> Result<Vec<u8>, HandleEr
         Ok(text) => Ok(text),
         Err(_) => Err(HandleError::OutOfMemory),
     }
-}
-
-// What is recorded of a decision.
-fn recorded_of(snapshot: &Snapshot, decision: &Refined) -> Result<Option<Recorded>, AllocError>
-    ensures recorded { IfOk result (λ recorded. recorded ≡ recorded_of snapshot.now decision.now) }
-{
-    let Refined::Planned(plan) = decision else {
-        return Ok(None);
-    };
-    Ok(Some(Recorded {
-        target: snapshot.procs(),
-        decision: plan.clone()?,
-    }))
 }

@@ -139,11 +139,11 @@ fn write_blocks(
     let Some(decision) = board.decision_for(round) else {
         return Err(HandleError::Undecided);
     };
-    cuts[..pes + 1].copy_from_slice(decision.cuts());
-    names[..pes].copy_from_slice(decision.names());
+    cuts[..pes + 1].copy_from_slice(decision.division.cuts.as_slice());
+    names[..pes].copy_from_slice(decision.naming.as_slice());
     Ok(Outline {
-        bottleneck: decision.bottleneck(),
-        moved: decision.moved(),
+        bottleneck: decision.division.bottleneck,
+        moved: decision.moved,
     })
 }
 

@@ -6,8 +6,9 @@ use crate::fixtures::{assert_for, pe, round};
 use at_sync::{Board, BoardError, Strategy};
 use chain_refinement::Tolerance;
 use chare_index::{Limits, Round};
-use lb_refinement::Refined;
+use lb_refinement::Nearness;
 use lb_snapshot::Units;
+use lb_strategy::Decision;
 use row_fixtures::{CountingGate, MeetingGate};
 use std::process::Abort;
 use std::thread::Threads;
@@ -60,11 +61,11 @@ fn all_stay(rt: &impl Abort, board: &Board) -> bool {
     let Some(decision) = board.decision_for(round(rt, 1)) else {
         return false;
     };
-    decision.bottleneck() == 3
-        && decision.cuts() == [0, 1, 2].as_slice()
-        && decision.names() == [0, 1].as_slice()
-        && decision.moved() == 0
-        && decision.moves().as_slice().is_empty()
+    decision.division.bottleneck == 3
+        && decision.division.cuts.as_slice() == [0, 1, 2].as_slice()
+        && decision.naming.as_slice() == [0, 1].as_slice()
+        && decision.moved == 0
+        && decision.moves.as_slice().is_empty()
 }
 
 // The round waits for the second of two elements, which reports once.
@@ -186,7 +187,7 @@ fn an_element_moves(rt: HostRuntime) {
     let (snapshot, decision) = &rounds[1];
     assert!(rt; snapshot.step() == 2 && snapshot.procs() == 2);
     assert!(rt; snapshot.loads().as_slice() == [1, 1].as_slice());
-    assert!(rt; decision.bottleneck() == 1 && decision.moved() == 9);
+    assert!(rt; decision.division.bottleneck == 1 && decision.moved == 9);
     drop(rounds);
 }
 
@@ -196,6 +197,15 @@ const FOUR: &[Report] = &[(0, 6, 40, 0), (1, 1, 40, 0), (2, 1, 40, 1), (3, 2, 40
 // Whether three workers decide, the tolerance, whether the decision is within one, the greatest load of a PE, and the bytes
 // that are moved.
 type Decided = (bool, Option<u32>, bool, u64, u64);
+
+// The least bottleneck of all divisions, by what proves a decision.
+fn least_by(decision: &Decision, proof: &Nearness) -> u64 {
+    match proof {
+        Nearness::Planned => decision.division.bottleneck,
+        Nearness::InOrder(proof) => proof.least.bottleneck,
+        Nearness::InAnyOrder(proof) => proof.least.bottleneck,
+    }
+}
 
 fn is_decided_so<R: Threads + Sync + Abort + AllocGlobal>(rt: &R, row: &Decided) -> bool {
     let (gated, tolerance, near, bottleneck, moved) = row;
@@ -210,14 +220,15 @@ fn is_decided_so<R: Threads + Sync + Abort + AllocGlobal>(rt: &R, row: &Decided)
     } else {
         board.decide()
     };
-    let right = match board.decision_for(round(rt, 1)) {
-        Some(decision) => {
-            matches!(decision, Refined::Near(_)) == *near
-                && decision.least().bottleneck == 6
-                && decision.bottleneck() == *bottleneck
-                && decision.moved() == *moved
+    let first = round(rt, 1);
+    let right = match (board.decision_for(first), board.nearness_for(first)) {
+        (Some(decision), Some(proof)) => {
+            matches!(proof, Nearness::InOrder(_)) == *near
+                && least_by(decision, proof) == 6
+                && decision.division.bottleneck == *bottleneck
+                && decision.moved == *moved
         }
-        None => false,
+        _ => false,
     };
     let same = board.strategy() == strategy;
     drop(board);
@@ -252,7 +263,7 @@ fn a_full_array_on_the_most_pes(rt: HostRuntime) {
     assert!(rt; board.len() == 65_536 && board.pes() == 256);
     decide(&rt, &mut board, 1);
     let decision = board.decision_for(round(&rt, 1)).expect(&rt, "no round");
-    assert!(rt; decision.bottleneck() == 36_028_797_018_963_712);
+    assert!(rt; decision.division.bottleneck == 36_028_797_018_963_712);
     drop(board);
 }
 

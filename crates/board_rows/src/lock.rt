@@ -76,7 +76,7 @@ fn finish<J: BoardSize, R: Wait, A: Allocator>(rt: &R, barrier: &Barrier<J, A>) 
 // Whether the board kept the names of round 1.
 fn keeps<A: Allocator>(board: &Board<A>) -> bool {
     match board.decision_for(round(1)) {
-        Some(decision) => decision.names() == [0, 1].as_slice(),
+        Some(decision) => decision.naming.as_slice() == [0, 1].as_slice(),
         None => false,
     }
 }

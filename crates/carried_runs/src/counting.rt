@@ -1,8 +1,8 @@
 //! A watch of a run that is carried on, which is told of the letters of both parts.
 
 use chare_index::{Pe, Round};
-use lb_refinement::Refined;
 use lb_snapshot::Snapshot;
+use lb_strategy::Decision;
 use pe_worker::{PeStep, Watch};
 use std::alloc::Allocator;
 
@@ -30,7 +30,7 @@ impl<V: Watch> Watch for CountingOn<'_, V> {
         self.watch.follows_rounds()
     }
 
-    fn made_round<B: Allocator + Copy>(&self, snapshot: &Snapshot<B>, decision: &Refined<B>) {
+    fn made_round<B: Allocator + Copy>(&self, snapshot: &Snapshot<B>, decision: &Decision<B>) {
         self.watch.made_round(snapshot, decision);
     }
 

@@ -1,8 +1,8 @@
 //! A watch that asks a run to pause after each round.
 
 use chare_index::{Pe, Round};
-use lb_refinement::Refined;
 use lb_snapshot::Snapshot;
+use lb_strategy::Decision;
 use pe_worker::{PeStep, Watch};
 use std::alloc::Allocator;
 use std::sync::atomic::{AtomicBool, Ordering};
@@ -41,7 +41,7 @@ impl<V: Watch> Watch for Pausing<'_, V> {
         self.watch.follows_rounds()
     }
 
-    fn made_round<B: Allocator + Copy>(&self, snapshot: &Snapshot<B>, decision: &Refined<B>) {
+    fn made_round<B: Allocator + Copy>(&self, snapshot: &Snapshot<B>, decision: &Decision<B>) {
         self.watch.made_round(snapshot, decision);
     }
 

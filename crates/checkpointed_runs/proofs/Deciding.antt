@@ -10,8 +10,7 @@ use Rattle.sync_board.proofs.Places.{has_place}
 use Rattle.sync_board.specs.Boards.{BoardState, IsBoard, IsKeptIn}
 use Rattle.chare_index.specs.declared.limits.TheConstants.Limits.{ROUND}
 use Rattle.lb_database.specs.Measuring.{IsMeasured, elements}
-use Rattle.lb_refinement.specs.Refined.{refined_cuts, refined_names}
-use Rattle.lb_refinement.specs.declared.refined.Refined.{Refined}
+use Rattle.lb_strategy.specs.declared.decision.Decision.{Decision}
 use Rattle.lb_strategy.specs.Moves.{HasPlace}
 
 -- there is a value where it may be made
@@ -29,8 +28,8 @@ pub rounds_few : {A : Type 0} (b : BoardState A) → IsBoard b → IsMeasured b.
 rounds_few b board measured = omega (arith, board.numbered, measured.numbered)
 
 -- a decision that is lent of a board has a place for each of its elements
-pub all_placed : {A : Type 0} (b : BoardState A) (r : ℕ) (lent : Option (Bor (Refined A))) → IfSome lent (λ d. IsKeptIn b r d.now)
-    → IfSome lent (λ d. (e : ℕ) → e < elements b.database → HasPlace (refined_cuts d.now) (refined_names d.now) e)
+pub all_placed : {A : Type 0} (b : BoardState A) (r : ℕ) (lent : Option (Bor (Decision A))) → IfSome lent (λ d. IsKeptIn b r d.now)
+    → IfSome lent (λ d. (e : ℕ) → e < elements b.database → HasPlace d.now.division.cuts d.now.naming e)
 all_placed b r lent kept = IfSome_then lent kept (λ d is e below. has_place b r e d.now is below)
 
 -- one more number was pushed

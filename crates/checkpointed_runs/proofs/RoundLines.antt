@@ -7,7 +7,6 @@ use Rattle.std.proofs.lemmas.List.FromFn.{map-range_with_len_more}
 use Rattle.std.proofs.lemmas.Option.{slice_get-get_or, slice_get_read}
 use Rattle.sync_board.specs.Boards.{Kept}
 use Rattle.checkpointed_runs.specs.Whole.{earlier_line, later_line}
-use Rattle.lb_refinement.specs.Refined.{refined_bottleneck, refined_moved}
 use Rattle.run_checkpoint.specs.declared.checkpoint.DecidedRound.{DecidedRound}
 use Rattle.run_text.specs.Text.{round_line}
 
@@ -44,7 +43,7 @@ earlier_at decided i d is =
 
 -- and of a round of the run
 later_at : {A : Type 0} (count : ℕ) (rounds : List (Kept A)) (i : ℕ) (kept : Kept A) → slice_get rounds i ≡ Some kept
-    → later_line count rounds (i + 1) ≡ round_line (i + 1 + count) (refined_bottleneck kept.1) (refined_moved kept.1)
+    → later_line count rounds (i + 1) ≡ round_line (i + 1 + count) kept.1.division.bottleneck kept.1.moved
 later_at count rounds i kept is = rw (add-one, is) refl
 
 -- one more line of those before was written
@@ -62,8 +61,8 @@ pub later_written : {A : Type 0} (count : ℕ) (rounds : List (Kept A)) (i : ℕ
     → i < length rounds
     → kept ≡ get_or rounds i kept
     → start ≡ before ++ flat_map (later_line count rounds) (range_with_len 1 i)
-    → text ≡ start ++ round_line (i + 1 + count) (refined_bottleneck kept.1) (refined_moved kept.1)
+    → text ≡ start ++ round_line (i + 1 + count) kept.1.division.bottleneck kept.1.moved
     → text ≡ before ++ flat_map (later_line count rounds) (range_with_len 1 (i + 1))
 later_written count rounds i kept before start text inside read held written =
-    piece_written (later_line count rounds) i (round_line (i + 1 + count) (refined_bottleneck kept.1) (refined_moved kept.1)) before start text
+    piece_written (later_line count rounds) i (round_line (i + 1 + count) kept.1.division.bottleneck kept.1.moved) before start text
     (later_at count rounds i kept (slice_get_read rounds (length rounds) i kept refl inside read)) held written

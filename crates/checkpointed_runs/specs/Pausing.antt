@@ -5,23 +5,22 @@ use Rattle.std.specs.Option.{option_map_or}
 use Rattle.sync_board.specs.Boards.{BoardState, Kept, decision_of}
 use Rattle.checkpointed_runs.specs.Keeping.{FileRequest, Keeps}
 use Rattle.lb_database.specs.Measuring.{elements}
-use Rattle.lb_refinement.specs.Refined.{refined_bottleneck, refined_cuts, refined_moved, refined_names}
-use Rattle.lb_refinement.specs.declared.refined.Refined.{Refined}
+use Rattle.lb_strategy.specs.declared.decision.Decision.{Decision}
 use Rattle.lb_strategy.specs.Moves.{planned_pe}
 use Rattle.run_checkpoint.specs.declared.checkpoint.DecidedRound.{DecidedRound}
 use Rattle.workload.specs.Text.{WorkloadView}
 
 -- what a checkpoint keeps of a round that was decided
 abbrev pub round_of : {A : Type 0} → Kept A → DecidedRound
-round_of kept = record { bottleneck = refined_bottleneck kept.1; moved = refined_moved kept.1 }
+round_of kept = record { bottleneck = kept.1.division.bottleneck; moved = kept.1.moved }
 
 -- the rounds before a run, and those of the run
 abbrev pub all_decided : {A : Type 0} → List DecidedRound → List (Kept A) → List DecidedRound
 all_decided before rounds = before ++ map round_of rounds
 
 -- where a decision has each of n elements
-abbrev pub places_by : {A : Type 0} → Refined A → ℕ → List ℕ
-places_by d n = map (λ e. planned_pe (refined_cuts d) (refined_names d) e) (range_with_len 0 n)
+abbrev pub places_by : {A : Type 0} → Decision A → ℕ → List ℕ
+places_by d n = map (λ e. planned_pe d.division.cuts d.naming e) (range_with_len 0 n)
 
 -- where the last decision of a board has each of its elements
 abbrev pub last_places : {A : Type 0} → BoardState A → List ℕ

@@ -3,7 +3,6 @@ use Rattle.std.specs.Prelude.{ℕ, ◌+◌, ◌*◌, ◌-◌, List, ◌++◌, []
 use Rattle.std.specs.List.{flat_map, range_with_len}
 use Rattle.std.specs.Option.{option_map_or}
 use Rattle.sync_board.specs.Boards.{Kept, kept_of}
-use Rattle.lb_refinement.specs.Refined.{refined_bottleneck, refined_moved}
 use Rattle.rts_core.specs.Accounts.{posted_count, executed_count, held_count}
 use Rattle.rts_run.specs.Outcomes.{OutcomeView}
 use Rattle.run_account.specs.RunAccounts.{left_world}
@@ -23,7 +22,7 @@ earlier_lines decided = flat_map (earlier_line decided) (range_with_len 1 (lengt
 -- the line of round r of the run, before which this number of rounds were decided
 abbrev pub later_line : {A : Type 0} → ℕ → List (Kept A) → ℕ → List ℕ
 later_line before rounds r =
-    option_map_or (λ kept. round_line (r + before) (refined_bottleneck kept.1) (refined_moved kept.1)) (kept_of rounds r) []
+    option_map_or (λ kept. round_line (r + before) kept.1.division.bottleneck kept.1.moved) (kept_of rounds r) []
 
 -- the lines of the rounds of the run, with their numbers counted on
 abbrev pub later_lines : {A : Type 0} → ℕ → List (Kept A) → List ℕ

@@ -6,7 +6,6 @@ ghost use Rattle.sync_board.specs.Boards.{decision_of};
 ghost use Rattle.checkpointed_runs.specs.Lines.{not_kept_line};
 ghost use Rattle.checkpointed_runs.specs.Pausing.{IsDue, KeepsAt, KeepsNoted, all_decided, first_failure, last_places, places_by};
 ghost use Rattle.lb_database.specs.Measuring.{elements};
-ghost use Rattle.lb_refinement.specs.Refined.{refined_bottleneck, refined_cuts, refined_moved, refined_names};
 ghost use Rattle.lb_strategy.specs.Moves.{HasPlace};
 ghost use Rattle.pe_worker.specs.declared.fault.Fault.TheVariants.{Mismatch};
 ghost use Rattle.streams.specs.Writing.{WritesPrefix};
@@ -15,8 +14,8 @@ use crate::files::{CheckpointFiles, replace};
 use carried_runs::Pauses;
 use chare_index::{Index, Limits, Pe, Round};
 use chares::Chare;
-use lb_refinement::Refined;
 use lb_snapshot::Snapshot;
+use lb_strategy::Decision;
 use pe_worker::Fault;
 use rts_run::Outcome;
 use run_checkpoint::DecidedRound;
@@ -223,7 +222,7 @@ fn is_due(written: usize, least: usize, rounds: usize) -> bool
 fn all_decided<A: Allocator>(
     alloc: A,
     before: &[DecidedRound],
-    rounds: &[(Snapshot<A>, Refined<A>)],
+    rounds: &[(Snapshot<A>, Decision<A>)],
 ) -> Result<Vec<DecidedRound, A>, AllocError>
     ensures value { IfOk result (λ all. all.items ≡ all_decided before.now rounds.now) }
 {
@@ -235,12 +234,12 @@ fn all_decided<A: Allocator>(
 }
 
 // What a checkpoint keeps of a round.
-fn round_of<A: Allocator>(decision: &Refined<A>) -> DecidedRound
-    ensures value { result ≡ record { bottleneck = refined_bottleneck decision.now; moved = refined_moved decision.now } }
+fn round_of<A: Allocator>(decision: &Decision<A>) -> DecidedRound
+    ensures value { result ≡ record { bottleneck = decision.now.division.bottleneck; moved = decision.now.moved } }
 {
     DecidedRound {
-        bottleneck: decision.bottleneck(),
-        moved: decision.moved(),
+        bottleneck: decision.division.bottleneck,
+        moved: decision.moved,
     }
 }
 
@@ -256,9 +255,9 @@ fn last_places<A: Allocator>(alloc: A, board: &Board<A>) -> Result<Vec<Pe, A>, A
 }
 
 // The decision of the last round of a board.
-fn last_decision<A: Allocator>(board: &Board<A>) -> Option<&Refined<A>>
+fn last_decision<A: Allocator>(board: &Board<A>) -> Option<&Decision<A>>
     ensures value { option_copied result ≡ decision_of board.now (length board.now.rounds) }
-    ensures placed { IfSome result (λ d. (e : ℕ) → e < elements board.now.database → HasPlace (refined_cuts d.now) (refined_names d.now) e) }
+    ensures placed { IfSome result (λ d. (e : ℕ) → e < elements board.now.database → HasPlace d.now.division.cuts d.now.naming e) }
 {
     let _measured = board.len();
     let rounds = board.rounds();
@@ -270,11 +269,11 @@ fn last_decision<A: Allocator>(board: &Board<A>) -> Option<&Refined<A>>
 // Where a decision has each of `n` elements. The only error is that memory was refused.
 fn places_by<A: Allocator>(
     alloc: A,
-    decision: &Refined<A>,
+    decision: &Decision<A>,
     n: u32,
 ) -> Result<Vec<Pe, A>, AllocError>
     requires few { n ≤ Limits.ELEMENTS }
-    requires placed { (e : ℕ) → e < n → HasPlace (refined_cuts decision.now) (refined_names decision.now) e }
+    requires placed { (e : ℕ) → e < n → HasPlace decision.now.division.cuts decision.now.naming e }
     ensures value { IfOk result (λ places. places.items ≡ places_by decision.now n) }
 {
     let mut places = Vec::new(alloc);

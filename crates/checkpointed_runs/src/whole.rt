@@ -6,8 +6,8 @@ ghost use Rattle.checkpointed_runs.specs.Whole.{earlier_lines, later_lines, whol
 ghost use Rattle.run_text.specs.Sums.{AreTallies, element_sums};
 ghost use Rattle.run_text.specs.Text.{ending_line};
 
-use lb_refinement::Refined;
 use lb_snapshot::Snapshot;
+use lb_strategy::Decision;
 use rts_core::Account;
 use rts_run::Outcome;
 use run_checkpoint::DecidedRound;
@@ -88,7 +88,7 @@ fn push_earlier<A: Allocator>(
 fn push_later<A: Allocator>(
     text: &mut String<A>,
     before: usize,
-    rounds: &[(Snapshot<A>, Refined<A>)],
+    rounds: &[(Snapshot<A>, Decision<A>)],
 ) -> Result<(), AllocError>
     ensures { OnOk result (string_bytes text.new ≡ string_bytes text.old ++ later_lines before rounds.now) }
 {
@@ -96,7 +96,7 @@ fn push_later<A: Allocator>(
         let Some(number) = (i + 1).checked_add(before) else {
             return Err(AllocError);
         };
-        push_round(text, number, decision.bottleneck(), decision.moved())?;
+        push_round(text, number, decision.division.bottleneck, decision.moved)?;
     }
     Ok(())
 }

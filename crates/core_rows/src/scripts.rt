@@ -6,8 +6,8 @@ use crate::fixtures::{opened, round};
 use crate::steps::{expect_account, take};
 use chares::Openings;
 use lb_certificates::Floor;
-use lb_refinement::Refined;
 use lb_snapshot::Snapshot;
+use lb_strategy::Decision;
 use row_scripts::{AFTER, BEFORE, DECIDE, Line, START};
 use rts_core::{Account, World};
 use std::marker::Brand;
@@ -34,12 +34,12 @@ fn is_fence(floor: &Floor, want: &[u32]) -> bool {
 }
 
 // Whether a decision is the one for these loads: tallies 0 and 1 belong on PE 1, and tally 2 stays on PE 2.
-fn is_first_decision(decision: &Refined) -> bool {
-    decision.bottleneck() == 1
-        && decision.moved() == 32
-        && decision.cuts() == [0, 2, 3, 3].as_slice()
-        && decision.names() == [1, 2, 0].as_slice()
-        && is_fence(&decision.least().floor, &[0, 1, 1, 1])
+fn is_first_decision(decision: &Decision) -> bool {
+    decision.division.bottleneck == 1
+        && decision.moved == 32
+        && decision.division.cuts.as_slice() == [0, 2, 3, 3].as_slice()
+        && decision.naming.as_slice() == [1, 2, 0].as_slice()
+        && is_fence(&decision.division.floor, &[0, 1, 1, 1])
 }
 
 // Whether a snapshot has what the tallies have in the first round: what each got, its bytes, and the PE of its number.

@@ -20,7 +20,6 @@ use Rattle.rts_core.proofs.EventSteps.{where_some}
 use Rattle.event_laws.specs.Barrier.{is_decided}
 use Rattle.event_laws.proofs.Tallies.{one, times-append, times-cons, only_member, no_member, split_there, InFirst, InAdded, split_of}
 use Rattle.rts_core.proofs.Turns.{same_number}
-use Rattle.lb_refinement.specs.Refined.{refined_cuts, refined_names}
 
 -- what the trace before a resumption for a round says: every element has reported in the round, and it was decided once
 pub record Barred (n r : ℕ) (before : List TraceEntry) : Type 0 where
@@ -82,7 +81,7 @@ place_decided b zero e q numbered h = cc
 place_decided {A} b (suc r) e q numbered h = by (slice_get b.rounds r) refl h
   where
     by : (o : Option (Kept A)) → slice_get b.rounds r ≡ o
-        → option_map (λ d. planned_pe (refined_cuts d) (refined_names d) e) (option_map (λ kept. kept.1) o) ≡ Some q → suc r < b.database.round
+        → option_map (λ d. planned_pe d.division.cuts d.naming e) (option_map (λ kept. kept.1) o) ≡ Some q → suc r < b.database.round
     by None at k = cc
     by (Some kept) at k = let lt = slice_get_within b.rounds r kept at in omega (arith, lt, numbered)
 

@@ -5,6 +5,7 @@ use Rattle.std.specs.Map.{values_of}
 use Rattle.std.proofs.lemmas.List.{length-replicate, get_or-replicate}
 use Rattle.std.proofs.lemmas.List.Elements.{All-weaker}
 use Rattle.std.proofs.lemmas.Option.{slice_get-get_or}
+use Rattle.lb_refinement.specs.declared.nearness.Nearness.{Nearness}
 use Rattle.sync_board.specs.Boards.{BoardState, Kept, after_decision}
 use Rattle.lb_database.specs.Measuring.{Measured, IsComplete, elements, opening, report_of}
 use Rattle.chares.specs.declared.carried.Carried.TheVariants.{Letter, Element}
@@ -100,8 +101,8 @@ module _ (m : Measured) (n : ℕ) (open_for : IsOpenFor n m) (complete : IsCompl
       )
 
 module _ {C A : Type 0} (n : ℕ) (w : WorldView C A) (h : Agrees n w) where
-  decided_agrees : (kept : Kept A) → IsComplete w.board.database → Agrees n (record { pes = w.pes; queues = w.queues; words = w.words; board = after_decision w.board kept })
-  decided_agrees kept complete =
+  decided_agrees : (kept : Kept A) (near : Nearness A) → IsComplete w.board.database → Agrees n (record { pes = w.pes; queues = w.queues; words = w.words; board = after_decision w.board kept near })
+  decided_agrees kept near complete =
       let m : Measured = w.board.database in
       let c : elements m ≡ n = h.measured.counted in
       let r : m.round ≡ length w.board.rounds + 1 = h.numbered in
@@ -120,6 +121,6 @@ module _ {C A : Type 0} (n : ℕ) (w : WorldView C A) (h : Agrees n w) where
       → Agrees n (record { pes = w.pes; queues = w.queues; words = w.words; board = b })
   may_decide_agrees b reports (inl d) =
       subst (λ (v : BoardState A). Agrees n (record { pes = w.pes; queues = w.queues; words = w.words; board = v })) (sym d.decides.next)
-      (decided_agrees d.decides.kept d.decides.complete)
+      (decided_agrees d.decides.kept d.decides.near d.decides.complete)
   may_decide_agrees b reports (inr t) =
       subst (λ (v : BoardState A). Agrees n (record { pes = w.pes; queues = w.queues; words = w.words; board = v })) (sym t.same) h

@@ -64,7 +64,7 @@ fn tell_rounds<R: Eprint>(rt: &R, outcome: &Outcome<RodChare<Global>>) {
     let rounds = outcome.rounds().len();
     let mut moved = 0u64;
     for (_, decision) in outcome.rounds() {
-        moved = moved.saturating_add(decision.moved());
+        moved = moved.saturating_add(decision.moved);
     }
     let _ = eprintln!(rt; "heat: balanced {rounds} times, {moved} bytes moved");
 }

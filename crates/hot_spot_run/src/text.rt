@@ -54,7 +54,7 @@ fn push_measured<A: Allocator + Copy>(
     outcome: &Outcome<Strip<A>, A>,
 ) -> Result<(), AllocError> {
     for (i, (snapshot, decision)) in outcome.rounds().iter().enumerate() {
-        push_round(text, i + 1, measured(snapshot), pes, decision.moved())?;
+        push_round(text, i + 1, measured(snapshot), pes, decision.moved)?;
     }
     Ok(())
 }

@@ -2,8 +2,8 @@
 
 use chare_index::{Index, Pe, Round};
 use chares::LetterId;
-use lb_refinement::Refined;
 use lb_snapshot::Snapshot;
+use lb_strategy::Decision;
 use std::alloc::Allocator;
 
 /// What a worker did with its PE in one step. Posts are counted beside it: see [`Watch::made_step`].
@@ -41,7 +41,7 @@ pub trait Watch {
     /// A round was decided: its snapshot, and what was decided for it. The worker that has decided it calls this under the lock of
     /// the board, before [`decided`](Watch::decided) and before any other worker is told. So the rounds come in order, and the run
     /// waits meanwhile.
-    fn made_round<B: Allocator + Copy>(&self, _snapshot: &Snapshot<B>, _decision: &Refined<B>) {}
+    fn made_round<B: Allocator + Copy>(&self, _snapshot: &Snapshot<B>, _decision: &Decision<B>) {}
 
     /// Whether the run is to stop, as after a signal or when its time is up. Each worker asks before it starts an
     /// element and before each of its turns, of up to 64 letters, without a lock, so the answer has to come fast. Where it is

@@ -14,8 +14,8 @@ ghost use Rattle.std.specs.Option.{option_copied};
 use crate::counting::{held_by, posted_by, queued_in};
 use chare_index::{Index, Pe};
 use chares::{Chare, Element};
-use lb_refinement::Refined;
 use lb_snapshot::Snapshot;
+use lb_strategy::Decision;
 use pe_state::{Elements, HeldParcel, PeEnd};
 use pe_worker::Fault;
 use rts_core::Account;
@@ -116,7 +116,7 @@ impl<C: Chare<A>, A: Allocator> Outcome<C, A> {
     }
 
     /// The snapshot and the decision of each round that was decided, from round 1 on.
-    pub fn rounds(&self) -> &[(Snapshot<A>, Refined<A>)]
+    pub fn rounds(&self) -> &[(Snapshot<A>, Decision<A>)]
         ensures value { result.now ≡ self.now.board.rounds }
         ensures consistent { IsBoard self.now.board }
     {

@@ -3,8 +3,8 @@
 use crate::fixtures::{account, assert_for, index, patient, run_past};
 use chare_index::NoGate;
 use chares::{KeptMark, StateBytes};
-use lb_refinement::Refined;
 use lb_snapshot::{Snapshot, Units};
+use lb_strategy::Decision;
 use pe_state::Elements;
 use row_fixtures::{pe, round};
 use rts_core::{Mark, Note};
@@ -50,15 +50,15 @@ fn are_sized(snapshot: &Snapshot, places: &[u32]) -> bool {
 }
 
 // Whether a round has these loads, PEs and bottleneck, and moves 40 bytes.
-fn is_measured(snapshot: &Snapshot, decision: &Refined, row: &Measured) -> bool {
+fn is_measured(snapshot: &Snapshot, decision: &Decision, row: &Measured) -> bool {
     snapshot.loads().as_slice() == row.0.as_slice()
         && are_sized(snapshot, row.1.as_slice())
-        && decision.bottleneck() == row.2
-        && decision.moved() == 40
+        && decision.division.bottleneck == row.2
+        && decision.moved == 40
 }
 
 // Whether the rounds are these.
-fn are_measured(rounds: &[(Snapshot, Refined)]) -> bool {
+fn are_measured(rounds: &[(Snapshot, Decision)]) -> bool {
     let mut same = rounds.len() == MEASURED.len();
     for ((snapshot, decision), row) in rounds.iter().zip(&MEASURED) {
         same &= is_measured(snapshot, decision, row);

@@ -7,7 +7,6 @@ use Rattle.std.proofs.lemmas.List.FromFn.{map-range_with_len_more}
 use Rattle.std.proofs.lemmas.Option.{slice_get_read}
 use Rattle.sync_board.specs.Boards.{Kept}
 use Rattle.run_text.specs.Text.{decided_line, round_line}
-use Rattle.lb_refinement.specs.Refined.{refined_bottleneck, refined_moved}
 
 -- one more number
 numbers_more : (i : ℕ) → range_with_len 1 (i + 1) ≡ range_with_len 1 i ++ (i + 1) ∷ []
@@ -25,7 +24,7 @@ pieces_more piece i =
 
 module _ {A : Type 0} (rounds : List (Kept A)) (i : ℕ) where
   -- the line of the round that is kept at an index
-  line_at : (kept : Kept A) → slice_get rounds i ≡ Some kept → decided_line rounds (i + 1) ≡ round_line (i + 1) (refined_bottleneck kept.1) (refined_moved kept.1)
+  line_at : (kept : Kept A) → slice_get rounds i ≡ Some kept → decided_line rounds (i + 1) ≡ round_line (i + 1) kept.1.division.bottleneck kept.1.moved
   line_at kept is = rw (add-one, is) refl
 
   -- one more line was written
@@ -33,12 +32,12 @@ module _ {A : Type 0} (rounds : List (Kept A)) (i : ℕ) where
       → i < length rounds
       → kept ≡ get_or rounds i kept
       → start ≡ before ++ flat_map (decided_line rounds) (range_with_len 1 i)
-      → text ≡ start ++ round_line (i + 1) (refined_bottleneck kept.1) (refined_moved kept.1)
+      → text ≡ start ++ round_line (i + 1) kept.1.division.bottleneck kept.1.moved
       → text ≡ before ++ flat_map (decided_line rounds) (range_with_len 1 (i + 1))
   line_written kept before start text inside read held written =
       let line = line_at kept (slice_get_read rounds (length rounds) i kept refl inside read) in
       written
-      ∙ ap (λ s. s ++ round_line (i + 1) (refined_bottleneck kept.1) (refined_moved kept.1)) held
-      ∙ append_assoc before (flat_map (decided_line rounds) (range_with_len 1 i)) (round_line (i + 1) (refined_bottleneck kept.1) (refined_moved kept.1))
+      ∙ ap (λ s. s ++ round_line (i + 1) kept.1.division.bottleneck kept.1.moved) held
+      ∙ append_assoc before (flat_map (decided_line rounds) (range_with_len 1 i)) (round_line (i + 1) kept.1.division.bottleneck kept.1.moved)
       ∙ ap (λ l. before ++ (flat_map (decided_line rounds) (range_with_len 1 i) ++ l)) (sym line)
       ∙ ap (λ lines. before ++ lines) (sym (pieces_more (decided_line rounds) i))

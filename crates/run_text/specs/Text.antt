@@ -5,7 +5,6 @@ use Rattle.std.specs.Fmt.{decimal}
 use Rattle.std.specs.List.{flat_map, range_with_len}
 use Rattle.std.specs.Option.{option_map_or}
 use Rattle.sync_board.specs.Boards.{Kept, kept_of}
-use Rattle.lb_refinement.specs.Refined.{refined_bottleneck, refined_moved}
 use Rattle.pe_worker.specs.declared.fault.Fault.{Fault}
 use Rattle.pe_worker.specs.declared.fault.Fault.TheVariants.{OutOfMemory, Idle, Unpack, Stranger, TooLong, Worn, Mismatch, Stopped, Quiet}
 use Rattle.rts_core.specs.Accounts.{posted_count, executed_count, held_count}
@@ -34,7 +33,7 @@ round_line r bottleneck moved = round_start r ++ decision_end bottleneck moved
 -- the line of round r, by what was decided for it
 abbrev pub decided_line : {A : Type 0} → List (Kept A) → ℕ → List ℕ
 decided_line rounds r =
-    option_map_or (λ kept. round_line r (refined_bottleneck kept.1) (refined_moved kept.1)) (kept_of rounds r) []
+    option_map_or (λ kept. round_line r kept.1.division.bottleneck kept.1.moved) (kept_of rounds r) []
 
 -- the lines of all rounds, from round 1 on
 abbrev pub round_lines : {A : Type 0} → List (Kept A) → List ℕ

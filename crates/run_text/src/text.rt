@@ -9,8 +9,8 @@ ghost use Rattle.run_text.specs.Sums.{AreTallies, element_sums};
 ghost use Rattle.run_text.specs.Text.{account_line, blank_number, decision_end, ending_line, fault_line, fault_word, outcome_text, round_line, round_lines, round_start, sums_line};
 
 use crate::sums::sums_of;
-use lb_refinement::Refined;
 use lb_snapshot::Snapshot;
+use lb_strategy::Decision;
 use pe_worker::Fault;
 use rts_core::Account;
 use rts_run::Outcome;
@@ -62,12 +62,12 @@ fn push_outcome<A: Allocator + Copy>(
 
 fn push_rounds<A: Allocator>(
     text: &mut String<A>,
-    rounds: &[(Snapshot<A>, Refined<A>)],
+    rounds: &[(Snapshot<A>, Decision<A>)],
 ) -> Result<(), AllocError>
     ensures { OnOk result (string_bytes text.new ≡ string_bytes text.old ++ round_lines rounds.now) }
 {
     for (i, (_, decision)) in rounds.iter().enumerate() {
-        push_round(text, i + 1, decision.bottleneck(), decision.moved())?;
+        push_round(text, i + 1, decision.division.bottleneck, decision.moved)?;
     }
     Ok(())
 }

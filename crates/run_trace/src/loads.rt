@@ -8,8 +8,8 @@ ghost use Rattle.run_trace.specs.Shown.{load_events, load_on, loads_shown};
 
 use crate::event::TraceEvent;
 use crate::happening::{Happening, What};
-use lb_refinement::Refined;
 use lb_snapshot::Snapshot;
+use lb_strategy::Decision;
 use std::alloc::{AllocError, Allocator};
 
 /// Adds the load of each PE in each round that was decided.
@@ -17,7 +17,7 @@ pub(crate) fn push_loads<A: Allocator, B: Allocator + Copy>(
     alloc: B,
     events: &mut Vec<TraceEvent, B>,
     happenings: &[Happening],
-    rounds: &[(Snapshot<A>, Refined<A>)],
+    rounds: &[(Snapshot<A>, Decision<A>)],
 ) -> Result<(), AllocError>
     ensures loads { OnOk result (events.new.items ≡ events.old.items ++ flat_map (loads_shown rounds.now) happenings.now) }
 {
@@ -32,7 +32,7 @@ fn push_decided<A: Allocator, B: Allocator>(
     alloc: B,
     events: &mut Vec<TraceEvent, B>,
     happening: &Happening,
-    rounds: &[(Snapshot<A>, Refined<A>)],
+    rounds: &[(Snapshot<A>, Decision<A>)],
 ) -> Result<(), AllocError>
     ensures loads { OnOk result (events.new.items ≡ events.old.items ++ loads_shown rounds.now happening.now) }
 {
@@ -47,9 +47,9 @@ fn push_decided<A: Allocator, B: Allocator>(
 
 // What is kept of a round, if it is: they are numbered from 1.
 fn kept_in<A: Allocator>(
-    rounds: &[(Snapshot<A>, Refined<A>)],
+    rounds: &[(Snapshot<A>, Decision<A>)],
     round: u32,
-) -> Option<&(Snapshot<A>, Refined<A>)>
+) -> Option<&(Snapshot<A>, Decision<A>)>
     ensures { option_copied result ≡ kept_of rounds.now round }
 {
     if round == 0 {

@@ -13,8 +13,8 @@ use crate::loads::push_loads;
 use crate::lost::LostTrace;
 use crate::shown::{push_happenings, push_rows};
 use crate::text::events_text;
-use lb_refinement::Refined;
 use lb_snapshot::Snapshot;
+use lb_strategy::Decision;
 use std::alloc::{AllocError, Allocator, Global};
 use std::io::{self, Write};
 use streams::{Noted, write_out};
@@ -31,7 +31,7 @@ pub fn trace_of<A: Allocator, B: Allocator + Copy>(
     alloc: B,
     pes: u32,
     happenings: &[Happening],
-    rounds: &[(Snapshot<A>, Refined<A>)],
+    rounds: &[(Snapshot<A>, Decision<A>)],
 ) -> Result<Vec<TraceEvent, B>, AllocError>
     ensures shown { IfOk result (λ events. events.items ≡ all_events pes happenings.now rounds.now) }
 {
@@ -65,7 +65,7 @@ pub fn write_trace<A: Allocator, W: Write>(
     writer: &mut W,
     pes: u32,
     happenings: &[Happening],
-    rounds: &[(Snapshot<A>, Refined<A>)],
+    rounds: &[(Snapshot<A>, Decision<A>)],
 ) -> Result<(), TraceError>
     ensures written { IfOk result (λ _. WritesTrace (W.contents writer.old) (W.contents writer.new) (all_events pes happenings.now rounds.now)) }
     ensures untouched { result ≡ Err OutOfMemory → writer.new ≡ writer.old }
@@ -89,7 +89,7 @@ pub fn keep_trace<A: Allocator, W: Write + Drop>(
     file: io::Result<W>,
     pes: u32,
     happenings: &[Happening],
-    rounds: &[(Snapshot<A>, Refined<A>)],
+    rounds: &[(Snapshot<A>, Decision<A>)],
 ) -> Result<(), LostTrace>
     ensures kept { IfOk result (λ _. IfOk file (λ file. (left : Option (List ℕ)) × WritesTrace (W.contents file) left (all_events pes happenings.now rounds.now))) }
     ensures unmade { IfErr file (λ reason. IsErrAnd result (λ lost. lost.reason ≡ Some reason)) }
@@ -109,7 +109,7 @@ fn write_noted<A: Allocator, W: Write + Drop>(
     file: W,
     pes: u32,
     happenings: &[Happening],
-    rounds: &[(Snapshot<A>, Refined<A>)],
+    rounds: &[(Snapshot<A>, Decision<A>)],
 ) -> Result<(), LostTrace>
     ensures kept { IfOk result (λ _. (left : Option (List ℕ)) × WritesTrace (W.contents file) left (all_events pes happenings.now rounds.now)) }
 {

@@ -9,7 +9,6 @@ use Rattle.chares.specs.Elements.{ElementView}
 use Rattle.chares.specs.Steps.{Step}
 use Rattle.chares.specs.declared.trace_entry.TraceEntry.{TraceEntry}
 use Rattle.lb_database.specs.Measuring.{elements}
-use Rattle.lb_refinement.specs.Refined.{refined_cuts, refined_names}
 use Rattle.lb_strategy.specs.Moves.{planned_pe}
 use Rattle.pe_state.specs.Pes.{PeView, waits_for}
 use Rattle.pe_state.specs.Rooms.{found}
@@ -30,9 +29,9 @@ same_place (z ∷ zs) (suc i) x y e = same_place zs i x y e
 -- what depends on the board is as before
 place_same : {A : Type 0} (b b' : BoardState A) (round e : ℕ) → b'.rounds ≡ b.rounds → elements b'.database ≡ elements b.database → place_of b' round e ≡ place_of b round e
 place_same {A} b b' round e rounds known =
-    ap (λ (n : ℕ). where_true (nat_lt e n) (option_map (λ d. planned_pe (refined_cuts d) (refined_names d) e) (option_map (λ kept. kept.1) (kept_of b'.rounds round)))) known
+    ap (λ (n : ℕ). where_true (nat_lt e n) (option_map (λ d. planned_pe d.division.cuts d.naming e) (option_map (λ kept. kept.1) (kept_of b'.rounds round)))) known
     ∙ ap (λ (rs : List (Kept A)). where_true (nat_lt e (elements b.database))
-    (option_map (λ d. planned_pe (refined_cuts d) (refined_names d) e) (option_map (λ kept. kept.1) (kept_of rs round)))) rounds
+    (option_map (λ d. planned_pe d.division.cuts d.naming e) (option_map (λ kept. kept.1) (kept_of rs round)))) rounds
 
 goes_same : {C A : Type 0} (b b' : BoardState A) (p e : ℕ) (el : ElementView C) → b'.rounds ≡ b.rounds → elements b'.database ≡ elements b.database
     → element_goes b' p e el ≡ element_goes b p e el

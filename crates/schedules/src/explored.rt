@@ -10,8 +10,8 @@ ghost use Rattle.schedules.specs.Courses.{events_tried, left_by};
 use chare_index::{Index, Pe};
 use chares::{Chare, Element};
 use courses::Step;
-use lb_refinement::Refined;
 use lb_snapshot::Snapshot;
+use lb_strategy::Decision;
 use pe_worker::Fault;
 use rts_core::{Account, Event};
 use rts_run::Outcome;
@@ -128,7 +128,7 @@ impl<C: Chare<A>, A: Allocator> Explored<C, A> {
     }
 
     /// The snapshot and the decision of each round that was decided, from round 1 on.
-    pub fn rounds(&self) -> &[(Snapshot<A>, Refined<A>)]
+    pub fn rounds(&self) -> &[(Snapshot<A>, Decision<A>)]
         ensures value { result.now ≡ self.now.outcome.board.rounds }
         ensures consistent { IsBoard self.now.outcome.board }
     {

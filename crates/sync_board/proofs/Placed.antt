@@ -5,9 +5,10 @@ use Rattle.lb_certificates.specs.Chain.{IsDivision}
 use Rattle.lb_certificates.specs.Naming.{blocks_between, AreBlocks}
 use Rattle.lb_strategy.specs.Decisions.{IsPlanned}
 use Rattle.lb_strategy.specs.declared.decision.Decision.{Decision}
-use Rattle.lb_refinement.specs.Refined.{IsDecidedWithin, IsRefined, refined_cuts}
+use Rattle.lb_refinement.specs.Refined.{IsDecidedWithin, IsRefinedBy}
+use Rattle.lb_refinement.specs.declared.nearness.Nearness.{Nearness}
+use Rattle.lb_refinement.specs.declared.nearness.Nearness.TheVariants.{Planned, InOrder, InAnyOrder}
 use Rattle.lb_refinement.specs.declared.refined.Refined.{Refined}
-use Rattle.lb_refinement.specs.declared.refined.Refined.TheVariants.{Near, Planned}
 use Rattle.sync_board.specs.Strategies.{PlacesAll}
 
 -- cuts that divide both the loads and the sizes into blocks: there are as many sizes as loads
@@ -17,14 +18,15 @@ sized loads sizes pes cuts division blocks =
     let end : slice_index cuts (blocks_between cuts) ≡ slice_index cuts pes = ap (slice_index cuts) counted in
     omega (arith, end, blocks.divides.ends, division.ends)
 
-refined_sized : {A : Type 0} (loads : List ℕ) (sizes : List (ℕ × ℕ)) (pes tolerance : ℕ) (r : Refined A)
-    → IsRefined loads sizes pes tolerance r → IsDivision 0 (length loads) pes (refined_cuts r) → length sizes ≡ length loads
-refined_sized loads sizes pes tolerance (Planned d) refined division =
+refined_sized : {A : Type 0} (loads : List ℕ) (sizes : List (ℕ × ℕ)) (pes tolerance : ℕ) (d : Decision A) (near : Nearness A)
+    → IsRefinedBy loads sizes pes tolerance d near → IsDivision 0 (length loads) pes d.division.cuts → length sizes ≡ length loads
+refined_sized loads sizes pes tolerance d Planned refined division =
     sized loads sizes pes d.division.cuts division refined.0.right.named.blocks
-refined_sized loads sizes pes tolerance (Near k) refined division =
-    sized loads sizes pes k.refinement.cuts division refined.0.named.blocks
+refined_sized loads sizes pes tolerance d (InOrder proof) refined division =
+    sized loads sizes pes d.division.cuts division refined.0.named.blocks
+refined_sized loads sizes pes tolerance d (InAnyOrder proof) refined division = absurd refined
 
-pub planned_places : {A : Type 0} (loads : List ℕ) (sizes : List (ℕ × ℕ)) (pes : ℕ) (d : Decision A) → IsPlanned loads sizes pes d → PlacesAll loads sizes pes (Planned d)
+pub planned_places : {A : Type 0} (loads : List ℕ) (sizes : List (ℕ × ℕ)) (pes : ℕ) (d : Decision A) → IsPlanned loads sizes pes d → PlacesAll loads sizes pes d
 planned_places loads sizes pes d planned =
     record {
       blocks = planned.right.division.divides;
@@ -34,22 +36,22 @@ planned_places loads sizes pes d planned =
     }
 
 pub refined_places : {A : Type 0} (loads : List ℕ) (sizes : List (ℕ × ℕ)) (pes tolerance : ℕ) (r : Refined A)
-    → IsDecidedWithin loads sizes pes tolerance r → PlacesAll loads sizes pes r
+    → IsDecidedWithin loads sizes pes tolerance r → PlacesAll loads sizes pes r.decision
 refined_places loads sizes pes tolerance r decided =
     record {
       blocks = decided.blocks;
       naming = decided.naming;
-      places = λ i inside. decided.places i (omega (arith, inside, refined_sized loads sizes pes tolerance r decided.refined decided.blocks));
+      places = λ i inside. decided.places i (omega (arith, inside, refined_sized loads sizes pes tolerance r.decision r.nearness decided.refined decided.blocks));
       bounded = decided.bounded;
     }
 
 -- what was decided, where memory was not refused, places all elements
 pub all_placed : {A E : Type 0} (loads : List ℕ) (sizes : List (ℕ × ℕ)) (pes tolerance : ℕ) (r : Result (Refined A) E)
-    → IfOk r (IsDecidedWithin loads sizes pes tolerance) → IfOk r (PlacesAll loads sizes pes)
+    → IfOk r (IsDecidedWithin loads sizes pes tolerance) → IfOk r (λ d. PlacesAll loads sizes pes d.decision)
 all_placed loads sizes pes tolerance (Ok r) decided = refined_places loads sizes pes tolerance r decided
 all_placed loads sizes pes tolerance (Err e) decided = tt
 
 pub all_refined : {A E : Type 0} (loads : List ℕ) (sizes : List (ℕ × ℕ)) (pes tolerance : ℕ) (r : Result (Refined A) E)
-    → IfOk r (IsDecidedWithin loads sizes pes tolerance) → IfOk r (IsRefined loads sizes pes tolerance)
+    → IfOk r (IsDecidedWithin loads sizes pes tolerance) → IfOk r (λ d. IsRefinedBy loads sizes pes tolerance d.decision d.nearness)
 all_refined loads sizes pes tolerance (Ok r) decided = decided.refined
 all_refined loads sizes pes tolerance (Err e) decided = tt

@@ -6,18 +6,17 @@ use Rattle.sync_board.specs.Boards.{BoardState, Kept, kept_of, IsKeptIn, IsBoard
 use Rattle.lb_certificates.specs.Naming.{block_of}
 use Rattle.lb_database.specs.Measuring.{IsMeasured, elements}
 use Rattle.lb_strategy.specs.Moves.{HasPlace, planned_pe}
-use Rattle.lb_refinement.specs.Refined.{refined_cuts, refined_names}
-use Rattle.lb_refinement.specs.declared.refined.Refined.{Refined}
+use Rattle.lb_strategy.specs.declared.decision.Decision.{Decision}
 
 -- there is one
-pub has_place : {A : Type 0} (b : BoardState A) (r e : ℕ) (d : Refined A) → IsKeptIn b r d → e < elements b.database → HasPlace (refined_cuts d) (refined_names d) e
+pub has_place : {A : Type 0} (b : BoardState A) (r e : ℕ) (d : Decision A) → IsKeptIn b r d → e < elements b.database → HasPlace d.division.cuts d.naming e
 has_place b r e d h lt = h.decided.placed.places e (omega (arith, lt, h.decided.of_all))
 
 -- it is one of the board's PEs
-pub place_below : {A : Type 0} (b : BoardState A) (r e : ℕ) (d : Refined A) → IsKeptIn b r d → e < elements b.database → planned_pe (refined_cuts d) (refined_names d) e < b.pes
+pub place_below : {A : Type 0} (b : BoardState A) (r e : ℕ) (d : Decision A) → IsKeptIn b r d → e < elements b.database → planned_pe d.division.cuts d.naming e < b.pes
 place_below b r e d h lt =
-    let place : HasPlace (refined_cuts d) (refined_names d) e = has_place b r e d h lt in
-    h.decided.placed.naming.below (block_of (refined_cuts d) e) (omega (arith, place.named, h.decided.placed.naming.counted))
+    let place : HasPlace d.division.cuts d.naming e = has_place b r e d h lt in
+    h.decided.placed.naming.below (block_of d.division.cuts e) (omega (arith, place.named, h.decided.placed.naming.counted))
 
 -- a round that is kept comes before the last
 pub kept_before : {A : Type 0} (b : BoardState A) (r : ℕ) (kept : Kept A) → IsBoard b → IsMeasured b.database → kept_of b.rounds r ≡ Some kept → r < ROUND
@@ -25,5 +24,5 @@ kept_before b zero kept board measured found = absurd (cc)
 kept_before b (suc r) kept board measured found =
     omega (arith, slice_get_within b.rounds r kept found, board.numbered, measured.numbered)
 
-pub decided_before : {A : Type 0} (b : BoardState A) (r : ℕ) (d : Refined A) → IsKeptIn b r d → IsBoard b → IsMeasured b.database → r < ROUND
+pub decided_before : {A : Type 0} (b : BoardState A) (r : ℕ) (d : Decision A) → IsKeptIn b r d → IsBoard b → IsMeasured b.database → r < ROUND
 decided_before b r d h board measured = kept_before b r (h.snapshot, d) board measured h.kept

@@ -5,15 +5,17 @@ ghost use Rattle.std.specs.Option.{option_copied};
 ghost use Rattle.lb_database.specs.Measuring.{IsComplete, IsMeasured, IsSnapshotOf, StandBelow, elements, opening};
 ghost use Rattle.lb_database.specs.Refusals.{HasNextRound, IsReport, RefusesReport};
 ghost use Rattle.sync_board.specs.declared.strategy.Strategy.TheVariants.{Least};
-ghost use Rattle.sync_board.specs.Boards.{AreDecided, Decides, IsDecided, HaveFinished, IsBoard, IsKeptIn, after_finish, after_report, decision_of, kept_of, new_board, place_in};
+ghost use Rattle.sync_board.specs.Boards.{AreDecided, Decides, IsDecided, HaveFinished, IsBoard, IsKeptIn, IsProvedIn, after_finish, after_report, decision_of, item_of, kept_of, nearness_of, new_board, place_in};
+ghost use Rattle.sync_board.specs.Strategies.{AreProved, IsDecidedBy};
 ghost use Rattle.sync_board.specs.Refusals.{RefusesDecision, RefusesFinish, database_error_of};
 
 use crate::error::BoardError;
 use crate::strategy::Strategy;
 use chare_index::{Gate, Index, Limits, Pe, Pes, Round};
 use lb_database::LoadDb;
-use lb_refinement::Refined;
+use lb_refinement::{Nearness, Refined};
 use lb_snapshot::{Snapshot, Units};
+use lb_strategy::Decision;
 use std::alloc::{AllocError, Allocator, Global};
 use std::marker::Model;
 use std::thread::Threads;
@@ -34,7 +36,9 @@ pub struct Board<A: Allocator = Global> {
     // The reports of the present round, all of them of places below `pes`.
     database: LoadDb<A>,
     // The snapshot and the decision of each round before the present one.
-    rounds: Vec<(Snapshot<A>, Refined<A>), A>,
+    rounds: Vec<(Snapshot<A>, Decision<A>), A>,
+    // What proves each of these decisions.
+    nearness: Vec<Nearness<A>, A>,
     // Whether each element has finished.
     finished: Vec<bool, A>,
     // How many elements have not finished, so that no search is needed.
@@ -47,10 +51,10 @@ impl<A: Allocator> Model for Board<A> {
 
     ghost Value = { BoardState A };
 
-    ghost view = { λ b. record { pes = b.pes; strategy = b.strategy; database = b.database; rounds = b.rounds.items; finished = b.finished.items } };
+    ghost view = { λ b. record { pes = b.pes; strategy = b.strategy; database = b.database; rounds = b.rounds.items; nearness = b.nearness.items; finished = b.finished.items } };
 
     ghost invariant = { λ b.
-        IsBoard (record { pes = b.pes; strategy = b.strategy; database = b.database; rounds = b.rounds.items; finished = b.finished.items })
+        IsBoard (record { pes = b.pes; strategy = b.strategy; database = b.database; rounds = b.rounds.items; nearness = b.nearness.items; finished = b.finished.items })
         × (b.running ≡ count_by not b.finished.items) };
 }
 
@@ -89,6 +93,7 @@ impl<A: Allocator> Board<A> {
             strategy,
             database,
             rounds: Vec::new(alloc),
+            nearness: Vec::new(alloc),
             finished: all_running(alloc, n)?,
             running: n,
         })
@@ -145,14 +150,19 @@ impl<A: Allocator> Board<A> {
         ensures ok { OnOk result (Decides self.old self.new) }
         ensures err { OnErr result (self.new ≡ self.old) }
     {
-        let kept = decided(
+        let made = decided(
             *self.rounds.allocator(),
             &self.database,
             self.pes,
             self.strategy,
         )?;
         let round = self.database.round();
-        keep(&mut self.database, &mut self.rounds, kept)?;
+        keep(
+            &mut self.database,
+            &mut self.rounds,
+            &mut self.nearness,
+            made,
+        )?;
         Ok(round)
     }
 
@@ -179,14 +189,19 @@ impl<A: Allocator> Board<A> {
     {
         let alloc = *self.rounds.allocator();
         let strategy = self.strategy;
-        let kept = decided_with(rt, alloc, &self.database, self.pes, strategy, workers, gate)?;
+        let made = decided_with(rt, alloc, &self.database, self.pes, strategy, workers, gate)?;
         let round = self.database.round();
-        keep(&mut self.database, &mut self.rounds, kept)?;
+        keep(
+            &mut self.database,
+            &mut self.rounds,
+            &mut self.nearness,
+            made,
+        )?;
         Ok(round)
     }
 
     /// The decision of a round, in constant time, or `None` where the round is not decided.
-    pub fn decision_for(&self, round: Round) -> Option<&Refined<A>>
+    pub fn decision_for(&self, round: Round) -> Option<&Decision<A>>
         ensures value { option_copied result ≡ decision_of self.now round }
         ensures decided { IfSome result (λ decision. IsKeptIn self.now round decision.now) }
     {
@@ -194,8 +209,16 @@ impl<A: Allocator> Board<A> {
         Some(decision)
     }
 
+    /// What proves the decision of a round within a tolerance, in constant time, or `None` where the round is not decided.
+    pub fn nearness_for(&self, round: Round) -> Option<&Nearness<A>>
+        ensures value { option_copied result ≡ nearness_of self.now round }
+        ensures proved { IfSome result (λ near. IsProvedIn self.now round near.now) }
+    {
+        nearness_for(self.nearness(), round.get())
+    }
+
     /// The snapshot and the decision of a round, in constant time, or `None` where the round is not decided.
-    pub fn kept_for(&self, round: Round) -> Option<&(Snapshot<A>, Refined<A>)>
+    pub fn kept_for(&self, round: Round) -> Option<&(Snapshot<A>, Decision<A>)>
         ensures value { option_copied result ≡ kept_of self.now.rounds round }
     {
         kept_for(&self.rounds, round.get())
@@ -290,27 +313,46 @@ impl<A: Allocator> Board<A> {
 
     /// The snapshot and the decision of each round that was decided, from round 1 on. The clause `consistent` says
     /// what holds of every board, for a caller that knows nothing else of this one.
-    pub fn rounds(&self) -> &[(Snapshot<A>, Refined<A>)]
+    pub fn rounds(&self) -> &[(Snapshot<A>, Decision<A>)]
         ensures value { result.now ≡ self.now.rounds }
         ensures consistent { IsBoard self.now }
     {
         &self.rounds
     }
 
+    /// What proves each of these decisions, from round 1 on.
+    pub fn nearness(&self) -> &[Nearness<A>]
+        ensures value { result.now ≡ self.now.nearness }
+        ensures consistent { IsBoard self.now }
+    {
+        &self.nearness
+    }
+
     /// The snapshot and the decision of each round that was decided, from round 1 on.
-    pub fn into_rounds(self) -> Vec<(Snapshot<A>, Refined<A>), A>
+    pub fn into_rounds(self) -> Vec<(Snapshot<A>, Decision<A>), A>
         ensures value { result.items ≡ self.rounds }
         ensures decided { AreDecided (elements self.database) self.pes self.strategy self.rounds }
+    {
+        self.into_proved_rounds().0
+    }
+
+    /// The snapshot and the decision of each round that was decided, from round 1 on, and what proves each of these decisions.
+    pub fn into_proved_rounds(self) -> (Vec<(Snapshot<A>, Decision<A>), A>, Vec<Nearness<A>, A>)
+        ensures rounds { result.0.items ≡ self.rounds }
+        ensures nearness { result.1.items ≡ self.nearness }
+        ensures decided { AreDecided (elements self.database) self.pes self.strategy self.rounds }
+        ensures proved { AreProved self.pes self.strategy self.rounds self.nearness }
     {
         let Board {
             pes: _,
             strategy: _,
             database: _,
             rounds,
+            nearness,
             finished: _,
             running: _,
         } = self;
-        rounds
+        (rounds, nearness)
     }
 }
 
@@ -334,12 +376,13 @@ fn decided<A: Allocator + Copy>(
 ) -> Result<(Snapshot<A>, Refined<A>), BoardError>
     requires placed { StandBelow pes database.now }
     ensures answer { MatchResult result (λ _. HasNextRound database.now) (RefusesDecision database.now) }
-    ensures reported { IfOk result (λ kept. IsSnapshotOf database.now database.now.round pes kept.0) }
-    ensures decided { IfOk result (IsDecided (elements database.now) pes strategy database.now.round) }
+    ensures reported { IfOk result (λ made. IsSnapshotOf database.now database.now.round pes made.0) }
+    ensures decided { IfOk result (λ made. IsDecided (elements database.now) pes strategy database.now.round (made.0, made.1.decision)) }
+    ensures proved { IfOk result (λ made. IsDecidedBy strategy made.0.loads made.0.sizes pes made.1.decision made.1.nearness) }
 {
     let snapshot = measured(database, pes)?;
-    let decision = strategy.decide(alloc, &snapshot, pes)?;
-    Ok((snapshot, decision))
+    let refined = strategy.decide(alloc, &snapshot, pes)?;
+    Ok((snapshot, refined))
 }
 
 // Takes the snapshot of the present round, and decides it by several workers.
@@ -357,12 +400,13 @@ fn decided_with<R: Threads + Sync, G: Gate + Sync, A: Allocator + Copy>(
     requires few_workers { workers ≤ Limits.PROBE_WORKERS }
     requires placed { StandBelow pes database.now }
     ensures answer { MatchResult result (λ _. HasNextRound database.now) (RefusesDecision database.now) }
-    ensures reported { IfOk result (λ kept. IsSnapshotOf database.now database.now.round pes kept.0) }
-    ensures decided { IfOk result (IsDecided (elements database.now) pes strategy database.now.round) }
+    ensures reported { IfOk result (λ made. IsSnapshotOf database.now database.now.round pes made.0) }
+    ensures decided { IfOk result (λ made. IsDecided (elements database.now) pes strategy database.now.round (made.0, made.1.decision)) }
+    ensures proved { IfOk result (λ made. IsDecidedBy strategy made.0.loads made.0.sizes pes made.1.decision made.1.nearness) }
 {
     let snapshot = measured(database, pes)?;
-    let decision = strategy.decide_with(rt, alloc, &snapshot, pes, workers, gate)?;
-    Ok((snapshot, decision))
+    let refined = strategy.decide_with(rt, alloc, &snapshot, pes, workers, gate)?;
+    Ok((snapshot, refined))
 }
 
 // The snapshot of the round, which has to be complete and not the last.
@@ -385,29 +429,54 @@ fn measured<A: Allocator + Copy>(database: &LoadDb<A>, pes: Pes) -> Result<Snaps
 #[tactic(auto, using(crate::proofs::Unrefused::begun))]
 fn keep<A: Allocator>(
     database: &mut LoadDb<A>,
-    rounds: &mut Vec<(Snapshot<A>, Refined<A>), A>,
-    kept: (Snapshot<A>, Refined<A>),
+    rounds: &mut Vec<(Snapshot<A>, Decision<A>), A>,
+    nearness: &mut Vec<Nearness<A>, A>,
+    made: (Snapshot<A>, Refined<A>),
 ) -> Result<(), AllocError>
     requires { HasNextRound database.old }
-    ensures added { OnOk result (rounds.new.items ≡ rounds.old.items ++ kept ∷ []) }
+    ensures added { OnOk result (rounds.new.items ≡ rounds.old.items ++ (made.0, made.1.decision) ∷ []) }
+    ensures proved { OnOk result (nearness.new.items ≡ nearness.old.items ++ made.1.nearness ∷ []) }
     ensures begun { OnOk result (database.new ≡ opening (database.old.round + 1) (elements database.old)) }
     ensures same_rounds { OnErr result (rounds.new.items ≡ rounds.old.items) }
+    ensures same_nearness { OnErr result (nearness.new.items ≡ nearness.old.items) }
     ensures same_database { OnErr result (database.new ≡ database.old) }
 {
-    rounds.push(kept)?;
+    rounds.reserve(1)?;
+    nearness.reserve(1)?;
+    let (snapshot, refined) = made;
+    let Refined {
+        decision,
+        nearness: near,
+    } = refined;
+    let Ok(()) = rounds.push((snapshot, decision)) else {
+        unreachable!()
+    };
+    let Ok(()) = nearness.push(near) else {
+        unreachable!()
+    };
     database.next_round().unwrap();
     Ok(())
 }
 
 // What is kept of a round.
 fn kept_for<A: Allocator>(
-    rounds: &[(Snapshot<A>, Refined<A>)],
+    rounds: &[(Snapshot<A>, Decision<A>)],
     round: u32,
-) -> Option<&(Snapshot<A>, Refined<A>)>
+) -> Option<&(Snapshot<A>, Decision<A>)>
     ensures { option_copied result ≡ kept_of rounds.now round }
 {
     if round == 0 {
         return None;
     }
     rounds.get(round as usize - 1)
+}
+
+// What proves the decision of a round.
+fn nearness_for<A: Allocator>(nearness: &[Nearness<A>], round: u32) -> Option<&Nearness<A>>
+    ensures { option_copied result ≡ item_of nearness.now round }
+{
+    if round == 0 {
+        return None;
+    }
+    nearness.get(round as usize - 1)
 }

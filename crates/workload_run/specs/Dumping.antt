@@ -2,12 +2,11 @@
 use Rattle.std.specs.Prelude.{◌≡◌, ◌⊎◌, ℕ, List, [], ◌∷◌, ◌++◌, map, codes, Option, Some, None, Result, Ok, Err, ⊤}
 use Rattle.std.specs.Fmt.{decimal}
 use Rattle.lb_snapshot.specs.Measured.{Taken}
-use Rattle.lb_refinement.specs.declared.refined.Refined.{Refined}
-use Rattle.lb_refinement.specs.declared.refined.Refined.TheVariants.{Near, Planned}
+use Rattle.lb_strategy.specs.declared.decision.Decision.{Decision}
 use Rattle.dump_format.specs.Dumps.{Dumped}
+use Rattle.dump_format.specs.Recording.{recorded_of}
 use Rattle.dump_format.specs.Text.{IsLbd1, IsLbd2}
 use Rattle.dump_format.specs.declared.error.DumpError.{DumpError}
-use Rattle.dump_format.specs.declared.recorded.Recorded.{Recorded}
 use Rattle.dump_format.specs.declared.error.DumpError.TheVariants.{OutOfMemory, Wide, Write}
 use Rattle.dump_writing.specs.Narrow.{IsFirstWide}
 use Rattle.dump_writing.specs.Writing.{Puts}
@@ -15,18 +14,13 @@ use Rattle.workload_run.specs.declared.round_dump.DumpFormat.{DumpFormat}
 use Rattle.workload_run.specs.declared.round_dump.DumpFormat.TheVariants.{Lbd1, Lbd2}
 use Rattle.workload_run.specs.declared.dumps.NotWritten.{NotWritten}
 
--- what is recorded of a decision: a plan, on as many PEs as the snapshot has. A dump cannot hold cuts within a tolerance.
-abbrev pub recorded_of : {A : Type 0} → Taken → Refined A → Option (Recorded A)
-recorded_of s (Planned d) = Some (record { target = s.procs; decision = d })
-recorded_of s (Near k) = None
-
 -- a round with what is recorded of its decision
-abbrev pub recorded : {A : Type 0} → Taken → Refined A → Dumped A
+abbrev pub recorded : {A : Type 0} → Taken → Decision A → Dumped A
 recorded s d = record { snapshot = s; recorded = recorded_of s d }
 
 -- the text of a round: in the format LBD1 that of its snapshot, and in LBD2 that of the dump with what is recorded of its
 -- decision
-abbrev pub IsRoundText : {A : Type 0} → DumpFormat → Taken → Refined A → List ℕ → Type 0
+abbrev pub IsRoundText : {A : Type 0} → DumpFormat → Taken → Decision A → List ℕ → Type 0
 IsRoundText Lbd1 s d text = IsLbd1 s text
 IsRoundText Lbd2 s d text = IsLbd2 (recorded s d) text
 
@@ -38,7 +32,7 @@ MayFail e format s = (e ≡ Write) ⊎ (e ≡ OutOfMemory)
 -- What a writer holds after a round was written to it, and why a round was not. It took the whole text or, where it failed, a
 -- prefix of it, and nothing where no dump can hold the decision. Nothing was written either where a load is too great, which is
 -- reported only in the format LBD1, or where memory was refused, which only LBD2 needs.
-abbrev pub PutsRound : {A : Type 0} → DumpFormat → Taken → Refined A → Option (List ℕ) → Option (List ℕ) → Result ⊤ DumpError → Type 0
+abbrev pub PutsRound : {A : Type 0} → DumpFormat → Taken → Decision A → Option (List ℕ) → Option (List ℕ) → Result ⊤ DumpError → Type 0
 PutsRound format s d old new (Err (Wide i)) = (format ≡ Lbd1) × IsFirstWide s.loads i × (new ≡ old)
 PutsRound format s d old new (Err OutOfMemory) = (format ≡ Lbd2) × (new ≡ old)
 PutsRound format s d old new (Err Write) =

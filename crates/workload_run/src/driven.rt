@@ -5,8 +5,8 @@ ghost use Rattle.std.specs.Option.{option_map_or};
 ghost use Rattle.workload_run.specs.Statuses.{status_of};
 
 use crate::ended::RunEnd;
-use lb_refinement::Refined;
 use lb_snapshot::Snapshot;
+use lb_strategy::Decision;
 use rts_run::Outcome;
 use std::alloc::{Allocator, Global};
 use tally::Tally;
@@ -30,7 +30,7 @@ impl<A: Allocator + Copy> Driven<A> {
 
     /// The snapshot and the decision of each round that was decided, from round 1 on. There are none where there was no
     /// run.
-    pub fn rounds(&self) -> &[(Snapshot<A>, Refined<A>)]
+    pub fn rounds(&self) -> &[(Snapshot<A>, Decision<A>)]
         ensures value { result.now ≡ option_map_or (λ o. o.board.rounds) self.now.outcome [] }
     {
         match &self.outcome {

@@ -6,8 +6,8 @@ ghost use Rattle.workload_run.specs.Dumping.{AsksFor, AsksInTurn, AsksOnce, MayF
 
 use crate::round_dump::{DumpFormat, write_round};
 use dump_format::DumpError;
-use lb_refinement::Refined;
 use lb_snapshot::Snapshot;
+use lb_strategy::Decision;
 use std::alloc::{AllocError, Allocator};
 use std::io::{self, Write};
 use streams::Noted;
@@ -45,7 +45,7 @@ pub struct NotWritten {
 /// is made.
 pub fn write_dumps<F: DumpFiles, A: Allocator + Copy, B: Allocator + Copy>(
     alloc: A,
-    rounds: &[(Snapshot<B>, Refined<B>)],
+    rounds: &[(Snapshot<B>, Decision<B>)],
     format: DumpFormat,
     prefix: &str,
     files: &mut F,
@@ -69,7 +69,7 @@ pub fn write_dumps<F: DumpFiles, A: Allocator + Copy, B: Allocator + Copy>(
 fn write_file<F: DumpFiles, A: Allocator, B: Allocator + Copy>(
     alloc: A,
     snapshot: &Snapshot<B>,
-    decision: &Refined<B>,
+    decision: &Decision<B>,
     format: DumpFormat,
     prefix: &str,
     files: &mut F,

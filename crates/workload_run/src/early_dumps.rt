@@ -8,8 +8,8 @@ use crate::dumps::{DumpFiles, NotWritten, write_dumps};
 use crate::round_dump::DumpFormat;
 use carried_runs::Pauses;
 use chares::Chare;
-use lb_refinement::Refined;
 use lb_snapshot::Snapshot;
+use lb_strategy::Decision;
 use rts_run::Outcome;
 use std::alloc::Allocator;
 
@@ -53,7 +53,7 @@ impl<'a, F: DumpFiles + Drop, A: Allocator + Copy> EarlyDumps<'a, F, A> {
     /// that was not written, if there is one.
     pub fn finish<B: Allocator + Copy>(
         mut self,
-        rounds: &[(Snapshot<B>, Refined<B>)],
+        rounds: &[(Snapshot<B>, Decision<B>)],
     ) -> (F, Option<NotWritten>)
         ensures asked { AsksRest self.entry.format (option_map (λ p. p.now) self.entry.prefix) self.entry.failed (drop self.entry.written rounds.now)
             (F.names self.entry.files) (F.names result.0) result.1 }
@@ -63,7 +63,7 @@ impl<'a, F: DumpFiles + Drop, A: Allocator + Copy> EarlyDumps<'a, F, A> {
     }
 
     // Writes the dumps of the rounds of a run that has decided these by now. After a dump that was not written no other is.
-    fn write<B: Allocator + Copy>(&mut self, rounds: &[(Snapshot<B>, Refined<B>)])
+    fn write<B: Allocator + Copy>(&mut self, rounds: &[(Snapshot<B>, Decision<B>)])
         ensures asked { AsksRest self.old.format (option_map (λ p. p.now) self.old.prefix) self.old.failed (drop self.old.written rounds.now)
             (F.names self.old.files) (F.names self.new.files) self.new.failed }
     {
@@ -103,7 +103,7 @@ impl<F: DumpFiles + Drop, C: Chare<A>, A: Allocator + Copy> Pauses<C, A> for Ear
 /// Those of [`write_dumps`].
 pub fn write_later<F: DumpFiles, A: Allocator + Copy, B: Allocator + Copy>(
     alloc: A,
-    rounds: &[(Snapshot<B>, Refined<B>)],
+    rounds: &[(Snapshot<B>, Decision<B>)],
     from: usize,
     format: DumpFormat,
     prefix: &str,

@@ -2,13 +2,13 @@
 
 ghost use Rattle.std.specs.Prelude.{◌≡◌, ◌⊎◌, IfOk, IfErr, IsFalse, IsTrue};
 ghost use Rattle.workload_run.specs.declared.round_dump.DumpFormat.TheVariants.{Lbd1, Lbd2};
-ghost use Rattle.workload_run.specs.Dumping.{MayFail, PutsRound, recorded, recorded_of};
+ghost use Rattle.workload_run.specs.Dumping.{MayFail, PutsRound, recorded};
 
 use dump_format::{Dump, DumpError, Recorded};
 use dump_writing::{write_dump, write_to};
-use lb_refinement::Refined;
 use lb_snapshot::Snapshot;
-use std::alloc::{AllocError, Allocator};
+use lb_strategy::Decision;
+use std::alloc::Allocator;
 use std::io::Write;
 
 /// The format of a dump.
@@ -34,8 +34,8 @@ impl DumpFormat {
 }
 
 /// Writes the dump of a round: its snapshot and, in the format LBD2, the decision with its certificates, on as many PEs as the
-/// snapshot has. A dump cannot hold cuts within a tolerance: of a round that was decided with them only the snapshot is
-/// written.
+/// snapshot has. Of a decision within a tolerance that is no plan only the snapshot is written: see
+/// [`Recorded::of_round`](dump_format::Recorded::of_round).
 ///
 /// # Errors
 ///
@@ -48,7 +48,7 @@ impl DumpFormat {
 pub fn write_round<W: Write, A: Allocator + Copy>(
     writer: &mut W,
     snapshot: &Snapshot<A>,
-    decision: &Refined<A>,
+    decision: &Decision<A>,
     format: DumpFormat,
 ) -> Result<(), DumpError>
     ensures written { PutsRound format snapshot.now decision.now (W.contents writer.old) (W.contents writer.new) result }
@@ -67,30 +67,14 @@ pub fn write_round<W: Write, A: Allocator + Copy>(
 // element twice, so a dump can hold it.
 fn recorded<A: Allocator + Copy>(
     snapshot: &Snapshot<A>,
-    decision: &Refined<A>,
+    decision: &Decision<A>,
 ) -> Result<Dump<A>, DumpError>
     ensures dump { IfOk result (λ dump. dump ≡ recorded snapshot.now decision.now) }
     ensures fault { IfErr result (λ e. (e ≡ DumpError.Write) ⊎ (e ≡ DumpError.OutOfMemory)) }
 {
-    let recorded = recorded_of(snapshot, decision)?;
+    let recorded = Recorded::of_round(snapshot, decision)?;
     match Dump::new(snapshot.clone()?, recorded) {
         Some(dump) => Ok(dump),
         None => Err(DumpError::Write),
     }
-}
-
-// What is recorded of the decision.
-fn recorded_of<A: Allocator + Copy>(
-    snapshot: &Snapshot<A>,
-    decision: &Refined<A>,
-) -> Result<Option<Recorded<A>>, AllocError>
-    ensures recorded { IfOk result (λ recorded. recorded ≡ recorded_of snapshot.now decision.now) }
-{
-    let Refined::Planned(plan) = decision else {
-        return Ok(None);
-    };
-    Ok(Some(Recorded {
-        target: snapshot.procs(),
-        decision: plan.clone()?,
-    }))
 }

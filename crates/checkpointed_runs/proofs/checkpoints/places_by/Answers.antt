@@ -1,5 +1,4 @@
 use Rattle.std.proofs.Common.{◌≡◌, ◌<◌, arith}
-use Rattle.lb_refinement.specs.Refined.{refined_cuts, refined_names}
 use Rattle.lb_strategy.specs.Moves.{planned_pe}
 use Rattle.checkpointed_runs.proofs.Deciding.{one_more, value_made}
 use Rattle.checkpointed_runs.proofs.checkpoints.places_by.Goals as goal
@@ -14,5 +13,5 @@ pub loop-e-preserved : goal.loop-e-preserved
 loop-e-preserved g c =
     let d = c.args.decision.now in
     let same : c.unwrap-index.result ≡ c.loop-e.e = value_made c.new.result _ _ _ c.new.ensures.made c.unwrap-index.ensures in
-    one_more (λ e. planned_pe (refined_cuts d) (refined_names d) e) c.loop-e.e c.unwrap-index.result c.place_of.result c.loop-e.places.items c.push.new.self.items
+    one_more (λ e. planned_pe d.division.cuts d.naming e) c.loop-e.e c.unwrap-index.result c.place_of.result c.loop-e.places.items c.push.new.self.items
     c.in_ok-push.ensures.items same c.place_of.ensures.value c.loop-e.invariant

@@ -11,7 +11,7 @@ loop-i-preserved g c =
     let read = c.index-rounds-i in
     let number : c.in-Some.number ≡ at.i + 1 + c.args.before = search rules in
     later_written c.args.before c.args.rounds.now at.i read.result (string_bytes c.args.text.now) (string_bytes at.text) _ c.loop-i-test.true read.is
-    at.invariant (rw (← c.bottleneck.ensures.value, ← c.moved.ensures.value, ← number) c.in_ok-push_round.ensures.line)
+    at.invariant (rw (← number) c.in_ok-push_round.ensures.line)
 
 pub returns : goal.returns
 returns g c =

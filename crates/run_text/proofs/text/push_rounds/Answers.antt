@@ -10,7 +10,7 @@ loop-i-preserved g c =
     let at = c.loop-i in
     let read = c.index-rounds-i in
     line_written c.args.rounds.now at.i read.result (string_bytes c.args.text.now) (string_bytes at.text) _ c.loop-i-test.true read.is
-    at.invariant (rw (← c.bottleneck.ensures.value, ← c.moved.ensures.value) c.in_ok-push_round.ensures.line)
+    at.invariant (c.in_ok-push_round.ensures.line)
 
 pub returns : goal.returns
 returns g c =
