@@ -4,4 +4,5 @@ pub mod InOrderCases
 pub mod KeptWhole
 mod MovedSums
 pub mod OneRefined
+mod RefinedBlocks
 pub mod RefinedCases

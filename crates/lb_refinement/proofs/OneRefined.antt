@@ -13,18 +13,18 @@ use Rattle.chain_refinement.specs.Refinement.{AreNearest, refined_limit}
 use Rattle.chain_refinement.specs.Tolerances.{limit_of}
 use Rattle.chain_refinement.proofs.Nearest.{one_is_nearest}
 use Rattle.chain_refinement.proofs.OneOrder.{one_order}
-use Rattle.lb_refinement.specs.Refined.{AreSame, IsKept, IsRefined, IsThePlan}
-use Rattle.lb_refinement.specs.declared.refined.Kept.{Kept}
+use Rattle.lb_refinement.specs.Refined.{AreSame, IsKept, IsRefined, IsRefinedBy, IsThePlan, Kept, refinement_of}
+use Rattle.lb_refinement.specs.declared.nearness.Nearness.{Nearness}
+use Rattle.lb_refinement.specs.declared.nearness.Nearness.TheVariants.{Planned, InOrder, InAnyOrder}
 use Rattle.lb_refinement.specs.declared.refined.Refined.{Refined}
-use Rattle.lb_refinement.specs.declared.refined.Refined.TheVariants.{Near, Planned}
 
 -- what two kept decisions have in common
 pub record AreKeptSame {A : Type 0} (k e : Kept A) : Type 0 where
-  pub cuts : k.refinement.cuts ≡ e.refinement.cuts
-  pub bottleneck : k.bottleneck ≡ e.bottleneck
-  pub naming : k.naming ≡ e.naming
-  pub moved : k.moved ≡ e.moved
-  pub moves : k.moves ≡ e.moves
+  pub cuts : k.0.division.cuts ≡ e.0.division.cuts
+  pub bottleneck : k.0.division.bottleneck ≡ e.0.division.bottleneck
+  pub naming : k.0.naming ≡ e.0.naming
+  pub moved : k.0.moved ≡ e.0.moved
+  pub moves : k.0.moves ≡ e.0.moves
 
 pub one_kept : {A : Type 0} (loads : List ℕ) (sizes : List (ℕ × ℕ)) (pes tolerance : ℕ) (k e : Kept A) → IsKept loads sizes pes tolerance k
     → IsKept loads sizes pes tolerance e → AreKeptSame k e
@@ -33,31 +33,31 @@ one_kept {A = A} loads sizes pes tolerance k e one other =
       cuts = cuts;
       bottleneck = one.bottleneck_is ∙ ap (peak loads) cuts ∙ sym other.bottleneck_is;
       naming = naming;
-      moved = one.moved_is ∙ ap (λ xs. bytes_moved sizes xs k.naming) cuts ∙ ap (λ xs. bytes_moved sizes e.refinement.cuts xs) naming ∙ sym other.moved_is;
-      moves = one.moves_are ∙ ap (λ xs. moves_below sizes xs k.naming (length sizes)) cuts
-          ∙ ap (λ xs. moves_below sizes e.refinement.cuts xs (length sizes)) naming ∙ sym other.moves_are;
+      moved = one.moved_is ∙ ap (λ xs. bytes_moved sizes xs k.0.naming) cuts ∙ ap (λ xs. bytes_moved sizes e.0.division.cuts xs) naming ∙ sym other.moved_is;
+      moves = one.moves_are ∙ ap (λ xs. moves_below sizes xs k.0.naming (length sizes)) cuts
+          ∙ ap (λ xs. moves_below sizes e.0.division.cuts xs (length sizes)) naming ∙ sym other.moves_are;
     }
   where
-    orders : (k.refinement.order ≡ e.refinement.order) × (k.refinement.present ≡ e.refinement.present)
-    orders = one_order sizes pes k.refinement.order k.refinement.present e.refinement.order e.refinement.present one.order other.order
+    orders : (k.1.order ≡ e.1.order) × (k.1.present ≡ e.1.present)
+    orders = one_order sizes pes k.1.order k.1.present e.1.order e.1.present one.order other.order
 
-    division : k.refinement.least ≡ e.refinement.least
-    division = only_from_chosen loads pes e.refinement.least other.chosen k.refinement.least one.chosen
+    division : k.1.least ≡ e.1.least
+    division = only_from_chosen loads pes e.1.least other.chosen k.1.least one.chosen
 
-    limit : refined_limit k.refinement ≡ refined_limit e.refinement
-    limit = ap (λ (d : Division A). limit_of d.bottleneck k.refinement.tolerance) division ∙ ap (limit_of e.refinement.least.bottleneck) (one.tolerance_is ∙ sym other.tolerance_is)
+    limit : refined_limit (refinement_of k) ≡ refined_limit (refinement_of e)
+    limit = ap (λ (d : Division A). limit_of d.bottleneck k.1.tolerance) division ∙ ap (limit_of e.1.least.bottleneck) (one.tolerance_is ∙ sym other.tolerance_is)
 
-    nearest : AreNearest loads sizes e.refinement.order e.refinement.present (refined_limit e.refinement) k.refinement.cuts
-    nearest = subst (λ n. AreNearest loads sizes e.refinement.order e.refinement.present n k.refinement.cuts) limit
-        (subst (λ ns. AreNearest loads sizes ns e.refinement.present (refined_limit k.refinement) k.refinement.cuts) orders.0
-        (subst (λ ps. AreNearest loads sizes k.refinement.order ps (refined_limit k.refinement) k.refinement.cuts) orders.1 one.nearest))
+    nearest : AreNearest loads sizes e.1.order e.1.present (refined_limit (refinement_of e)) k.0.division.cuts
+    nearest = subst (λ n. AreNearest loads sizes e.1.order e.1.present n k.0.division.cuts) limit
+        (subst (λ ns. AreNearest loads sizes ns e.1.present (refined_limit (refinement_of k)) k.0.division.cuts) orders.0
+        (subst (λ ps. AreNearest loads sizes k.1.order ps (refined_limit (refinement_of k)) k.0.division.cuts) orders.1 one.nearest))
 
-    cuts : k.refinement.cuts ≡ e.refinement.cuts
-    cuts = one_is_nearest loads sizes e.refinement.order e.refinement.present (refined_limit e.refinement) k.refinement.cuts e.refinement.cuts nearest other.nearest
+    cuts : k.0.division.cuts ≡ e.0.division.cuts
+    cuts = one_is_nearest loads sizes e.1.order e.1.present (refined_limit (refinement_of e)) k.0.division.cuts e.0.division.cuts nearest other.nearest
 
-    naming : k.naming ≡ e.naming
-    naming = one_least pes (bytes_moved sizes k.refinement.cuts) k.naming e.naming one.least_naming
-        (subst (λ xs. IsLeastNaming sizes xs pes e.naming) (sym cuts) other.least_naming)
+    naming : k.0.naming ≡ e.0.naming
+    naming = one_least pes (bytes_moved sizes k.0.division.cuts) k.0.naming e.0.naming one.least_naming
+        (subst (λ xs. IsLeastNaming sizes xs pes e.0.naming) (sym cuts) other.least_naming)
 
 -- what is planned is the plan
 pub the_plan : {A : Type 0} (loads : List ℕ) (sizes : List (ℕ × ℕ)) (pes : ℕ) (d : Decision A) → IsPlanned loads sizes pes d → IsThePlan loads sizes pes d
@@ -70,23 +70,40 @@ one_planned loads sizes pes d e one other =
 
 -- where the plan is the decision, since it moves no more bytes than the kept cuts, these are not the decision
 not_both : {A : Type 0} (loads : List ℕ) (sizes : List (ℕ × ℕ)) (pes tolerance : ℕ) (d : Decision A) (k : Kept A)
-    → IsRefined loads sizes pes tolerance (Planned d) → IsRefined loads sizes pes tolerance (Near k) → ⊥
+    → IsRefinedBy loads sizes pes tolerance d Planned → IsRefinedBy loads sizes pes tolerance k.0 (InOrder k.1) → ⊥
 not_both loads sizes pes tolerance d k (planned, inl none) (kept, (e, also, less)) =
-    none k.refinement.order k.refinement.present kept.order.naming kept.order.in_order
+    none k.1.order k.1.present kept.order.naming kept.order.in_order
 not_both loads sizes pes tolerance d k (planned, inr (f, found, no_more)) (kept, (e, also, less)) =
     let same = one_kept loads sizes pes tolerance f k found kept in
     let plan = one_planned loads sizes pes d e planned also in
     absurd (omega (arith, no_more, same.moved, less, plan.moved))
 
-pub one_refined : {A : Type 0} (loads : List ℕ) (sizes : List (ℕ × ℕ)) (pes tolerance : ℕ) (one other : Refined A)
-    → IsRefined loads sizes pes tolerance one → IsRefined loads sizes pes tolerance other → AreSame one other
-one_refined loads sizes pes tolerance (Planned d) (Planned e) one other =
+-- two decisions have the same cuts, names, bytes and moves
+pub record AreAlike {A : Type 0} (d e : Decision A) : Type 0 where
+  pub cuts : d.division.cuts ≡ e.division.cuts
+  pub names : d.naming ≡ e.naming
+  pub bottleneck : d.division.bottleneck ≡ e.division.bottleneck
+  pub moved : d.moved ≡ e.moved
+  pub moves : d.moves ≡ e.moves
+
+one_by : {A : Type 0} (loads : List ℕ) (sizes : List (ℕ × ℕ)) (pes tolerance : ℕ) (d : Decision A) (n : Nearness A) (e : Decision A) (m : Nearness A)
+    → IsRefinedBy loads sizes pes tolerance d n → IsRefinedBy loads sizes pes tolerance e m → AreAlike d e
+one_by loads sizes pes tolerance d Planned e Planned one other =
     let same = one_planned loads sizes pes d e one.0 other.0 in
     record { cuts = same.cuts; names = same.naming; bottleneck = same.bottleneck; moved = same.moved; moves = same.moves }
-one_refined loads sizes pes tolerance (Near k) (Near e) one other =
-    let same = one_kept loads sizes pes tolerance k e one.0 other.0 in
+one_by loads sizes pes tolerance d (InOrder p) e (InOrder q) one other =
+    let same = one_kept loads sizes pes tolerance (d, p) (e, q) one.0 other.0 in
     record { cuts = same.cuts; names = same.naming; bottleneck = same.bottleneck; moved = same.moved; moves = same.moves }
-one_refined loads sizes pes tolerance (Planned d) (Near k) one other =
-    absurd (not_both loads sizes pes tolerance d k one other)
-one_refined loads sizes pes tolerance (Near k) (Planned d) one other =
-    absurd (not_both loads sizes pes tolerance d k other one)
+one_by loads sizes pes tolerance d Planned e (InOrder q) one other =
+    absurd (not_both loads sizes pes tolerance d (e, q) one other)
+one_by loads sizes pes tolerance d (InOrder p) e Planned one other =
+    absurd (not_both loads sizes pes tolerance e (d, p) other one)
+one_by loads sizes pes tolerance d (InAnyOrder p) e m one other = absurd one
+one_by loads sizes pes tolerance d Planned e (InAnyOrder q) one other = absurd other
+one_by loads sizes pes tolerance d (InOrder p) e (InAnyOrder q) one other = absurd other
+
+pub one_refined : {A : Type 0} (loads : List ℕ) (sizes : List (ℕ × ℕ)) (pes tolerance : ℕ) (one other : Refined A)
+    → IsRefined loads sizes pes tolerance one → IsRefined loads sizes pes tolerance other → AreSame one other
+one_refined loads sizes pes tolerance r s one other =
+    let same = one_by loads sizes pes tolerance r.decision r.nearness s.decision s.nearness one other in
+    record { cuts = same.cuts; names = same.names; bottleneck = same.bottleneck; moved = same.moved; moves = same.moves }

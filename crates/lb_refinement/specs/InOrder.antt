@@ -1,75 +1,55 @@
 -- Decisions within a tolerance that keep the order of the PEs.
-use Rattle.std.specs.Prelude.{◌≡◌, ℕ, List, length}
+use Rattle.std.specs.Prelude.{◌≡◌, ℕ, List, [], length}
 use Rattle.chain_partition.specs.Chosen.{IsChosen}
 use Rattle.lb_certificates.specs.Chain.{peak}
 use Rattle.lb_certificates.specs.Naming.{bytes_moved}
-use Rattle.lb_certificates.specs.declared.division.Division.{Division}
+use Rattle.lb_certificates.specs.declared.division.Floor.TheVariants.{Zero}
 use Rattle.lb_strategy.specs.Decisions.{HasBoundedPrices}
 use Rattle.lb_strategy.specs.Moves.{moves_below}
+use Rattle.lb_strategy.specs.declared.decision.Decision.{Decision}
 use Rattle.chain_refinement.specs.Orders.{IsPresentOrder}
 use Rattle.chain_refinement.specs.Refinement.{AreNearest, IsRefinement, refined_limit}
 use Rattle.chain_refinement.specs.NoOrders.{HasNoOrder}
-use Rattle.lb_refinement.specs.Refined.{IsThePlan}
-use Rattle.lb_refinement.specs.declared.in_order.KeptInOrder.{KeptInOrder}
-use Rattle.lb_refinement.specs.declared.in_order.RefinedInOrder.{RefinedInOrder}
-use Rattle.lb_refinement.specs.declared.in_order.RefinedInOrder.TheVariants.{Near, Planned}
+use Rattle.chain_refinement.specs.declared.refinement.Refinement.{Refinement}
+use Rattle.lb_refinement.specs.Refined.{Kept, IsThePlan}
+use Rattle.lb_refinement.specs.declared.nearness.Nearness.{Nearness}
+use Rattle.lb_refinement.specs.declared.nearness.Nearness.TheVariants.{Planned, InOrder, InAnyOrder}
+use Rattle.lb_refinement.specs.declared.refined.Refined.{Refined}
+
+-- what a checker is shown of a decision whose names are the order that is kept
+abbrev pub ordered_of : {A : Type 0} → Kept A → Refinement A
+ordered_of k =
+    record { least = k.1.least; tolerance = k.1.tolerance; order = k.0.naming; present = k.1.present; cuts = k.0.division.cuts; heights = k.1.heights }
 
 -- Cuts between blocks that run on the PEs in their present order: of all cuts within the tolerance those that move the fewest
--- bytes in this order, and of these the nearest to the present ones.
-pub record IsKeptInOrder {A : Type 0} (loads : List ℕ) (sizes : List (ℕ × ℕ)) (pes tolerance : ℕ) (k : KeptInOrder A) : Type 0 where
-  pub order : IsPresentOrder sizes pes k.refinement.order k.refinement.present
-  pub chosen : IsChosen loads pes k.refinement.least
-  pub tolerance_is : k.refinement.tolerance ≡ tolerance
-  pub right : IsRefinement loads sizes pes k.refinement
-  pub nearest : AreNearest loads sizes k.refinement.order k.refinement.present (refined_limit k.refinement) k.refinement.cuts
-  pub bottleneck_is : k.bottleneck ≡ peak loads k.refinement.cuts
-  pub moved_is : k.moved ≡ bytes_moved sizes k.refinement.cuts k.refinement.order
-  pub moves_are : k.moves ≡ moves_below sizes k.refinement.cuts k.refinement.order (length sizes)
+-- bytes in this order, and of these the nearest to the present ones. The floor claims nothing, and there are no prices.
+pub record IsKeptInOrder {A : Type 0} (loads : List ℕ) (sizes : List (ℕ × ℕ)) (pes tolerance : ℕ) (k : Kept A) : Type 0 where
+  pub named : k.1.order ≡ k.0.naming
+  pub order : IsPresentOrder sizes pes k.0.naming k.1.present
+  pub chosen : IsChosen loads pes k.1.least
+  pub tolerance_is : k.1.tolerance ≡ tolerance
+  pub right : IsRefinement loads sizes pes (ordered_of k)
+  pub nearest : AreNearest loads sizes k.0.naming k.1.present (refined_limit (ordered_of k)) k.0.division.cuts
+  pub bottleneck_is : k.0.division.bottleneck ≡ peak loads k.0.division.cuts
+  pub no_floor : k.0.division.floor ≡ Zero
+  pub no_u : k.0.prices.u ≡ []
+  pub no_v : k.0.prices.v ≡ []
+  pub moved_is : k.0.moved ≡ bytes_moved sizes k.0.division.cuts k.0.naming
+  pub moves_are : k.0.moves ≡ moves_below sizes k.0.division.cuts k.0.naming (length sizes)
 
 -- The decision that keeps the order: the cuts near the present ones, or, where the PEs have no order, the plan.
-abbrev pub IsRefinedInOrder : {A : Type 0} → List ℕ → List (ℕ × ℕ) → ℕ → ℕ → RefinedInOrder A → Type 0
-IsRefinedInOrder {A} loads sizes pes tolerance (Planned d) = IsThePlan loads sizes pes d × HasNoOrder sizes pes
-IsRefinedInOrder {A} loads sizes pes tolerance (Near k) = IsKeptInOrder loads sizes pes tolerance k
+abbrev pub IsInOrderBy : {A : Type 0} → List ℕ → List (ℕ × ℕ) → ℕ → ℕ → Decision A → Nearness A → Type 0
+IsInOrderBy loads sizes pes tolerance d Planned = IsThePlan loads sizes pes d × HasNoOrder sizes pes
+IsInOrderBy loads sizes pes tolerance d (InOrder proof) = IsKeptInOrder loads sizes pes tolerance (d, proof)
+IsInOrderBy loads sizes pes tolerance d (InAnyOrder proof) = ⊥
 
--- the cuts, the names and the bytes that move: block b of kept cuts runs on the PE that is at place b of the order
-abbrev pub ordered_cuts : {A : Type 0} → RefinedInOrder A → List ℕ
-ordered_cuts (Planned d) = d.division.cuts
-ordered_cuts (Near k) = k.refinement.cuts
-
-abbrev pub ordered_names : {A : Type 0} → RefinedInOrder A → List ℕ
-ordered_names (Planned d) = d.naming
-ordered_names (Near k) = k.refinement.order
-
-abbrev pub ordered_moved : {A : Type 0} → RefinedInOrder A → ℕ
-ordered_moved (Planned d) = d.moved
-ordered_moved (Near k) = k.moved
-
-abbrev pub ordered_moves : {A : Type 0} → RefinedInOrder A → List (ℕ × ℕ × ℕ)
-ordered_moves (Planned d) = d.moves
-ordered_moves (Near k) = k.moves
-
--- the greatest load of a block
-abbrev pub ordered_bottleneck : {A : Type 0} → RefinedInOrder A → ℕ
-ordered_bottleneck (Planned d) = d.division.bottleneck
-ordered_bottleneck (Near k) = k.bottleneck
-
--- the least division, and its greatest load
-abbrev pub ordered_least : {A : Type 0} → RefinedInOrder A → Division A
-ordered_least (Planned d) = d.division
-ordered_least (Near k) = k.refinement.least
-
-abbrev pub ordered_least_load : {A : Type 0} → RefinedInOrder A → ℕ
-ordered_least_load r = (ordered_least r).bottleneck
+abbrev pub IsRefinedInOrder : {A : Type 0} → List ℕ → List (ℕ × ℕ) → ℕ → ℕ → Refined A → Type 0
+IsRefinedInOrder loads sizes pes tolerance r = IsInOrderBy loads sizes pes tolerance r.decision r.nearness
 
 -- the prices of a plan are in the range of those of every plan; kept cuts have none
-abbrev pub HasSmallPrices : {A : Type 0} → List (ℕ × ℕ) → RefinedInOrder A → Type 0
-HasSmallPrices sizes (Planned d) = HasBoundedPrices sizes d
-HasSmallPrices sizes (Near k) = Unit {0}
+abbrev pub ArePlanPricesSmall : {A : Type 0} → List (ℕ × ℕ) → Decision A → Nearness A → Type 0
+ArePlanPricesSmall sizes d Planned = HasBoundedPrices sizes d
+ArePlanPricesSmall sizes d nearness = Unit {0}
 
--- what two such decisions have in common: all but heights and prices
-pub record AreSameInOrder {A : Type 0} (one other : RefinedInOrder A) : Type 0 where
-  pub cuts : ordered_cuts one ≡ ordered_cuts other
-  pub names : ordered_names one ≡ ordered_names other
-  pub bottleneck : ordered_bottleneck one ≡ ordered_bottleneck other
-  pub moved : ordered_moved one ≡ ordered_moved other
-  pub moves : ordered_moves one ≡ ordered_moves other
+abbrev pub HasSmallPrices : {A : Type 0} → List (ℕ × ℕ) → Refined A → Type 0
+HasSmallPrices sizes r = ArePlanPricesSmall sizes r.decision r.nearness

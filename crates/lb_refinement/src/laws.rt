@@ -1,9 +1,8 @@
 //! Laws of the definitions, each the contract of a function with an empty body.
 
 ghost use Rattle.std.specs.Prelude.{ℕ, List};
-ghost use Rattle.lb_refinement.specs.declared.in_order.RefinedInOrder.{RefinedInOrder};
 ghost use Rattle.lb_refinement.specs.declared.refined.Refined.{Refined};
-ghost use Rattle.lb_refinement.specs.InOrder.{AreSameInOrder, IsRefinedInOrder};
+ghost use Rattle.lb_refinement.specs.InOrder.{IsRefinedInOrder};
 ghost use Rattle.lb_refinement.specs.Refined.{AreSame, IsRefined};
 
 use std::alloc::Allocator;
@@ -17,6 +16,6 @@ pub fn one_refined<A: Allocator>()
 /// The loads, the sizes, the number of PEs and the tolerance determine the decision that keeps the order of the PEs, except for
 /// heights and prices.
 pub fn one_in_order<A: Allocator>()
-    ensures one_in_order { (loads : List ℕ) (sizes : List (ℕ × ℕ)) (pes tolerance : ℕ) (one other : RefinedInOrder A)
-        → IsRefinedInOrder loads sizes pes tolerance one → IsRefinedInOrder loads sizes pes tolerance other → AreSameInOrder one other }
+    ensures one_in_order { (loads : List ℕ) (sizes : List (ℕ × ℕ)) (pes tolerance : ℕ) (one other : Refined A)
+        → IsRefinedInOrder loads sizes pes tolerance one → IsRefinedInOrder loads sizes pes tolerance other → AreSame one other }
 {}

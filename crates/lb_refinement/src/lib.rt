@@ -2,9 +2,9 @@
 //!
 //! - [`refine`]: decides, as [`plan`](lb_strategy::plan) does, or returns that memory was refused; [`refine_with`] does so with
 //!   several threads.
-//! - [`Refined`]: what they decide: cuts near the present ones, with their proofs ([`Kept`]), or the plan.
-//! - [`refine_keeping_order`]: decides so that the PEs keep their order: [`RefinedInOrder`], of which [`KeptInOrder`] has no
-//!   names of its own.
+//! - [`Refined`]: what they decide: a decision, and its [`Nearness`], which is what proves it; [`as_planned`], of a plan.
+//! - [`OrderProof`], [`AnyOrderProof`]: the proofs that no cuts move fewer bytes in the order of the PEs, or in any order.
+//! - [`refine_keeping_order`]: decides so that the PEs keep their order; [`unpriced`]: the prices of names that no prices prove.
 //! - [`block_around`]: the block that contains an element.
 //! - [`greatest_load`], [`moved_by`]: the load of the heaviest block, and the bytes that names move.
 //! - [`laws`]: what the definitions imply.
@@ -31,18 +31,18 @@
 #![tactic(auto)]
 
 mod heaviest;
-mod in_order;
 mod keeping;
 pub mod laws;
 mod moved;
+mod nearness;
 mod places;
 mod refined;
 mod refining;
 
 pub use heaviest::greatest_load;
-pub use in_order::{KeptInOrder, RefinedInOrder};
-pub use keeping::refine_keeping_order;
+pub use keeping::{refine_keeping_order, unpriced};
 pub use moved::moved_by;
+pub use nearness::{AnyOrderProof, Nearness, OrderProof};
 pub use places::block_around;
-pub use refined::{Kept, Refined};
-pub use refining::{refine, refine_with};
+pub use refined::Refined;
+pub use refining::{as_planned, refine, refine_with};

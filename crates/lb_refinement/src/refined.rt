@@ -1,43 +1,26 @@
-//! A decision within a tolerance: cuts near the present ones, or the plan.
+//! A decision within a tolerance, with what proves it.
 
 ghost use Rattle.std.specs.Prelude.{◌≡◌};
 ghost use Rattle.lb_strategy.specs.Moves.{planned_pe, HasPlace};
 ghost use Rattle.lb_refinement.specs.Refined.{refined_bottleneck, refined_cuts, refined_least, refined_moved, refined_moves, refined_names, refined_prices};
 
+use crate::nearness::Nearness;
 use crate::places::block_around;
-use chain_refinement::Refinement;
 use chare_index::{Index, Pe};
-use lb_certificates::{Division, Naming, Prices};
+use lb_certificates::{Division, Prices};
 use lb_strategy::{Decision, Moves};
 use std::alloc::{Allocator, Global};
 
-/// Cuts near the present ones, with the names of the blocks between them.
+/// What a balancing step decides within a tolerance: a decision, and what proves that it moves few bytes. Where that is not the
+/// decision of [`plan`](lb_strategy::plan), its bottleneck may be above the least possible one, and its floor is
+/// [`Floor::Zero`](lb_certificates::Floor::Zero), which claims nothing.
 #[derive(Drop)]
 #[derive_where(Debug)]
-pub struct Kept<A: Allocator = Global> {
-    /// The cuts, and the proof that in the present order of the PEs no cuts within the tolerance move fewer bytes.
-    pub refinement: Refinement<A>,
-    /// The greatest load of a block between these cuts.
-    pub bottleneck: u64,
-    /// The PE on which each block runs.
-    pub naming: Naming<A>,
-    /// The proof that no naming of these blocks moves fewer bytes.
-    pub prices: Prices<A>,
-    /// The packed bytes of all elements that move.
-    pub moved: u64,
-    /// The elements that move.
-    pub moves: Moves<A>,
-}
-
-/// What a balancing step decides within a tolerance.
-#[derive(Drop)]
-#[derive_where(Debug)]
-pub enum Refined<A: Allocator = Global> {
-    /// The decision of [`plan`](lb_strategy::plan): the elements of some PE are not consecutive, or nothing within the
-    /// tolerance that keeps the order of the PEs moves fewer bytes.
-    Planned(Decision<A>),
-    /// Cuts near the present ones.
-    Near(Kept<A>),
+pub struct Refined<A: Allocator = Global> {
+    /// The decision.
+    pub decision: Decision<A>,
+    /// What proves it.
+    pub nearness: Nearness<A>,
 }
 
 impl<A: Allocator> Refined<A> {
@@ -45,9 +28,10 @@ impl<A: Allocator> Refined<A> {
     pub fn least(&self) -> &Division<A>
         ensures value { result.now ≡ refined_least self.now }
     {
-        match self {
-            Refined::Planned(decision) => &decision.division,
-            Refined::Near(kept) => &kept.refinement.least,
+        match &self.nearness {
+            Nearness::Planned => &self.decision.division,
+            Nearness::InOrder(proof) => &proof.least,
+            Nearness::InAnyOrder(proof) => &proof.least,
         }
     }
 
@@ -55,60 +39,43 @@ impl<A: Allocator> Refined<A> {
     pub fn bottleneck(&self) -> u64
         ensures value { result ≡ refined_bottleneck self.now }
     {
-        match self {
-            Refined::Planned(decision) => decision.division.bottleneck,
-            Refined::Near(kept) => kept.bottleneck,
-        }
+        self.decision.division.bottleneck
     }
 
     /// Where the blocks begin and end.
     pub fn cuts(&self) -> &[u32]
         ensures value { result.now ≡ refined_cuts self.now }
     {
-        match self {
-            Refined::Planned(decision) => decision.division.cuts.as_slice(),
-            Refined::Near(kept) => kept.refinement.cuts.as_slice(),
-        }
+        self.decision.division.cuts.as_slice()
     }
 
     /// The PE of each block.
     pub fn names(&self) -> &[u32]
         ensures value { result.now ≡ refined_names self.now }
     {
-        match self {
-            Refined::Planned(decision) => decision.naming.as_slice(),
-            Refined::Near(kept) => kept.naming.as_slice(),
-        }
+        self.decision.naming.as_slice()
     }
 
-    /// The proof that no naming of these blocks moves fewer bytes.
+    /// The proof that no naming of these blocks moves fewer bytes. There is none where the names are those of an order that is kept,
+    /// or were found together with the cuts.
     pub fn prices(&self) -> &Prices<A>
         ensures value { result.now ≡ refined_prices self.now }
     {
-        match self {
-            Refined::Planned(decision) => &decision.prices,
-            Refined::Near(kept) => &kept.prices,
-        }
+        &self.decision.prices
     }
 
     /// The packed bytes of all elements that move.
     pub fn moved(&self) -> u64
         ensures value { result ≡ refined_moved self.now }
     {
-        match self {
-            Refined::Planned(decision) => decision.moved,
-            Refined::Near(kept) => kept.moved,
-        }
+        self.decision.moved
     }
 
     /// The elements that move, in order of index.
     pub fn moves(&self) -> &Moves<A>
         ensures value { result.now ≡ refined_moves self.now }
     {
-        match self {
-            Refined::Planned(decision) => &decision.moves,
-            Refined::Near(kept) => &kept.moves,
-        }
+        &self.decision.moves
     }
 
     /// The PE on which an element is to run, in time that grows with the logarithm of the number of blocks. It may be called

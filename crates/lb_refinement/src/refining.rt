@@ -6,13 +6,15 @@ ghost use Rattle.lb_certificates.specs.Certificate.{IsCertified};
 ghost use Rattle.lb_certificates.specs.Naming.{AreBlocks};
 ghost use Rattle.lb_strategy.specs.Decisions.{IsPlanned};
 ghost use Rattle.chain_refinement.specs.Orders.{IsPresentOrder};
-ghost use Rattle.lb_refinement.specs.Refined.{HasNames, IsCheaper, IsDecidedWithin, IsKept};
+ghost use Rattle.lb_certificates.specs.declared.division.Floor.TheVariants.{Zero};
+ghost use Rattle.lb_refinement.specs.Refined.{HasNames, IsCheaper, IsDecidedWithin, IsKept, as_planned};
 
 use crate::heaviest::greatest_load;
-use crate::refined::{Kept, Refined};
+use crate::nearness::{Nearness, OrderProof};
+use crate::refined::Refined;
 use chain_refinement::{PresentOrder, Refinement, Tolerance, present_order};
 use chare_index::{Gate, Limits, Pes};
-use lb_certificates::Division;
+use lb_certificates::{Cuts, Division, Floor};
 use lb_snapshot::{Sizes, Snapshot};
 use lb_strategy::{Decision, PlanError, moves_of, name_cuts, plan, plan_with};
 use refinement_search::refine_in_order;
@@ -117,7 +119,7 @@ fn nearer<A: Allocator + Copy, B: Allocator>(
     ensures decided { IfOk result (IsDecidedWithin snapshot.now.loads snapshot.now.sizes pes tolerance) }
 {
     let Some(order) = present_order(alloc, snapshot.sizes(), pes)? else {
-        return Ok(Refined::Planned(planned));
+        return Ok(as_planned(planned));
     };
     let least = least_of(&planned)?;
     let kept = keep(alloc, snapshot, pes, least, tolerance, order)?;
@@ -131,14 +133,28 @@ fn least_of<A: Allocator + Copy>(planned: &Decision<A>) -> Result<Division<A>, A
     planned.division.clone()
 }
 
+/// A plan as a decision within a tolerance.
+pub fn as_planned<A: Allocator>(planned: Decision<A>) -> Refined<A>
+    ensures value { result ≡ as_planned planned }
+{
+    Refined {
+        decision: planned,
+        nearness: Nearness::Planned,
+    }
+}
+
 // The one that moves fewer bytes; the plan, where neither does.
-fn cheaper<A: Allocator>(planned: Decision<A>, kept: Kept<A>) -> Refined<A>
+fn cheaper<A: Allocator>(planned: Decision<A>, kept: (Decision<A>, OrderProof<A>)) -> Refined<A>
     ensures { IsCheaper planned kept result }
 {
-    if planned.moved <= kept.moved {
-        return Refined::Planned(planned);
+    if planned.moved <= kept.0.moved {
+        return as_planned(planned);
     }
-    Refined::Near(kept)
+    let (decision, proof) = kept;
+    Refined {
+        decision,
+        nearness: Nearness::InOrder(proof),
+    }
 }
 
 // The cuts nearest to the present ones, with their names.
@@ -149,7 +165,7 @@ fn keep<A: Allocator + Copy, B: Allocator>(
     least: Division<A>,
     tolerance: Tolerance,
     order: PresentOrder<A>,
-) -> Result<Kept<A>, AllocError>
+) -> Result<(Decision<A>, OrderProof<A>), AllocError>
     requires chosen { IsChosen snapshot.now.loads pes least }
     requires certified { IsCertified snapshot.now.loads pes least }
     requires order { IsPresentOrder snapshot.now.sizes pes order.names order.present }
@@ -160,29 +176,62 @@ fn keep<A: Allocator + Copy, B: Allocator>(
     let PresentOrder { names, present } = order;
     let refinement = refine_in_order(alloc, snapshot, least, tolerance, names, present)?;
     let bottleneck = greatest_load(snapshot.loads(), blocks, refinement.cuts.as_slice());
-    with_names(alloc, sizes, refinement, bottleneck)
+    let (cuts, proof) = split(refinement);
+    let decision = with_names(alloc, sizes, cuts, bottleneck)?;
+    Ok((decision, proof))
 }
 
-// Completes the decision with the names of its blocks.
+/// The cuts of a refinement, and what proves them.
+pub(crate) fn split<A: Allocator>(refinement: Refinement<A>) -> (Cuts<A>, OrderProof<A>)
+    ensures cuts { result.0 ≡ refinement.cuts }
+    ensures least { result.1.least ≡ refinement.least }
+    ensures tolerance { result.1.tolerance ≡ refinement.tolerance }
+    ensures order { result.1.order ≡ refinement.order }
+    ensures present { result.1.present ≡ refinement.present }
+    ensures heights { result.1.heights ≡ refinement.heights }
+{
+    let Refinement {
+        least,
+        tolerance,
+        order,
+        present,
+        cuts,
+        heights,
+    } = refinement;
+    let proof = OrderProof {
+        least,
+        tolerance,
+        order,
+        present,
+        heights,
+    };
+    (cuts, proof)
+}
+
+// The decision for these cuts, with the least naming of the blocks between them.
 fn with_names<A: Allocator + Copy, B: Allocator>(
     alloc: A,
     sizes: &Sizes<B>,
-    refinement: Refinement<A>,
+    cuts: Cuts<A>,
     bottleneck: u64,
-) -> Result<Kept<A>, AllocError>
-    requires blocks { AreBlocks sizes.now refinement.cuts }
+) -> Result<Decision<A>, AllocError>
+    requires blocks { AreBlocks sizes.now cuts }
     ensures named { IfOk result (HasNames sizes.now) }
-    ensures refinement { IfOk result (λ k. k.refinement ≡ refinement) }
-    ensures bottleneck { IfOk result (λ k. k.bottleneck ≡ bottleneck) }
+    ensures cuts { IfOk result (λ d. d.division.cuts ≡ cuts) }
+    ensures bottleneck { IfOk result (λ d. d.division.bottleneck ≡ bottleneck) }
+    ensures no_floor { IfOk result (λ d. d.division.floor ≡ Zero) }
 {
-    let Ok((naming, prices, moved)) = name_cuts(alloc, sizes, &refinement.cuts) else {
+    let Ok((naming, prices, moved)) = name_cuts(alloc, sizes, &cuts) else {
         return Err(AllocError);
     };
-    let cuts = refinement.cuts.as_slice();
-    let moves = moves_of(alloc, sizes.as_slice(), cuts, naming.as_slice())?;
-    Ok(Kept {
-        refinement,
+    let moves = moves_of(alloc, sizes.as_slice(), cuts.as_slice(), naming.as_slice())?;
+    let division = Division {
         bottleneck,
+        cuts,
+        floor: Floor::Zero,
+    };
+    Ok(Decision {
+        division,
         naming,
         prices,
         moved,

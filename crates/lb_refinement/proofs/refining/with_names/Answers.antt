@@ -7,5 +7,5 @@ returns-clause-named g c =
       least_naming = c.in-Ok.ensures.least_naming;
       bounded = c.in-Ok.ensures.bounded;
       moved_is = c.in-Ok.ensures.moved;
-      moves_are = rw (← c.as_slice.ensures.value, ← c.as_slice-cuts.ensures.value, ← c.as_slice-2.ensures.value) c.in_ok-moves.ensures.moves;
+      moves_are = rw (← c.as_slice.ensures.value, ← c.as_slice-2.ensures.value, ← c.as_slice-3.ensures.value) c.in_ok-moves.ensures.moves;
     }
