@@ -1,67 +1,72 @@
 -- Decisions within a tolerance where the PEs may change their order.
-use Rattle.std.specs.Prelude.{◌≡◌, ℕ, ◌<◌, ◌≤◌, List, length}
+use Rattle.std.specs.Prelude.{◌≡◌, ◌⊎◌, ℕ, ◌<◌, ◌≤◌, List, [], length}
+use Rattle.lb_certificates.specs.Chain.{peak}
 use Rattle.lb_certificates.specs.Naming.{bytes_moved}
-use Rattle.lb_certificates.specs.declared.division.Division.{Division}
+use Rattle.lb_certificates.specs.declared.division.Floor.TheVariants.{Zero}
 use Rattle.lb_strategy.specs.Moves.{HasPlace, moves_below, planned_pe}
+use Rattle.lb_strategy.specs.declared.decision.Decision.{Decision}
 use Rattle.any_order.specs.AnyOrder.{AreFewestOfAll, IsReordered, reordered_limit}
-use Rattle.lb_refinement.specs.Refined.{ArePricesSmall, IsRefined, least_load, refined_cuts, refined_least, refined_moved, refined_moves, refined_names}
+use Rattle.any_order.specs.declared.reordered.Reordered.{Reordered}
+use Rattle.lb_refinement.specs.Refined.{ArePricesSmall, IsRefinedBy, refined_moved}
+use Rattle.lb_refinement.specs.declared.nearness.AnyOrderProof.{AnyOrderProof}
+use Rattle.lb_refinement.specs.declared.nearness.Nearness.{Nearness}
+use Rattle.lb_refinement.specs.declared.nearness.Nearness.TheVariants.{InAnyOrder}
 use Rattle.lb_refinement.specs.declared.refined.Refined.{Refined}
-use Rattle.lb_any_order.specs.declared.reordering.Fewest.{Fewest}
-use Rattle.lb_any_order.specs.declared.reordering.Reordering.{Reordering}
-use Rattle.lb_any_order.specs.declared.reordering.Reordering.TheVariants.{InAnyOrder, InOrder}
 
--- cuts and names within the tolerance that move the fewest bytes of all, with their proof
+-- a decision in any order, with its proof; and what a checker is shown of the two
+abbrev pub Fewest : Type 0 → Type 0
+Fewest A = Decision A × AnyOrderProof A
+
+abbrev pub reordered_of : {A : Type 0} → Fewest A → Reordered A
+reordered_of f =
+    record { least = f.1.least; tolerance = f.1.tolerance; cuts = f.0.division.cuts; names = f.0.naming; any = f.1.any; free = f.1.free }
+
+-- Cuts and names within the tolerance that move the fewest bytes of all, with their proof. The floor claims nothing, and there are
+-- no prices.
 pub record IsFewest {A : Type 0} (loads : List ℕ) (sizes : List (ℕ × ℕ)) (pes tolerance : ℕ) (f : Fewest A) : Type 0 where
-  pub right : IsReordered loads sizes pes f.reordered
-  pub tolerance_is : f.reordered.tolerance ≡ tolerance
-  pub fewest : AreFewestOfAll loads sizes pes (reordered_limit f.reordered) f.reordered.cuts f.reordered.names
-  pub moved_is : f.moved ≡ bytes_moved sizes f.reordered.cuts f.reordered.names
-  pub moves_are : f.moves ≡ moves_below sizes f.reordered.cuts f.reordered.names (length sizes)
+  pub right : IsReordered loads sizes pes (reordered_of f)
+  pub tolerance_is : f.1.tolerance ≡ tolerance
+  pub fewest : AreFewestOfAll loads sizes pes (reordered_limit (reordered_of f)) f.0.division.cuts f.0.naming
+  pub bottleneck_is : f.0.division.bottleneck ≡ peak loads f.0.division.cuts
+  pub no_floor : f.0.division.floor ≡ Zero
+  pub no_u : f.0.prices.u ≡ []
+  pub no_v : f.0.prices.v ≡ []
+  pub moved_is : f.0.moved ≡ bytes_moved sizes f.0.division.cuts f.0.naming
+  pub moves_are : f.0.moves ≡ moves_below sizes f.0.division.cuts f.0.naming (length sizes)
 
 -- The decision: cuts and names that move the fewest bytes of all, or the one in the present order.
-abbrev pub IsReordering : {A : Type 0} → List ℕ → List (ℕ × ℕ) → ℕ → ℕ → Reordering A → Type 0
-IsReordering loads sizes pes tolerance (InOrder r) = IsRefined loads sizes pes tolerance r
-IsReordering loads sizes pes tolerance (InAnyOrder f) = IsFewest loads sizes pes tolerance f
+abbrev pub IsReorderingBy : {A : Type 0} → List ℕ → List (ℕ × ℕ) → ℕ → ℕ → Decision A → Nearness A → Type 0
+IsReorderingBy loads sizes pes tolerance d (InAnyOrder proof) = IsFewest loads sizes pes tolerance (d, proof)
+IsReorderingBy loads sizes pes tolerance d nearness = IsRefinedBy loads sizes pes tolerance d nearness
 
--- the bytes and the moves are those of the cuts and the names
-pub record HasMoves {A : Type 0} (sizes : List (ℕ × ℕ)) (f : Fewest A) : Type 0 where
-  pub moved_is : f.moved ≡ bytes_moved sizes f.reordered.cuts f.reordered.names
-  pub moves_are : f.moves ≡ moves_below sizes f.reordered.cuts f.reordered.names (length sizes)
+abbrev pub IsReordering : {A : Type 0} → List ℕ → List (ℕ × ℕ) → ℕ → ℕ → Refined A → Type 0
+IsReordering loads sizes pes tolerance r = IsReorderingBy loads sizes pes tolerance r.decision r.nearness
 
--- the cuts, the names, the bytes that move, the moves, and the division and the load that the limit is measured from
-abbrev pub reordering_cuts : {A : Type 0} → Reordering A → List ℕ
-reordering_cuts (InOrder r) = refined_cuts r
-reordering_cuts (InAnyOrder f) = f.reordered.cuts
-
-abbrev pub reordering_names : {A : Type 0} → Reordering A → List ℕ
-reordering_names (InOrder r) = refined_names r
-reordering_names (InAnyOrder f) = f.reordered.names
-
-abbrev pub reordering_moved : {A : Type 0} → Reordering A → ℕ
-reordering_moved (InOrder r) = refined_moved r
-reordering_moved (InAnyOrder f) = f.moved
-
-abbrev pub reordering_moves : {A : Type 0} → Reordering A → List (ℕ × ℕ × ℕ)
-reordering_moves (InOrder r) = refined_moves r
-reordering_moves (InAnyOrder f) = f.moves
-
-abbrev pub reordering_division : {A : Type 0} → Reordering A → Division A
-reordering_division (InOrder r) = refined_least r
-reordering_division (InAnyOrder f) = f.reordered.least
-
-abbrev pub reordering_least : {A : Type 0} → Reordering A → ℕ
-reordering_least (InOrder r) = least_load r
-reordering_least (InAnyOrder f) = f.reordered.least.bottleneck
+-- the bottleneck, the bytes and the moves are those of the cuts and the names
+pub record HasFigures {A : Type 0} (loads : List ℕ) (sizes : List (ℕ × ℕ)) (d : Decision A) : Type 0 where
+  pub bottleneck_is : d.division.bottleneck ≡ peak loads d.division.cuts
+  pub no_floor : d.division.floor ≡ Zero
+  pub no_u : d.prices.u ≡ []
+  pub no_v : d.prices.v ≡ []
+  pub moved_is : d.moved ≡ bytes_moved sizes d.division.cuts d.naming
+  pub moves_are : d.moves ≡ moves_below sizes d.division.cuts d.naming (length sizes)
 
 -- the prices of a decision in the present order are in the range of those of a plan; in another order there are none
-abbrev pub ArePricesSmallInOrder : {A : Type 0} → List (ℕ × ℕ) → Reordering A → Type 0
-ArePricesSmallInOrder sizes (InOrder r) = ArePricesSmall sizes r
-ArePricesSmallInOrder sizes (InAnyOrder f) = Unit {0}
+abbrev pub ArePricesSmallBy : {A : Type 0} → List (ℕ × ℕ) → Decision A → Nearness A → Type 0
+ArePricesSmallBy sizes d (InAnyOrder proof) = Unit {0}
+ArePricesSmallBy sizes d nearness = ArePricesSmall sizes (record { decision = d; nearness = nearness })
+
+abbrev pub ArePricesSmallInOrder : {A : Type 0} → List (ℕ × ℕ) → Refined A → Type 0
+ArePricesSmallInOrder sizes r = ArePricesSmallBy sizes r.decision r.nearness
+
+-- cuts and names that move the fewest bytes, as a decision
+abbrev pub as_fewest : {A : Type 0} → Fewest A → Refined A
+as_fewest f = record { decision = f.0; nearness = InAnyOrder f.1 }
 
 -- the one in any order where it moves no more bytes, and otherwise the other
-abbrev pub IsLesser : {A : Type 0} → Refined A → Fewest A → Reordering A → Type 0
-IsLesser refined fewest (InOrder r) = r ≡ refined
-IsLesser refined fewest (InAnyOrder f) = (f ≡ fewest) × (fewest.moved ≤ refined_moved refined)
+abbrev pub IsLesser : {A : Type 0} → Refined A → Fewest A → Refined A → Type 0
+IsLesser refined fewest r =
+    (r ≡ refined) ⊎ ((r ≡ as_fewest fewest) × (fewest.0.moved ≤ refined_moved refined))
 
 -- an element has a place, and the PE is one of this number of PEs
 pub record HasPlaceBelow (pes : ℕ) (cuts names : List ℕ) (i : ℕ) : Type 0 where

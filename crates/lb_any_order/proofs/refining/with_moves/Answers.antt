@@ -22,5 +22,5 @@ pub returns-clause-places : goal.returns-clause-places
 returns-clause-places g c =
     let r = c.args.reordered in
     let right = c.requires.right in
-    place_below (length c.args.snapshot.now.sizes) c.args.pes r.cuts r.names
-    (subst (λ n. IsDivision 0 n c.args.pes r.cuts) c.sizes.ensures.paired right.plan.divides) right.plan.naming right.few_pes
+    rw (c.split-cuts.ensures.cuts, c.split-cuts.ensures.names) (place_below (length c.args.snapshot.now.sizes) c.args.pes r.cuts r.names
+    (subst (λ n. IsDivision 0 n c.args.pes r.cuts) c.sizes.ensures.paired right.plan.divides) right.plan.naming right.few_pes)
