@@ -1,7 +1,7 @@
 -- What every decision in any order has, whichever of the two it is.
 use Rattle.std.proofs.Common.{◌≡◌, ℕ, List, length, arith, subst, sym}
 use Rattle.lb_certificates.specs.Certificate.{IsCertified, NoneAbove}
-use Rattle.lb_certificates.specs.Chain.{IsDivision}
+use Rattle.lb_certificates.specs.Chain.{IsDivision, peak}
 use Rattle.lb_certificates.specs.Naming.{IsNaming}
 use Rattle.chain_refinement.specs.Orders.{IsPresentOrder}
 use Rattle.chain_refinement.specs.Refinement.{AreWithin}
@@ -10,7 +10,7 @@ use Rattle.any_order.specs.AnyOrder.{reordered_limit}
 use Rattle.lb_refinement.proofs.KeptWhole.{none_moves, whole}
 use Rattle.lb_refinement.proofs.RefinedCases as Refined
 use Rattle.lb_strategy.specs.declared.decision.Decision.{Decision}
-use Rattle.lb_refinement.specs.Refined.{least_by, least_load, refined_cuts, refined_least, refined_moved, refined_names}
+use Rattle.lb_refinement.specs.Refined.{least_by, least_load, refined_bottleneck, refined_cuts, refined_least, refined_moved, refined_names}
 use Rattle.lb_refinement.specs.declared.nearness.Nearness.{Nearness}
 use Rattle.lb_refinement.specs.declared.nearness.Nearness.TheVariants.{Planned, InOrder, InAnyOrder}
 use Rattle.lb_refinement.specs.declared.refined.Refined.{Refined}
@@ -39,6 +39,15 @@ module _ {A : Type 0} (loads : List ℕ) (sizes : List (ℕ × ℕ)) (pes tolera
 
   pub naming : (r : Refined A) → IsReordering loads sizes pes tolerance r → IsNaming pes (refined_names r)
   naming r = naming_by r.decision r.nearness
+
+  -- the bottleneck is the load of the heaviest block
+  bottleneck_by : (d : Decision A) (n : Nearness A) → IsReorderingBy loads sizes pes tolerance d n → d.division.bottleneck ≡ peak loads d.division.cuts
+  bottleneck_by d Planned refined = Refined.bottleneck_is loads sizes pes tolerance (pair d Planned) refined
+  bottleneck_by d (InOrder p) refined = Refined.bottleneck_is loads sizes pes tolerance (pair d (InOrder p)) refined
+  bottleneck_by d (InAnyOrder p) few = few.bottleneck_is
+
+  pub bottleneck : (r : Refined A) → IsReordering loads sizes pes tolerance r → refined_bottleneck r ≡ peak loads (refined_cuts r)
+  bottleneck r = bottleneck_by r.decision r.nearness
 
   -- the division that the limit is measured from is certified
   certified_by : (d : Decision A) (n : Nearness A) → IsReorderingBy loads sizes pes tolerance d n → IsCertified loads pes (least_by d n)

@@ -27,8 +27,14 @@ pub struct OrderProof<A: Allocator = Global> {
 impl<A: Allocator> OrderProof<A> {
     /// The refinement with these cuts that this proves.
     pub fn with_cuts(self, cuts: Cuts<A>) -> Refinement<A>
-        ensures value { result ≡ record { least = self.least; tolerance = self.tolerance; order = self.order; present = self.present;
-            cuts = cuts; heights = self.heights } }
+        ensures value { result ≡ record {
+          least = self.least;
+          tolerance = self.tolerance;
+          order = self.order;
+          present = self.present;
+          cuts = cuts;
+          heights = self.heights;
+        } }
     {
         let OrderProof {
             least,
@@ -67,8 +73,14 @@ pub struct AnyOrderProof<A: Allocator = Global> {
 impl<A: Allocator> AnyOrderProof<A> {
     /// The reordered division with these cuts and names that this proves.
     pub fn with_blocks(self, cuts: Cuts<A>, names: Naming<A>) -> Reordered<A>
-        ensures value { result ≡ record { least = self.least; tolerance = self.tolerance; cuts = cuts; names = names; any = self.any;
-            free = self.free } }
+        ensures value { result ≡ record {
+          least = self.least;
+          tolerance = self.tolerance;
+          cuts = cuts;
+          names = names;
+          any = self.any;
+          free = self.free;
+        } }
     {
         let AnyOrderProof {
             least,
