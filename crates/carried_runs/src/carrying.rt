@@ -52,8 +52,8 @@ pub fn carry_on<
     ensures idle { IfOk result (EndsIdle options.now.idle) }
     ensures homes { IfOk result (λ o. o.homes ≡ outcome.homes) }
 {
-    if let Some(setting) = config.first_outside(outcome.board().len()) {
-        return Err(RunError::Config(setting));
+    if let Some(_setting) = config.first_outside(outcome.board().len()) {
+        return Err(RunError::Config);
     }
     match carry_on_as::<C, Brand, G, V, R, A>(
         rt, alloc, config, options, gate, watch, opening, outcome,

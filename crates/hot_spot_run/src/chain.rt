@@ -56,7 +56,7 @@ pub fn run_chain_watched<
     let strips = chain.strips(alloc)?;
     match run_watched(rt, alloc, config, options, &NoGate, watch, strips) {
         Ok(outcome) => Ok(outcome),
-        Err(RunError::Config(_)) => Err(StripChainError::Limit),
+        Err(RunError::Config) => Err(StripChainError::Limit),
         Err(RunError::OutOfMemory) => Err(StripChainError::OutOfMemory),
     }
 }

@@ -46,8 +46,8 @@ pub fn run_placed<
     ensures idle { IfOk result (EndsIdle options.now.idle) }
     ensures homes { IfOk result (λ o. o.homes ≡ places.items) }
 {
-    if let Some(setting) = config.first_outside(chares.len()) {
-        return Err(RunError::Config(setting));
+    if let Some(_setting) = config.first_outside(chares.len()) {
+        return Err(RunError::Config);
     }
     let opening = Snapshot::of(&chares);
     match placed_outcome(alloc, Pes::of(config.pes), options.strategy, chares, places) {

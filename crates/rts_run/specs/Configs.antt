@@ -39,10 +39,10 @@ IsFirstOutside config n Of.Elements = IsWithin config × ¬ (n ≤ ELEMENTS)
 
 -- a run of n elements does not begin where a number is out of its limits, and otherwise only where memory runs out
 abbrev pub RefusesRun : Config → ℕ → RunError → Type 0
-RefusesRun config n (Why.Config setting) = IsFirstOutside config n setting
+RefusesRun config n Why.Config = (setting : Setting) × IsFirstOutside config n setting
 RefusesRun config n Why.OutOfMemory = MayBegin config n
 
 -- the numbers of the kinds of errors
 abbrev pub error_number : RunError → ℕ
-error_number (Why.Config setting) = 1
+error_number Why.Config = 1
 error_number Why.OutOfMemory = 2

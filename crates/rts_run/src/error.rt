@@ -37,9 +37,9 @@ impl Display for Setting {
 /// Why a run did not begin. In that case no worker was started, and the chares are dropped.
 #[derive(Clone, Copy, Debug, PartialEq, Eq, Error)]
 pub enum RunError {
-    /// This number is out of its limits: of several such, the first in the order of [`Setting`].
-    #[error("{0} is out of its limits")]
-    Config(Setting),
+    /// A number is out of its limits: [`Config::first_outside`](crate::Config::first_outside) says which is the first.
+    #[error("a number is out of its limits")]
+    Config,
     /// No memory was left.
     #[error("out of memory")]
     OutOfMemory,
@@ -51,7 +51,7 @@ impl RunError {
         ensures value { result ≡ error_number self }
     {
         match self {
-            RunError::Config(_) => 1,
+            RunError::Config => 1,
             RunError::OutOfMemory => 2,
         }
     }

@@ -124,8 +124,8 @@ pub fn run_watched<
     ensures idle { IfOk result (EndsIdle options.now.idle) }
     ensures homes { IfOk result (λ o. o.homes ≡ opening_words (length chares.items) config.now.pes) }
 {
-    if let Some(setting) = config.first_outside(chares.len()) {
-        return Err(RunError::Config(setting));
+    if let Some(_setting) = config.first_outside(chares.len()) {
+        return Err(RunError::Config);
     }
     match run_as::<C, Brand, G, V, R, A>(rt, alloc, config, options, gate, watch, chares) {
         Ok(outcome) => Ok(outcome),

@@ -3,7 +3,7 @@
 use crate::fixtures::{assert_for, patient};
 use chare_index::NoGate;
 use row_chares::Errand;
-use rts_run::{Config, RunError, Setting, run};
+use rts_run::{Config, RunError, run};
 use std::process::Abort;
 use std::sync::Wait;
 use std::thread::Threads;
@@ -26,10 +26,10 @@ fn refusal<R: Threads + Wait + Sync + Abort + AllocGlobal>(
 #[test]
 fn no_pe_and_one_too_many(rt: HostRuntime) {
     const ROWS: [(u32, Option<RunError>); 4] = [
-        (0, Some(RunError::Config(Setting::Pes))),
+        (0, Some(RunError::Config)),
         (1, None),
         (256, None),
-        (257, Some(RunError::Config(Setting::Pes))),
+        (257, Some(RunError::Config)),
     ];
     for (pes, want) in &ROWS {
         assert_for(&rt, refusal(&rt, &patient(*pes, 1)) == *want, *pes);

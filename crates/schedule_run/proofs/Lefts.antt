@@ -8,14 +8,13 @@ use Rattle.rts_core.specs.Worlds.{opening_world}
 use Rattle.rts_core.specs.declared.event.Event.{Event}
 use Rattle.rts_run.specs.declared.error.Setting.{Setting}
 use Rattle.rts_run.specs.declared.error.Setting.TheVariants as Of
-use Rattle.rts_run.specs.declared.error.RunError.TheVariants as Why
 use Rattle.run_text.specs.Sums.{AreTallies}
 use Rattle.run_text.proofs.Histories as of_runs
 use Rattle.courses.specs.Courses.{Leads, Made, events_of}
 use Rattle.schedules.specs.Courses.{ExploredView, IsExplored}
 use Rattle.schedules.specs.Drawn.{IsDrawn}
 use Rattle.schedules.specs.Replays.{RefusesReplay}
-use Rattle.schedules.specs.Schedules.{MayExplore, RefusesSchedule}
+use Rattle.schedules.specs.Schedules.{IsFirstOutside, MayExplore}
 use Rattle.schedules.specs.declared.bias.Bias.{Bias}
 use Rattle.schedules.specs.declared.error.ReplayError.{ReplayError}
 use Rattle.schedules.specs.declared.error.ReplayError.TheVariants as Ends
@@ -78,7 +77,7 @@ stops_inside A unpack w strategy events at (course, led, by, (event, rest, split
     omega (arith, many, length-map course.steps (λ (s : Made). s.0), ap length split ∙ length-append (events_of course.steps) (event ∷ rest))
 
 -- a schedule that chares may run under is not refused for a number
-never_config : (schedule : Schedule) (n : ℕ) (setting : Setting) → MayExplore schedule n → RefusesSchedule schedule n (Why.Config setting) → ⊥
+never_config : (schedule : Schedule) (n : ℕ) (setting : Setting) → MayExplore schedule n → IsFirstOutside schedule n setting → ⊥
 never_config schedule n Of.Pes may refused = refused may.0
 never_config schedule n Of.Elements may refused = refused.1 may.1
 never_config schedule n Of.Capacity may refused = refused

@@ -7,9 +7,8 @@ use Rattle.courses.specs.Picks.{PicksUpTo}
 use Rattle.pup_pack.specs.declared.error.PupError.{PupError}
 use Rattle.rts_core.specs.Worlds.{opening_world}
 use Rattle.rts_core.specs.declared.event.Event.{Event}
-use Rattle.rts_run.specs.declared.error.RunError.TheVariants as Why
 use Rattle.schedules.specs.Courses.{ExploredView, left_by}
-use Rattle.schedules.specs.Schedules.{MayExplore, RefusesSchedule}
+use Rattle.schedules.specs.Schedules.{IsFirstOutside, MayExplore}
 use Rattle.schedules.specs.declared.error.ReplayError.{ReplayError}
 use Rattle.schedules.specs.declared.error.ReplayError.TheVariants as Ends
 use Rattle.schedules.specs.declared.schedule.Schedule.{Schedule}
@@ -39,7 +38,7 @@ module _ {C : Type 0} (A : Type 0) (step : Step C) (pack : C → List ℕ) (unpa
   -- a list of events is not repeated on these chares: a number is out of its limits, or memory was refused, or an event is not
   -- enabled after those before it
   abbrev pub RefusesReplay : List C → Schedule → List Event → ReplayError → Type 0
-  RefusesReplay chares schedule events (Ends.Config setting) = RefusesSchedule schedule (length chares) (Why.Config setting)
+  RefusesReplay chares schedule events (Ends.Config setting) = IsFirstOutside schedule (length chares) setting
   RefusesReplay chares schedule events Ends.OutOfMemory = MayExplore schedule (length chares)
   RefusesReplay chares schedule events (Ends.NotEnabled at) =
       (course : CourseView C A) × Leads step pack unpack (opening_world schedule.pes chares course.strategy) course.steps course.world

@@ -52,8 +52,8 @@ pub fn explore<C: Chare<A>, A: Allocator + Copy>(
     ensures drawn { IfOk result (IsDrawn C.step C.pack C.unpack schedule.now.bias seed
         (opening_world schedule.now.pes chares.items schedule.now.strategy)) }
 {
-    if let Some(setting) = schedule.first_outside(chares.len()) {
-        return Err(RunError::Config(setting));
+    if let Some(_setting) = schedule.first_outside(chares.len()) {
+        return Err(RunError::Config);
     }
     match explore_as::<C, Brand, A>(alloc, schedule, seed, chares) {
         Ok(explored) => Ok(explored),

@@ -2,8 +2,7 @@
 
 ghost use Rattle.std.specs.Prelude.{◌≡◌, MatchOption};
 ghost use Rattle.sync_board.specs.declared.strategy.Strategy.TheVariants.{Least};
-ghost use Rattle.rts_run.specs.declared.error.RunError.TheVariants.{Config};
-ghost use Rattle.schedules.specs.Schedules.{MayExplore, RefusesSchedule, no_bias};
+ghost use Rattle.schedules.specs.Schedules.{IsFirstOutside, MayExplore, no_bias};
 
 use crate::bias::Bias;
 use chare_index::Limits;
@@ -43,7 +42,7 @@ impl Schedule {
     /// The first number that is out of its limits in a run of this number of elements, which may be up to
     /// [`Limits::ELEMENTS`]; or `None` where each is within its limits.
     pub fn first_outside(&self, elements: usize) -> Option<Setting>
-        ensures answer { MatchOption result (MayExplore self.now elements) (λ setting. RefusesSchedule self.now elements (Config setting)) }
+        ensures answer { MatchOption result (MayExplore self.now elements) (IsFirstOutside self.now elements) }
     {
         if self.pes < 1 || Limits::PES < self.pes {
             return Some(Setting::Pes);
