@@ -1,8 +1,9 @@
 //! A chain of strips, as it opens.
 
-ghost use Rattle.std.specs.Prelude.{◌≡◌, ◌-◌, ◌≤◌, IfOk};
-ghost use Rattle.hot_spot_strip.specs.Openings.{opening_cells, opening_strips};
-ghost use Rattle.hot_spot_strip.specs.Strips.{opening_strip};
+ghost use Rattle.std.specs.Prelude.{◌≡◌, ◌-◌, ◌≤◌, IfErr, IfOk, false, true};
+ghost use Rattle.hot_spot_strip.specs.Openings.{IsChain, opening_cells, opening_strips};
+ghost use Rattle.hot_spot_strip.specs.Strips.{is_strip, opening_strip};
+ghost use Rattle.hot_spot_strip.specs.declared.error.StripChainError.TheVariants.{Limit};
 
 use crate::error::StripChainError;
 use crate::mixing::mix;
@@ -29,10 +30,12 @@ impl StripChain<'_> {
     ///
     /// # Errors
     ///
-    /// The first that is met: [`Limit`](StripChainError::Limit) where a number is past its limit, or
+    /// The first that is met: [`Limit`](StripChainError::Limit) where a number is past its limit, and only there, or
     /// [`OutOfMemory`](StripChainError::OutOfMemory).
     pub fn strips<A: Allocator + Copy>(&self, alloc: A) -> Result<Vec<Strip<A>, A>, StripChainError>
         ensures opened { IfOk result (λ strips. strips.items ≡ opening_strips self.now.mode self.now.rounds self.now.work 0 self.now.cells.now) }
+        ensures within { IfOk result (λ _. IsChain self.now.mode self.now.rounds self.now.work self.now.cells.now) }
+        ensures refused { IfErr result (λ e. e ≡ Limit → ¬ (IsChain self.now.mode self.now.rounds self.now.work self.now.cells.now)) }
     {
         let mut strips = Vec::new(alloc);
         let mut first = 0u64;
@@ -56,6 +59,9 @@ impl StripChain<'_> {
     ) -> Result<Strip<A>, StripChainError>
         requires ordered { first ≤ end }
         ensures opened { IfOk result (λ strip. strip ≡ opening_strip self.now.mode self.now.rounds self.now.work (opening_cells first (end - first))) }
+        ensures within { IfOk result (λ strip. is_strip strip ≡ true) }
+        ensures refused { IfErr result (λ e. e ≡ Limit
+            → is_strip (opening_strip self.now.mode self.now.rounds self.now.work (opening_cells first (end - first))) ≡ false) }
     {
         let cells = cells(alloc, first, end)?;
         match Strip::new(alloc, self.mode, self.rounds, self.work, cells) {
