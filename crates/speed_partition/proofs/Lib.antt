@@ -1,0 +1,9 @@
+pub mod ChosenTimes
+pub mod EqualPes
+pub mod GreedyTimes
+pub mod LatestTimes
+pub mod Openings
+pub mod TickSearch
+pub mod TickTimes
+pub mod TimedOnce
+pub mod WalkedTimes
