@@ -3,30 +3,33 @@
 ghost use Rattle.std.specs.Prelude.{IfOk};
 ghost use Rattle.run_checkpoint.specs.Text.{IsWithin};
 
+use crate::inputs::{open_watched, tell_workload};
 use crate::kept_files::KeptFiles;
-use crate::{ADVICE, TURNS, options_of};
+use crate::{TURNS, options_of};
 use chare_index::Pes;
 use checkpointed_runs::{
     Checkpoints, drive_from, finish_kept, on_pes, opening_of, read_checkpoint,
 };
+use program_files::open_input;
 use program_words::BAD_FILE;
 use progress_line::ShownProgress;
 use run_checkpoint::Checkpoint;
 use run_command_line::CharmRunOptions;
 use schedule_run::read_workload;
 use std::alloc::{AllocError, Global};
-use std::fs::{File, Files};
-use std::io::{self, Write};
+use std::fs::Files;
+use std::io::{self, Input, Write};
 use std::sync::Wait;
 use std::thread::Threads;
 use std::time::Clock;
 use streams::Advice;
+use workload_reasons::LineWitness;
 use workload_run::report_memory;
 
 /// What to do about a checkpoint with a fault.
 const RESTART_ADVICE: Advice<'static> = Advice {
     program: "charm_run",
-    unread: "give a file with a checkpoint that you may read, or /dev/stdin for the standard input",
+    unread: "give a file with a checkpoint that you may read, or - for the standard input",
     wrong: "give a checkpoint: charm_run --checkpoint CHECKPOINT writes one",
 };
 
@@ -38,10 +41,16 @@ pub(crate) fn has_checkpoints(asked: &CharmRunOptions<'_>) -> bool {
 /// Runs what is left of the workload or of the checkpoint over threads, keeps the checkpoints that are asked for, and returns the
 /// status. What was wrong with a file goes to `errors`.
 pub(crate) fn run_kept<
-    R: Threads + Wait + Sync + Files + Clock + Print + Eprint + AllocGlobal,
+    R: Threads + Wait + Sync + Files + Input + Clock + Print + Eprint + AllocGlobal,
     E: Write,
->(rt: &R, asked: &CharmRunOptions<'_>, progress: ShownProgress<'_, R>, errors: &mut E) -> u8 {
-    let writer = &mut io::writer(rt);
+    W: Write,
+>(
+    rt: &R,
+    asked: &CharmRunOptions<'_>,
+    progress: ShownProgress<'_, R>,
+    errors: &mut E,
+    writer: &mut W,
+) -> u8 {
     let from = match open_start(rt, asked, errors, writer) {
         Ok(from) => from,
         Err(status) => return status,
@@ -74,7 +83,7 @@ fn tell_lost<R: Eprint>(rt: &R, name: &str, reason: io::Error) {
 }
 
 // What the run begins from; or otherwise writes what is wrong, and returns the status.
-fn open_start<R: Files + AllocGlobal, E: Write, W: Write>(
+fn open_start<R: Files + Input + AllocGlobal, E: Write, W: Write>(
     rt: &R,
     asked: &CharmRunOptions<'_>,
     errors: &mut E,
@@ -94,7 +103,7 @@ fn open_start<R: Files + AllocGlobal, E: Write, W: Write>(
 }
 
 // What the run of the workload begins from.
-fn open_workload<R: Files + AllocGlobal, E: Write, W: Write>(
+fn open_workload<R: Files + Input + AllocGlobal, E: Write, W: Write>(
     rt: &R,
     asked: &CharmRunOptions<'_>,
     errors: &mut E,
@@ -102,19 +111,20 @@ fn open_workload<R: Files + AllocGlobal, E: Write, W: Write>(
 ) -> Result<Result<Checkpoint<Global>, AllocError>, u8>
     ensures within { IfOk result (λ start. IfOk start IsWithin) }
 {
-    let (workload, reason) = read_workload(rt.alloc(), File::open(rt, asked.file), writer);
+    let mut lines = LineWitness::new();
+    let file = open_watched(rt, asked.file, &mut lines);
+    let (workload, reason) = read_workload(rt.alloc(), file, writer);
     match workload {
         Ok(workload) => Ok(opening_of(rt.alloc(), workload)),
         Err(ended) => {
-            let status = ended.status();
-            let _told = ADVICE.tell(rt.alloc(), errors, asked.file, reason, status == BAD_FILE);
-            Err(status)
+            tell_workload(rt, errors, asked.file, reason, &lines, ended);
+            Err(ended.status())
         }
     }
 }
 
 // What the run from the checkpoint begins from, on as many PEs as are asked for.
-fn open_checkpoint<R: Files + AllocGlobal, E: Write, W: Write>(
+fn open_checkpoint<R: Files + Input + AllocGlobal, E: Write, W: Write>(
     rt: &R,
     asked: &CharmRunOptions<'_>,
     errors: &mut E,
@@ -122,7 +132,7 @@ fn open_checkpoint<R: Files + AllocGlobal, E: Write, W: Write>(
 ) -> Result<Result<Checkpoint<Global>, AllocError>, u8>
     ensures within { IfOk result (λ start. IfOk start IsWithin) }
 {
-    let (checkpoint, reason) = read_checkpoint(rt.alloc(), File::open(rt, asked.file), writer);
+    let (checkpoint, reason) = read_checkpoint(rt.alloc(), open_input(rt, asked.file), writer);
     match checkpoint {
         Ok(checkpoint) => Ok(on_asked_pes(rt.alloc(), checkpoint, asked.procs)),
         Err(unread) => {

@@ -3,9 +3,10 @@
 ghost use Rattle.std.specs.Prelude.{IfOk};
 ghost use Rattle.workload.specs.Text.{IsWithin};
 
-use crate::ADVICE;
 use crate::files::{keep_file, write_dumps};
+use crate::inputs::{open_watched, tell_workload};
 use crate::traces::{keep_trace, tell_lost_trace};
+use program_files::open_input;
 use program_words::BAD_FILE;
 use run_command_line::CharmRunOptions;
 use run_trace::{LostTrace, Timeline};
@@ -15,29 +16,30 @@ use schedule_run::{
 };
 use schedules::Explored;
 use std::alloc::Global;
-use std::fs::{File, Files};
-use std::io::{self, Write};
+use std::fs::Files;
+use std::io::{self, Input, Write};
 use streams::Advice;
 use sync_board::Strategy;
 use tally::Tally;
 use workload::Workload;
+use workload_reasons::LineWitness;
 use workload_run::{Beside, BesideText, status_beside};
 
 /// What to do about a list of events with a fault.
 const LIST_ADVICE: Advice<'static> = Advice {
     program: "charm_run",
-    unread: "give a file with a list of events that you may read, or /dev/stdin for the standard input",
+    unread: "give a file with a list of events that you may read, or - for the standard input",
     wrong: "give a list of the events of a run of this workload: charm_run --seed S --events LIST writes one",
 };
 
 /// Runs the workload by a seed, writes what is asked for of that, and returns the status.
-pub(crate) fn run_by_seed<R: Files + Print + Eprint + AllocGlobal, E: Write>(
+pub(crate) fn run_by_seed<R: Files + Input + Eprint + AllocGlobal, E: Write, W: Write>(
     rt: &R,
     asked: &CharmRunOptions<'_>,
     seed: u64,
     errors: &mut E,
+    writer: &mut W,
 ) -> u8 {
-    let writer = &mut io::writer(rt);
     match open_workload(rt, asked, errors, writer) {
         Ok(workload) => {
             let driven = drive_seed(rt.alloc(), &workload, strategy_of(asked), seed, writer);
@@ -48,13 +50,13 @@ pub(crate) fn run_by_seed<R: Files + Print + Eprint + AllocGlobal, E: Write>(
 }
 
 /// Runs the workload by each of the seeds from 1 to this number, and returns the status.
-pub(crate) fn run_by_seeds<R: Files + Print + Eprint + AllocGlobal, E: Write>(
+pub(crate) fn run_by_seeds<R: Files + Input + Eprint + AllocGlobal, E: Write, W: Write>(
     rt: &R,
     asked: &CharmRunOptions<'_>,
     seeds: u32,
     errors: &mut E,
+    writer: &mut W,
 ) -> u8 {
-    let writer = &mut io::writer(rt);
     match open_workload(rt, asked, errors, writer) {
         Ok(workload) => {
             drive_seeds(rt.alloc(), &workload, strategy_of(asked), seeds, writer).status()
@@ -64,14 +66,14 @@ pub(crate) fn run_by_seeds<R: Files + Print + Eprint + AllocGlobal, E: Write>(
 }
 
 /// Runs the workload by the events of a list, writes what is asked for of that, and returns the status.
-pub(crate) fn run_by_list<R: Files + Print + Eprint + AllocGlobal, E: Write>(
+pub(crate) fn run_by_list<R: Files + Input + Eprint + AllocGlobal, E: Write, W: Write>(
     rt: &R,
     asked: &CharmRunOptions<'_>,
     list: &str,
     errors: &mut E,
+    writer: &mut W,
 ) -> u8 {
-    let writer = &mut io::writer(rt);
-    let (events, reason) = read_list(rt.alloc(), File::open(rt, list));
+    let (events, reason) = read_list(rt.alloc(), open_input(rt, list));
     let events = match events {
         Ok(events) => events,
         Err(fault) => return refuse_list(rt, list, fault, reason, errors, writer),
@@ -104,7 +106,7 @@ fn refuse_list<R: AllocGlobal, E: Write, W: Write>(
 }
 
 // Returns the workload of the file that is asked for; or otherwise writes what is wrong with it, and returns the status.
-fn open_workload<R: Files + AllocGlobal, E: Write, W: Write>(
+fn open_workload<R: Files + Input + AllocGlobal, E: Write, W: Write>(
     rt: &R,
     asked: &CharmRunOptions<'_>,
     errors: &mut E,
@@ -112,13 +114,14 @@ fn open_workload<R: Files + AllocGlobal, E: Write, W: Write>(
 ) -> Result<Workload<Global>, u8>
     ensures within { IfOk result IsWithin }
 {
-    let (workload, reason) = read_workload(rt.alloc(), File::open(rt, asked.file), writer);
+    let mut lines = LineWitness::new();
+    let file = open_watched(rt, asked.file, &mut lines);
+    let (workload, reason) = read_workload(rt.alloc(), file, writer);
     match workload {
         Ok(workload) => Ok(workload),
         Err(ended) => {
-            let status = ended.status();
-            let _told = ADVICE.tell(rt.alloc(), errors, asked.file, reason, status == BAD_FILE);
-            Err(status)
+            tell_workload(rt, errors, asked.file, reason, &lines, ended);
+            Err(ended.status())
         }
     }
 }

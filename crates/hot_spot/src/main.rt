@@ -14,6 +14,7 @@ use crate::words::{RunOptions, read_options};
 use hot_spot_run::{ending_of, run_chain_watched, text_of};
 use hot_spot_strip::{Mode, Strip, StripChain, StripChainError};
 use pe_worker::Watch;
+use program_files::why_unwritable;
 use program_words::{NO_OUTPUT, RUN_FAULT, on_words, refused};
 use rts_run::{Config, History, Idle, Options, Outcome};
 use run_trace::{LostTrace, Tracing, keep_trace};
@@ -45,6 +46,7 @@ fn run_asked<R: Threads + Wait + Sync + Files + Clock + Print + Eprint + AllocGl
     let Ok(cells) = cells_of(rt, options.elements) else {
         return NO_OUTPUT;
     };
+    try_trace(rt, options);
     let chain = StripChain {
         mode: if options.is_static {
             Mode::Static
@@ -61,6 +63,18 @@ fn run_asked<R: Threads + Wait + Sync + Files + Clock + Print + Eprint + AllocGl
             let _ = eprintln!(rt; "hot_spot: {}: {lost}", options.trace.unwrap_or(""));
             NO_OUTPUT
         }
+    }
+}
+
+// Tells that the trace cannot be written now, before the run, which then goes on: the file is tried again after it.
+fn try_trace<R: Files + Eprint>(rt: &R, options: &RunOptions<'_>) {
+    let Some(name) = options.trace else {
+        return;
+    };
+    if let Some(reason) = why_unwritable(rt, name) {
+        let _ = eprintln!(rt;
+            "hot_spot: {name}: {reason}; the run goes on: stop it, or see to it that this can be written by then"
+        );
     }
 }
 

@@ -6,20 +6,23 @@
 //!   arguments ask for, and `numbers` the numbers of PEs in them; `refuse_numbers`: what is printed where there are none;
 //!   `program_words::refused`: the status where the arguments ask for no report.
 //! - `dump_report::report_file`: the report on one dump, and how it ended; `Ended::status` is the status for it, and
-//!   `dump_report::tell` writes what was wrong.
+//!   `dump_report::tell` writes what was wrong, and `dump_lengths::said_of_end` says where a dump ends that is cut off.
 #![tactic(auto)]
 
 ghost use Rattle.std.specs.Prelude.{All};
 ghost use Rattle.report_command_line.specs.Numbers.{IsNumber};
 
 use chain_refinement::Tolerance;
-use dump_report::{report_dump, report_file, tell};
-use lb_replay::Ended;
+use dump_format::DumpError;
+use dump_lengths::{HeadWitness, said_of_end};
+use dump_report::{report_file, tell};
+use lb_replay::{Ended, dump_advice};
 use load_report::Style;
+use program_files::{InputFile, Watched, open_input};
 use program_words::{on_words, refused};
 use report_command_line::{NumbersError, ReportOptions, asked, numbers, refuse_numbers};
-use std::fs::File;
-use std::io;
+use std::fs::Files;
+use std::io::{self, Input};
 use std::process::ExitCode;
 use streams::{Noted, write_out};
 
@@ -89,23 +92,35 @@ fn print_one(
 {
     let alloc = rt.alloc();
     let mut output = Noted::new(io::writer(rt));
-    let (ended, reason) = if name == "-" {
-        let mut input = Noted::new(rt.stdin());
-        let ended = report_dump(
-            alloc,
-            &mut input,
-            &mut output,
-            name,
-            procs,
-            tolerance,
-            style,
-        );
-        (ended, input.failure())
-    } else {
-        let file = File::open(rt, name);
-        report_file(alloc, file, &mut output, name, procs, tolerance, style)
-    };
+    let mut head = HeadWitness::new();
+    let file = open_watched(rt, name, &mut head);
+    let (ended, reason) = report_file(alloc, file, &mut output, name, procs, tolerance, style);
+    if let Some(said) = said_of(rt, &head, ended) {
+        let todo = dump_advice(DumpError::Short(0));
+        let _ = eprintln!(rt; "lb_report: {name}: the dump {said}; {todo}");
+        return ended;
+    }
     let reason = reason.or(output.failure());
     let _told = tell(alloc, &mut rt.stderr(), name, ended, reason);
     ended
+}
+
+// Opens the file of this name, or the standard input for `-`, whose head is seen as it is read.
+fn open_watched<'a, R: Files + Input>(
+    rt: &R,
+    name: &str,
+    head: &'a mut HeadWitness,
+) -> io::Result<Watched<'a, InputFile<R::File, R::Reader>, HeadWitness>> {
+    match open_input(rt, name) {
+        Ok(file) => Ok(Watched::new(file, head)),
+        Err(reason) => Err(reason),
+    }
+}
+
+// Where a dump that is cut off ends, and of how many bytes.
+fn said_of(rt: &HostRuntime, head: &HeadWitness, ended: Ended) -> Option<String> {
+    match ended {
+        Ended::Dump(DumpError::Short(end)) => { said_of_end(rt.alloc(), head, u64::from(end)).ok() }
+        _ => None,
+    }
 }

@@ -1,15 +1,15 @@
-//! `lb_sim [--procs P] [--tolerance T] [--keep-order] [--any-order] [--check] FILE` replays a dump of the load database offline: it
+//! `lb_sim [--procs P] [--tolerance T] [--keep-order] [--any-order] [--check] [--json] FILE` replays a dump of the load database offline: it
 //! prints the least division of the elements into consecutive blocks, with the fence that proves it, the PE of each block and the
 //! bytes that move. With `--tolerance` the blocks may weigh up to a limit above the least load, and fewer bytes move; with
 //! `--keep-order` the PEs then keep their order, and with `--any-order` they may change it, so that the fewest bytes move. With
-//! `--check` it prints instead whether the decision in the dump is right.
+//! `--check` it prints instead whether the decision in the dump is right, and with `--json` the decision as a line of JSON.
 //!
 //! - `program_words::on_words`: the arguments of the command line, and the status. `lb_replay::asked`: what the
 //!   arguments ask for; `program_words::refused`: the status where they ask for nothing to be done.
 //! - `lb_replay::Asked::task`: which task that is, if the options can be combined; `lb_replay::refuse_both`: what is
 //!   printed if they cannot.
 //! - `lb_replay::run`: the task, and its end with the status for that; `lb_replay::dump_advice`: what to do about a fault of the
-//!   dump; `streams::Advice`: what is printed about a file with a fault.
+//!   dump, and `dump_lengths::said_of_end`: where one ends that is cut off; `streams::Advice`: what is printed about a file with a fault.
 #![tactic(auto)]
 
 ghost use Rattle.lb_replay.specs.Requests.{MayRun};
@@ -17,17 +17,21 @@ ghost use Rattle.std.specs.Prelude.{◌≤◌};
 ghost use Rattle.std.specs.Option.{ForSome};
 
 use chare_index::Limits;
+use decision_json::replay_json;
+use dump_format::DumpError;
+use dump_lengths::{HeadWitness, said_of_end};
 use lb_replay::{Asked, Ended, Task, asked, dump_advice, refuse_both, run};
+use program_files::{InputFile, Watched, open_input};
 use program_words::{BAD_FILE, on_words, refused};
-use std::fs::File;
-use std::io;
+use std::fs::Files;
+use std::io::{self, Input};
 use std::process::ExitCode;
-use streams::Advice;
+use streams::{Advice, Noted};
 
 /// What to do about a file that cannot be read, and in general about one with a fault.
 const ADVICE: Advice<'static> = Advice {
     program: "lb_sim",
-    unread: "give a file with a dump that you may read, or /dev/stdin for the standard input",
+    unread: "give a file with a dump that you may read, or - for the standard input",
     wrong: "give a whole dump, which begins with LBD1 or LBD2: charm_run --dump writes them",
 };
 
@@ -43,29 +47,90 @@ fn do_task(rt: &HostRuntime, asked: &Asked<'_>) -> u8
     requires some_pe { ForSome asked.now.procs (λ p. 1 ≤ p) }
     requires few_pes { ForSome asked.now.procs (λ p. p ≤ Limits.PES) }
 {
-    match asked.task() {
-        Ok(task) => run_task(rt, asked.file, task),
-        Err(clash) => refuse_both(&mut rt.stderr(), clash),
+    let task = match asked.task() {
+        Ok(task) => task,
+        Err(clash) => return refuse_both(&mut rt.stderr(), clash),
+    };
+    if let Some(clash) = asked.clash_of_json() {
+        return refuse_both(&mut rt.stderr(), clash);
+    }
+    run_task(rt, asked, task)
+}
+
+// Opens the file, or the standard input for `-`, does the task to the standard output, and returns the status. Where a read failed or the
+// file has no whole dump, the file's name, the system's reason, and what to do are printed to the standard error; and where the
+// standard output did not take the text, that.
+fn run_task(rt: &HostRuntime, asked: &Asked<'_>, task: Task) -> u8
+    requires task { MayRun task }
+    requires some_pe { ForSome asked.now.procs (λ p. 1 ≤ p) }
+    requires few_pes { ForSome asked.now.procs (λ p. p ≤ Limits.PES) }
+{
+    let mut head = HeadWitness::new();
+    let file = open_watched(rt, asked.file, &mut head);
+    let mut output = Noted::new(io::writer(rt));
+    let (ended, reason) = if asked.json {
+        replay_json(rt.alloc(), file, &mut output, asked.procs)
+    } else {
+        run(rt.alloc(), task, file, &mut output)
+    };
+    tell_output(rt, output.failure());
+    tell_file(rt, asked.file, &head, ended, reason);
+    ended.status()
+}
+
+// Opens the file of this name, or the standard input, whose head is seen as it is read.
+fn open_watched<'a, R: Files + Input>(
+    rt: &R,
+    name: &str,
+    head: &'a mut HeadWitness,
+) -> io::Result<Watched<'a, InputFile<R::File, R::Reader>, HeadWitness>> {
+    match open_input(rt, name) {
+        Ok(file) => Ok(Watched::new(file, head)),
+        Err(reason) => Err(reason),
     }
 }
 
-// Opens the file, does the task to the standard output, and returns the status. Where a read failed or the file has no whole
-// dump, the file's name, the system's reason, and what to do are printed to the standard error.
-fn run_task(rt: &HostRuntime, name: &str, task: Task) -> u8
-    requires { MayRun task }
-{
-    let file = File::open(rt, name);
-    let (ended, reason) = run(rt.alloc(), task, file, &mut io::writer(rt));
-    let status = ended.status();
+// Writes what was wrong with the file, if anything was, and what to do about it.
+fn tell_file(
+    rt: &HostRuntime,
+    name: &str,
+    head: &HeadWitness,
+    ended: Ended,
+    reason: Option<io::Error>,
+) {
+    let is_fault = ended.status() == BAD_FILE;
     let advice = advice_on(ended);
-    let _told = advice.tell(
-        rt.alloc(),
-        &mut rt.stderr(),
-        name,
-        reason,
-        status == BAD_FILE,
-    );
-    status
+    if let Some(wrong) = wrong_of(rt, head, ended) {
+        let advice = Advice {
+            wrong: &wrong,
+            ..advice
+        };
+        let _told = advice.tell(rt.alloc(), &mut rt.stderr(), name, reason, is_fault);
+        return;
+    }
+    let _told = advice.tell(rt.alloc(), &mut rt.stderr(), name, reason, is_fault);
+}
+
+// Where a dump that is cut off ends, and what to do about it.
+fn wrong_of(rt: &HostRuntime, head: &HeadWitness, ended: Ended) -> Option<String> {
+    let Ended::Dump(fault) = ended else {
+        return None;
+    };
+    let DumpError::Short(end) = fault else {
+        return None;
+    };
+    let said = said_of_end(rt.alloc(), head, u64::from(end)).ok()?;
+    let todo = dump_advice(fault);
+    format!(in rt.alloc(); "{said}; {todo}").ok()
+}
+
+// Writes why the standard output did not take the whole text, where it did not, and what to do.
+fn tell_output(rt: &HostRuntime, failure: Option<io::Error>) {
+    if let Some(reason) = failure {
+        let _ = eprintln!(rt;
+            "lb_sim: standard output: {reason}; give it a place that takes all of the text"
+        );
+    }
 }
 
 // What to do about a file, by how its replay or check ended.
