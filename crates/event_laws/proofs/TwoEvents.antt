@@ -9,7 +9,7 @@ use Rattle.pe_state.specs.declared.acted.Acted.TheVariants.{Executed}
 use Rattle.pe_state.specs.Pes.{Acting, Item, PeView, Parcel, acted_of, acting, front_address, front_at, front_parcel, gave_up, handed_back, looked, pe_after, received, trace_of, wanted}
 use Rattle.rts_core.specs.declared.event.Event.{Event}
 use Rattle.rts_core.specs.declared.event.Event.TheVariants.{Act, Deliver, Flush, Look}
-use Rattle.rts_core.specs.Events.{After, Happens, LocalView, enabled, local_step, local_view, or_nothing, with_local}
+use Rattle.rts_core.specs.Events.{Happens, LocalView, enabled, local_step, local_view, or_nothing, with_local}
 use Rattle.rts_core.specs.Runs.{Reaches}
 use Rattle.rts_core.specs.Worlds.{WorldView}
 use Rattle.rts_core.proofs.WorldSteps.{get_set_same}
