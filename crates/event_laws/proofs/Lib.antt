@@ -56,3 +56,4 @@ pub mod Stands
 pub mod StopOrder
 pub mod Taken
 pub mod Tallies
+pub mod TwoEvents

@@ -5,3 +5,4 @@ pub mod Chase
 pub mod Finished
 pub mod Measured
 pub mod Rounds
+pub mod TwoEvents

@@ -11,16 +11,19 @@
 //!   that it was decided on are those of what the elements did for the round.
 //! - [`chase_law`]: how often a letter is forwarded, and what waits on a shelf.
 //! - [`journal_law`]: every letter in the journal of an element was posted to that element.
+//! - [`call_laws`]: a call of a PE that makes two events at once does what these events do.
 #![tactic(auto)]
 
 mod agreement;
 mod barrier;
+mod calls;
 mod letters;
 mod places;
 mod rounds;
 
 pub use agreement::agreement_laws;
 pub use barrier::barrier_law;
+pub use calls::call_laws;
 pub use letters::{chase_law, journal_law};
 pub use places::place_laws;
 pub use rounds::rounds_law;
