@@ -51,6 +51,13 @@ class Speeds(TimedTest):
         self.assertEqual((division.speeds.tolist(), division.cuts.tolist()), ([1_000_000, 500_000, 500_000], [0, 6, 9, 12]))
         self.assertEqual(tezgumi.scale_speeds([3, 1]).tolist(), [1_000_000, 333_333])
 
+    def test_plan(self):
+        run = tezgumi.Run(2, LOADS, [10, 20, 30, 40, 50], [0, 0, 1, 1, 1])
+        plan = tezgumi.plan(run, speeds=[1, 2], background=[0, 4])
+        self.assertEqual((plan.pes, plan.places.tolist(), plan.bottleneck, plan.moved), (2, [0, 0, 0, 1, 1], 8, 30))
+        self.assertRaises(tezgumi.InputError, tezgumi.plan, run, 2, speeds=[1, 2])
+        self.assertRaises(tezgumi.InputError, tezgumi.plan, run, background=[0, 4])
+
     def test_forged(self):
         right = tezgumi.divide(LOADS, speeds=[1, 2], background=[0, 4])
         none = right.stops[:0]

@@ -16,14 +16,15 @@ from .reordering import check_reordered, decide_in_any_order, plan_in_any_order
 from .runs import DIVISION_PES, ELEMENTS, MOVE, PES, TOLERANCE, TOTAL_LOAD, Decision, NearDecision, Plan, ReorderedDecision, Run
 from .runs import ends, taken_decision, taken_run, words
 from .scales import scaled
-from .speeds import TimedDivision, check_by_speeds, divide_by_speeds, taken_speeds
+from .speeds import TimedDivision, check_by_speeds, divide_by_speeds, plan_by_speeds, taken_speeds
 from .statuses import BAD_LOAD, hold
 
 _Array = TypeVar("_Array", bound="NDArray[Any]")
 
 
 def plan(
-        run: Run, pes: int | None = None, tolerance: float | None = None, keep_order: bool = False, any_order: bool = False) -> Plan:
+        run: Run, pes: int | None = None, tolerance: float | None = None, keep_order: bool = False, any_order: bool = False, *,
+        speeds: ArrayLike | None = None, background: ArrayLike | None = None, part_sizes: ArrayLike | None = None) -> Plan:
     """The plan for `pes` PEs, 1 to 4,096; for as many as the run has, if none are named.
 
     Its greatest load is the least: no division of the chain into so many consecutive blocks has a lighter heaviest block. And
@@ -41,7 +42,17 @@ def plan(
     no cuts within the limit, with no names of their blocks, move fewer bytes. But where the elements of some PE are not together, and
     where the search would be too large, it is what is decided without any_order. In each of these ways nothing moves where the PEs
     stand in an order and their present blocks keep to the limit.
+
+    With speeds, background or part_sizes, as `divide` takes them, block b goes to PE b, and the greatest end time is least; neither the
+    bottleneck nor the bytes need be.
     """
+    fast = taken_speeds(speeds, part_sizes)
+    if fast is not None:
+        if pes is not None or tolerance is not None or keep_order or any_order:
+            raise InputError("a plan by speeds has a PE for each of them and no tolerance: leave pes and the others out")
+        return plan_by_speeds(taken_run(run), fast, background)
+    if background is not None:
+        raise InputError("background is for a plan by speeds, which may all be 1")
     pes, asked = _pes(run, pes), _asked(tolerance, keep_order, any_order)
     if asked is not None:
         return plan_in_any_order(run, pes, asked.tolerance) if asked.any_order else plan_within(run, pes, *asked[:2])

@@ -9,11 +9,11 @@ from typing import Any, NamedTuple
 import numpy as np
 from numpy.typing import ArrayLike, NDArray
 
-from .checking import Verdict, flaw_of
+from .checking import Verdict, flaw_of, running_sums
 from .errors import InputError
 from .library import library, lists
-from .lists import are_floats, frozen, refuse_no_list, shown, stay_frozen
-from .runs import TOTAL_LOAD, ends, words
+from .lists import are_floats, frozen, refuse_no_list, shown, stay_frozen, total
+from .runs import TOTAL_LOAD, Plan, Run, ends, words
 from .statuses import hold
 
 SPEED = 1_000_000
@@ -62,6 +62,16 @@ def divide_by_speeds(loads: ArrayLike, speeds: ArrayLike, background: ArrayLike 
         ctypes.addressof(count), ctypes.addressof(idle)))
     return TimedDivision(
         work.value, speed.value, ends(cuts, "cuts"), ends(stops[:count.value], "stops"), None if count.value else idle.value, fast, busy)
+
+
+def plan_by_speeds(run: Run, speeds: ArrayLike, background: ArrayLike | None = None) -> Plan:
+    """The plan by which block b of that division goes to PE b."""
+    division = divide_by_speeds(run.loads, speeds, background)
+    counts = np.diff(division.cuts)
+    places = np.repeat(np.arange(len(counts), dtype=np.uint32), counts)
+    sums = running_sums(run.loads)
+    heaviest = int((sums[division.cuts[1:]] - sums[division.cuts[:-1]]).max())
+    return Plan(len(counts), places, heaviest, total(run.bytes[run.places != places]))
 
 
 def check_by_speeds(loads: ArrayLike, division: TimedDivision) -> Verdict:
