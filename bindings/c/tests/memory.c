@@ -5,6 +5,7 @@
 #include "harness.h"
 #include <pthread.h>
 #include <tezgumi_any_order.h>
+#include <tezgumi_speeds.h>
 
 enum { N = 3, P = 2, MANY = 65536, PES = 256, MORE = 300, THREADS = 4, STACK = 32768 };
 
@@ -67,6 +68,10 @@ void __wrap_free(void *block)
 static const uint64_t loads[N] = {1, 1, 2};
 static const uint32_t bytes[N] = {10, 9, 8}, places[N] = {0, 1, 0};
 
+/* The three loads on two PEs of other speeds. */
+static const uint32_t speeds[P] = {1, 2};
+static const uint64_t background[P] = {0, 1};
+
 /* Ten elements on three PEs, whose work has gathered in the middle: within 167 thousandths the cuts are near the present ones. */
 enum { TEN = 10, Q = 3, THOUSANDTHS = 167, STEPS = 64 };
 static const uint64_t ten_loads[TEN] = {1, 1, 1, 2, 7, 8, 6, 2, 1, 1};
@@ -104,6 +109,20 @@ static int32_t call_check(void *given)
     output *o = (output *)given;
     return tezgumi_check(loads, N, bytes, N, places, N, P, P, o->new_places, N, o->bottleneck, o->moved, o->cuts, P + 1,
         o->stops, o->stops_count, o->names, P, o->block_prices, P, o->pe_prices, P);
+}
+
+static int32_t call_divide_speeds(void *given)
+{
+    output *o = (output *)given;
+    return tezgumi_divide_speeds(loads, N, speeds, P, background, P, &o->bottleneck, &o->names[0], o->cuts, P + 1, o->stops, P + 1,
+        &o->stops_count, &o->names[1]);
+}
+
+static int32_t call_check_speeds(void *given)
+{
+    output *o = (output *)given;
+    return tezgumi_check_speeds(loads, N, speeds, P, background, P, o->bottleneck, o->names[0], o->cuts, P + 1, o->stops, o->stops_count,
+        o->names[1], &o->order[0]);
 }
 
 static int32_t call_refine(void *given)
@@ -374,6 +393,9 @@ int main(void)
     each_refused("decide", call_decide, &empty, sizeof empty);
     each_refused("check", call_check, &decided, sizeof decided);
     long_lists(&decided);
+    if (call_divide_speeds(&decided) != TEZGUMI_OK || decided.stops_count == 0) return 1;
+    each_refused("divide by speeds", call_divide_speeds, &empty, sizeof empty);
+    each_refused("check by speeds", call_check_speeds, &decided, sizeof decided);
     on_more_pes();
     a_long_run();
     if (call_refine(&decided) != TEZGUMI_OK || decided.near_present != 1) return 1;

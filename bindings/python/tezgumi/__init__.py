@@ -18,6 +18,7 @@ bindings/build made comes before that.)
 
 - runs: Run, Plan, Decision, NearDecision, ReorderedDecision, and the limits
 - planning: plan, decide, check, divide; checking: Verdict, Flaw; scales: scaled
+- speeds: TimedDivision, which `divide` returns for PEs of unequal speed, and scale_speeds
 - figures: figures, sweep, table, pe_loads
 - dumps: read_dump, write_dump, decode, encode, of the formats LBD1 and LBD2
 - tables: read_table, of CSV and NPY
@@ -49,6 +50,7 @@ from .runs import DIVISION_PES, DUMP_ELEMENTS, DUMP_LOAD, DUMP_PES, DUMP_STATE_B
 from .runs import TOTAL_BYTES, TOTAL_LOAD
 from .runs import Decision, NearDecision, Plan, ReorderedDecision, Run
 from .scales import Scaled, scaled
+from .speeds import TimedDivision, scale_speeds
 from .tables import read_table
 from .texts import json_of, replay_text
 from .version import __version__
@@ -57,6 +59,6 @@ __all__ = [
     "DIVISION_PES", "DUMP_ELEMENTS", "DUMP_LOAD", "DUMP_PES", "DUMP_STATE_BYTES", "Decision", "Divided", "Dump", "DumpError",
     "ELEMENTS", "Figures", "Flaw", "InputError", "LibraryError", "LoadError", "MOVE", "NearDecision", "OutOfMemory", "PES", "Plan",
     "ReorderedDecision", "Run", "Scaled", "Sweep", "TOLERANCE", "TOTAL_BYTES", "TOTAL_LOAD", "TableError", "TezgumiError",
-    "TraceError", "Verdict", "__version__", "check", "decide", "decode", "divide", "encode", "figures", "json_of", "page", "parts",
-    "pe_loads", "plan", "read_dump", "read_table", "replay_text", "scaled", "sweep", "table", "write_dump",
+    "TimedDivision", "TraceError", "Verdict", "__version__", "check", "decide", "decode", "divide", "encode", "figures", "json_of", "page", "parts",
+    "pe_loads", "plan", "read_dump", "read_table", "replay_text", "scale_speeds", "scaled", "sweep", "table", "write_dump",
 ]

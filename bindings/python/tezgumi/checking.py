@@ -14,7 +14,7 @@ if TYPE_CHECKING:
 
 class Flaw(enum.IntEnum):
     """What is wrong with a decision. Of several flaws the first is told, which is the least, but for those of a NearDecision
-    or a ReorderedDecision. `word` is the name that lb_sim prints."""
+    or a ReorderedDecision, and of a TimedDivision. `word` is the name that lb_sim prints."""
 
     word: str
     meaning: str
@@ -65,6 +65,12 @@ class Flaw(enum.IntEnum):
     BOUND_START = 36, "BoundStart", "a bound for no blocks is not 0 at the beginning of the chain"
     BOUND_STEEP = 37, "BoundSteep", "behind {0} blocks the bounds rise by more than one from element {1} to {2} brings to some PE"
     BOUND_LOW = 38, "BoundLow", "the bound for all blocks and the whole chain is below the bytes that move"
+    # Those of a TimedDivision alone: 39 is looked for first, 40 to 42 behind 4, and 43 behind 9.
+    NO_SPEED = 39, "NoSpeed", "the time has the speed 0"
+    LATE = 40, "Late", "PE {0} ends after the time"
+    IDLE_RANGE = 41, "IdleRange", "there are no stops, and idle is not below pes"
+    IDLE_EARLY = 42, "IdleEarly", "there are no stops, and PE idle ends before the time with its background alone"
+    FENCE_EARLY = 43, "FenceEarly", "with the elements up to stop {0}, the PE before it ends before the time"
 
 
 @dataclass(frozen=True)

@@ -1,5 +1,5 @@
-"""The shared library: where it is found, and its calls. tezgumi.h, tezgumi_parts.h and tezgumi_any_order.h in bindings/c/include say
-what each owes and answers."""
+"""The shared library: where it is found, and its calls. tezgumi.h, tezgumi_parts.h, tezgumi_speeds.h and tezgumi_any_order.h in
+bindings/c/include say what each owes and answers."""
 from __future__ import annotations
 
 import ctypes
@@ -28,6 +28,8 @@ _CALLS: Dict[str, List[Any]] = {
     "tezgumi_check_reordered": _RUN + [_WORD] + _LIST + [_LONG] * 3 + _LIST * 9 + [_POINTER] * 3,
     "tezgumi_scale": _LIST * 2 + [_POINTER],
     "tezgumi_divide": _LIST + [_WORD, _POINTER] + _LIST * 2 + [_POINTER],
+    "tezgumi_divide_speeds": _LIST * 3 + [_POINTER, _POINTER] + _LIST * 2 + [_POINTER, _POINTER],
+    "tezgumi_check_speeds": _LIST * 3 + [_LONG, _WORD] + _LIST * 2 + [_WORD, _POINTER],
     "tezgumi_part_bounds": [_LONG, _LONG, _WORD, _POINTER, _POINTER],
     "tezgumi_part_limits": [_LONG, _LONG] + _LIST + [_POINTER],
     "tezgumi_part_walk": _LIST + [_WORD] + _LIST * 3,

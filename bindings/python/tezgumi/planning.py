@@ -16,13 +16,15 @@ from .reordering import check_reordered, decide_in_any_order, plan_in_any_order
 from .runs import DIVISION_PES, ELEMENTS, MOVE, PES, TOLERANCE, TOTAL_LOAD, Decision, NearDecision, Plan, ReorderedDecision, Run
 from .runs import ends, taken_decision, taken_run, words
 from .scales import scaled
+from .speeds import TimedDivision, check_by_speeds, divide_by_speeds, plan_by_speeds, taken_speeds
 from .statuses import BAD_LOAD, hold
 
 _Array = TypeVar("_Array", bound="NDArray[Any]")
 
 
 def plan(
-        run: Run, pes: int | None = None, tolerance: float | None = None, keep_order: bool = False, any_order: bool = False) -> Plan:
+        run: Run, pes: int | None = None, tolerance: float | None = None, keep_order: bool = False, any_order: bool = False, *,
+        speeds: ArrayLike | None = None, background: ArrayLike | None = None, part_sizes: ArrayLike | None = None) -> Plan:
     """The plan for `pes` PEs, 1 to 4,096; for as many as the run has, if none are named.
 
     Its greatest load is the least: no division of the chain into so many consecutive blocks has a lighter heaviest block. And
@@ -40,7 +42,17 @@ def plan(
     no cuts within the limit, with no names of their blocks, move fewer bytes. But where the elements of some PE are not together, and
     where the search would be too large, it is what is decided without any_order. In each of these ways nothing moves where the PEs
     stand in an order and their present blocks keep to the limit.
+
+    With speeds, background or part_sizes, as `divide` takes them, block b goes to PE b, and the greatest end time is least; neither the
+    bottleneck nor the bytes need be.
     """
+    fast = taken_speeds(speeds, part_sizes)
+    if fast is not None:
+        if pes is not None or tolerance is not None or keep_order or any_order:
+            raise InputError("a plan by speeds has a PE for each of them and no tolerance: leave pes and the others out")
+        return plan_by_speeds(taken_run(run), fast, background)
+    if background is not None:
+        raise InputError("background is for a plan by speeds, which may all be 1")
     pes, asked = _pes(run, pes), _asked(tolerance, keep_order, any_order)
     if asked is not None:
         return plan_in_any_order(run, pes, asked.tolerance) if asked.any_order else plan_within(run, pes, *asked[:2])
@@ -98,9 +110,15 @@ def divide(loads: ArrayLike, pes: int) -> NDArray[np.int64]: ...
 def divide(loads: ArrayLike, pes: int, fence: Literal[False]) -> NDArray[np.int64]: ...
 @overload
 def divide(loads: ArrayLike, pes: int, fence: Literal[True]) -> Divided: ...
+@overload
+def divide(
+    loads: ArrayLike, pes: None = None, fence: Literal[False] = False, *, speeds: ArrayLike | None = None,
+    background: ArrayLike | None = None, part_sizes: ArrayLike | None = None) -> TimedDivision: ...
 
 
-def divide(loads: ArrayLike, pes: int, fence: bool = False) -> Any:
+def divide(
+        loads: ArrayLike, pes: int | None = None, fence: bool = False, *, speeds: ArrayLike | None = None,
+        background: ArrayLike | None = None, part_sizes: ArrayLike | None = None) -> Any:
     """The pes + 1 cuts of a chain of loads, 0 first: block b is the elements cuts[b] .. cuts[b + 1] - 1. The greatest load of
     a block is the least: no division into so many consecutive blocks has a lesser one.
 
@@ -112,7 +130,17 @@ def divide(loads: ArrayLike, pes: int, fence: bool = False) -> Any:
     the least by a unit for each element at most; with fence=True the pair says so: its `unit`, and `within`, which is all of them.
 
     An array or a buffer of whole numbers of 64 bits, one behind the other, is read where it is, and not copied.
+
+    With speeds, a whole number for each PE, or with part_sizes, as Zoltan takes them, it is a TimedDivision into a block for each
+    PE whose greatest end time (background + load) / speed is least. `background` is work that a PE has besides its block.
     """
+    fast = taken_speeds(speeds, part_sizes)
+    if fast is not None:
+        if pes is not None or fence:
+            raise InputError("with speeds there is a block for each of them, and the division has its fence: leave pes and fence out")
+        return divide_by_speeds(loads, fast, background)
+    if background is not None:
+        raise InputError("background is for a division by speeds, which may all be 1")
     refuse_no_list(loads, "loads")
     pes, wanted = whole_number(pes, 1, DIVISION_PES, "pes"), truth(fence, "fence")
     measured = scaled(loads, ELEMENTS) if are_floats(loads) else None
@@ -140,15 +168,18 @@ def _whole_loads(loads: ArrayLike) -> NDArray[np.uint64]:
     return frozen(loads, np.uint64, "loads", most=TOTAL_LOAD, copy=False)
 
 
-def check(run: Run, decision: Decision) -> Verdict:
+def check(run: Run | ArrayLike, decision: Decision | TimedDivision) -> Verdict:
     """What the proved checker says of a decision on a run, whoever made it: a Verdict, true where all of it is right.
 
     Then no division into so many consecutive blocks has a lighter heaviest block, and no naming of these blocks moves
     fewer bytes. Of a NearDecision: no block is above its limit, no cuts within the limit move fewer bytes in the order in which
     the PEs stand, and no naming of these blocks moves fewer, or with keep_order their names are that order. Of a ReorderedDecision:
     no block is above its limit, and no cuts within the limit, with no naming of their blocks, move fewer bytes. That `moves` lists
-    the moves of the places is compared here, in Python.
+    the moves of the places is compared here, in Python. Of a TimedDivision, which is checked with the loads in place of a run: its time is
+    the greatest end time of a PE, and no division has a lower one.
     """
+    if isinstance(decision, TimedDivision):
+        return check_by_speeds(run.loads if isinstance(run, Run) else run, decision)
     run, d = taken_run(run), taken_decision(decision)
     if isinstance(d, (NearDecision, ReorderedDecision)):
         verdict = check_near(run, d) if isinstance(d, NearDecision) else check_reordered(run, d)

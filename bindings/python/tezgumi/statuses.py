@@ -13,6 +13,7 @@ _FAILURES: Dict[int, Tuple[Type[TezgumiError], str]] = {
     -2: (OutOfMemory, "out of memory"),
     BAD_LOAD: (LoadError, "the library refuses the loads, which add up to too much"),
     -7: (InputError, "the library refuses the tolerance as too great"),
+    -13: (InputError, "the library refuses a speed or a background as out of range"),
     -8: (InputError, "a tolerance is for at most 65,536 elements, of less than 2^47 units and at most 1 MiB each, and 256 PEs"),
 }
 

@@ -5,6 +5,7 @@
 //! - [`tezgumi_check`]: checks a plan with its certificates, whoever made it.
 //! - [`tezgumi_refine`]: decides within a tolerance, with all that proves it; [`tezgumi_check_refined`] checks it.
 //! - `tezgumi_reorder`: decides within a tolerance in any order of the PEs; `tezgumi_check_reordered` checks it.
+//! - `tezgumi_divide_speeds`: divides over PEs of unequal speed; `tezgumi_check_speeds` checks such a division.
 //! - `tezgumi_run_refusal`: why a run is refused.
 //! - [`tezgumi_scale`]: loads in seconds as whole numbers, which can be planned.
 //! - [`tezgumi_abi`]: the number of this interface.
@@ -37,6 +38,7 @@ mod keeping;
 mod parts;
 mod refusals;
 mod reordering;
+mod speeds;
 
 use lb_lists::{
     Buffers, Claim, RefineError, RefinedClaim, Run, RunError, ScaleError, StandingBuffers,
