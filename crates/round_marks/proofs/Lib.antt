@@ -1,3 +1,6 @@
+pub mod Agreed
+pub mod Following
+pub mod Own
 pub mod Counts
 pub mod Reached
 pub mod Walks

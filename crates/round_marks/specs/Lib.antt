@@ -1,3 +1,4 @@
+pub mod Agreeing
 pub mod Finished
 pub mod Marked
 pub mod Quiet
