@@ -5,9 +5,10 @@ use Rattle.lb_certificates.specs.Chain.{IsDivision}
 use Rattle.lb_certificates.specs.Naming.{blocks_between, AreBlocks}
 use Rattle.lb_strategy.specs.Decisions.{IsPlanned}
 use Rattle.lb_strategy.specs.declared.decision.Decision.{Decision}
-use Rattle.lb_refinement.specs.Refined.{IsDecidedWithin, IsRefined, refined_cuts}
+use Rattle.lb_refinement.specs.Refined.{as_planned, IsDecidedWithin, IsRefined, IsRefinedBy, refined_cuts}
+use Rattle.lb_refinement.specs.declared.nearness.Nearness.{Nearness}
+use Rattle.lb_refinement.specs.declared.nearness.Nearness.TheVariants.{Planned, InOrder, InAnyOrder}
 use Rattle.lb_refinement.specs.declared.refined.Refined.{Refined}
-use Rattle.lb_refinement.specs.declared.refined.Refined.TheVariants.{Near, Planned}
 use Rattle.sync_board.specs.Strategies.{PlacesAll}
 
 -- cuts that divide both the loads and the sizes into blocks: there are as many sizes as loads
@@ -17,14 +18,19 @@ sized loads sizes pes cuts division blocks =
     let end : slice_index cuts (blocks_between cuts) ≡ slice_index cuts pes = ap (slice_index cuts) counted in
     omega (arith, end, blocks.divides.ends, division.ends)
 
+sized_by : {A : Type 0} (loads : List ℕ) (sizes : List (ℕ × ℕ)) (pes tolerance : ℕ) (d : Decision A) (n : Nearness A)
+    → IsRefinedBy loads sizes pes tolerance d n → IsDivision 0 (length loads) pes d.division.cuts → length sizes ≡ length loads
+sized_by loads sizes pes tolerance d Planned refined division =
+    sized loads sizes pes d.division.cuts division refined.0.right.named.blocks
+sized_by loads sizes pes tolerance d (InOrder p) refined division =
+    sized loads sizes pes d.division.cuts division refined.0.named.blocks
+sized_by loads sizes pes tolerance d (InAnyOrder p) refined division = absurd refined
+
 refined_sized : {A : Type 0} (loads : List ℕ) (sizes : List (ℕ × ℕ)) (pes tolerance : ℕ) (r : Refined A)
     → IsRefined loads sizes pes tolerance r → IsDivision 0 (length loads) pes (refined_cuts r) → length sizes ≡ length loads
-refined_sized loads sizes pes tolerance (Planned d) refined division =
-    sized loads sizes pes d.division.cuts division refined.0.right.named.blocks
-refined_sized loads sizes pes tolerance (Near k) refined division =
-    sized loads sizes pes k.refinement.cuts division refined.0.named.blocks
+refined_sized loads sizes pes tolerance r = sized_by loads sizes pes tolerance r.decision r.nearness
 
-pub planned_places : {A : Type 0} (loads : List ℕ) (sizes : List (ℕ × ℕ)) (pes : ℕ) (d : Decision A) → IsPlanned loads sizes pes d → PlacesAll loads sizes pes (Planned d)
+pub planned_places : {A : Type 0} (loads : List ℕ) (sizes : List (ℕ × ℕ)) (pes : ℕ) (d : Decision A) → IsPlanned loads sizes pes d → PlacesAll loads sizes pes (as_planned d)
 planned_places loads sizes pes d planned =
     record {
       blocks = planned.right.division.divides;

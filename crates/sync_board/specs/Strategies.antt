@@ -8,14 +8,19 @@ use Rattle.lb_strategy.specs.Decisions.{IsPlanned}
 use Rattle.lb_strategy.specs.Moves.{HasPlace}
 use Rattle.lb_refinement.specs.Refined.{ArePricesSmall, IsRefined, refined_cuts, refined_names}
 use Rattle.lb_refinement.specs.declared.refined.Refined.{Refined}
-use Rattle.lb_refinement.specs.declared.refined.Refined.TheVariants.{Near, Planned}
+use Rattle.lb_refinement.specs.declared.nearness.Nearness.{Nearness}
+use Rattle.lb_refinement.specs.declared.nearness.Nearness.TheVariants.{Planned}
+use Rattle.lb_strategy.specs.declared.decision.Decision.{Decision}
 use Rattle.sync_board.specs.declared.strategy.Strategy.{Strategy}
 use Rattle.sync_board.specs.declared.strategy.Strategy.TheVariants.{Least, Refine}
 
 -- what a strategy decides: `Least` the decision that is planned, and `Refine` the refined one within its tolerance
+abbrev pub IsPlannedBy : {A : Type 0} → List ℕ → List (ℕ × ℕ) → ℕ → Decision A → Nearness A → Type 0
+IsPlannedBy loads sizes pes d Planned = IsPlanned loads sizes pes d
+IsPlannedBy loads sizes pes d nearness = ⊥
+
 abbrev pub IsDecidedBy : {A : Type 0} → Strategy → List ℕ → List (ℕ × ℕ) → ℕ → Refined A → Type 0
-IsDecidedBy Least loads sizes pes (Planned d) = IsPlanned loads sizes pes d
-IsDecidedBy Least loads sizes pes (Near k) = ⊥
+IsDecidedBy Least loads sizes pes r = IsPlannedBy loads sizes pes r.decision r.nearness
 IsDecidedBy (Refine tolerance) loads sizes pes r = IsRefined loads sizes pes tolerance r
 
 -- What decisions have in common, whatever the strategy: the cuts divide all elements into as many blocks as there are PEs,

@@ -3,13 +3,13 @@
 ghost use Rattle.std.specs.Prelude.{◌≡◌, ◌≤◌, IfOk};
 ghost use Rattle.std.specs.Option.{option_map_or};
 ghost use Rattle.lb_strategy.specs.Decisions.{IsPlanned};
-ghost use Rattle.lb_refinement.specs.declared.refined.Refined.TheVariants.{Planned};
+ghost use Rattle.lb_refinement.specs.Refined.{as_planned};
 ghost use Rattle.sync_board.specs.declared.strategy.Strategy.TheVariants.{Least, Refine};
 ghost use Rattle.sync_board.specs.Strategies.{IsDecidedBy, PlacesAll};
 
 use chain_refinement::Tolerance;
 use chare_index::{Gate, Limits, Pes};
-use lb_refinement::{Refined, refine, refine_with};
+use lb_refinement::{Refined, as_planned, refine, refine_with};
 use lb_snapshot::Snapshot;
 use lb_strategy::{Decision, PlanError, plan, plan_with};
 use std::alloc::{AllocError, Allocator};
@@ -50,7 +50,7 @@ impl Strategy {
         match self {
             Strategy::Least => {
                 let decision = planned(alloc, snapshot, pes)?;
-                Ok(Refined::Planned(decision))
+                Ok(as_planned(decision))
             }
             Strategy::Refine(tolerance) => refine(alloc, snapshot, pes, tolerance),
         }
@@ -74,7 +74,7 @@ impl Strategy {
         match self {
             Strategy::Least => {
                 let decision = planned_with(rt, alloc, snapshot, pes, workers, gate)?;
-                Ok(Refined::Planned(decision))
+                Ok(as_planned(decision))
             }
             Strategy::Refine(tolerance) => {
                 refine_with(rt, alloc, snapshot, pes, tolerance, workers, gate)
@@ -91,7 +91,7 @@ fn planned<A: Allocator + Copy, B: Allocator>(
     pes: Pes,
 ) -> Result<Decision<A>, AllocError>
     ensures planned { IfOk result (IsPlanned snapshot.now.loads snapshot.now.sizes pes) }
-    ensures placed { IfOk result (λ d. PlacesAll snapshot.now.loads snapshot.now.sizes pes (Planned d)) }
+    ensures placed { IfOk result (λ d. PlacesAll snapshot.now.loads snapshot.now.sizes pes (as_planned d)) }
 {
     match plan(alloc, snapshot, pes.get()) {
         Ok(decision) => Ok(decision),
@@ -112,7 +112,7 @@ fn planned_with<R: Threads + Sync, G: Gate + Sync, A: Allocator + Copy, B: Alloc
     requires some_worker { 1 ≤ workers }
     requires few_workers { workers ≤ Limits.PROBE_WORKERS }
     ensures planned { IfOk result (IsPlanned snapshot.now.loads snapshot.now.sizes pes) }
-    ensures placed { IfOk result (λ d. PlacesAll snapshot.now.loads snapshot.now.sizes pes (Planned d)) }
+    ensures placed { IfOk result (λ d. PlacesAll snapshot.now.loads snapshot.now.sizes pes (as_planned d)) }
 {
     match plan_with(rt, alloc, snapshot, pes.get(), workers, gate) {
         Ok(decision) => Ok(decision),
