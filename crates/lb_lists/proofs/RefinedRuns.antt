@@ -11,10 +11,10 @@ use Rattle.chain_refinement.specs.Orders.{IsPresentOrder}
 use Rattle.chain_refinement.specs.Refinement.{AreNearest, AreProved, AreWithin}
 use Rattle.chain_refinement.specs.Tolerances.{limit_of}
 use Rattle.lb_strategy.specs.declared.decision.Decision.{Decision}
-use Rattle.lb_refinement.specs.Refined.{least_load, refined_moved, IsKept, IsRefined, IsThePlan}
-use Rattle.lb_refinement.specs.declared.refined.Kept.{Kept}
-use Rattle.lb_refinement.specs.declared.refined.Refined.{Refined}
-use Rattle.lb_refinement.specs.declared.refined.Refined.TheVariants.{Near, Planned}
+use Rattle.lb_refinement.specs.Refined.{least_by, IsKept, IsRefinedBy, IsThePlan, Kept}
+use Rattle.lb_refinement.specs.declared.nearness.Nearness.{Nearness}
+use Rattle.lb_refinement.specs.declared.nearness.Nearness.TheVariants.{Planned, InOrder, InAnyOrder}
+use Rattle.lb_refinement.specs.declared.nearness.OrderProof.{OrderProof}
 use Rattle.lb_lists.specs.Claims.{division_of}
 use Rattle.lb_lists.specs.Plans.{stops_in, IsPlan}
 use Rattle.lb_lists.specs.RefinedRooms.{told_of_kept, told_of_plan, IsStandingIn, IsStandingLeft, StandingLists}
@@ -24,7 +24,7 @@ use Rattle.lb_lists.proofs.Plans.{certified_by_stops, chosen_by_stops}
 
 -- the order, the present cuts and the heights of kept cuts
 abbrev pub standing_of : {A : Type 0} → Kept A → Standing
-standing_of k = record { order = k.refinement.order; present = k.refinement.present; heights = k.refinement.heights }
+standing_of k = record { order = k.1.order; present = k.1.present; heights = k.1.heights }
 
 pub told_plan : {A : Type 0} (run : Listed) (pes : ℕ) (d : Decision A) → IsThePlan run.loads (sizes_of run) pes d → IsToldPlan run pes (told_of_plan d)
 told_plan run pes d planned =
@@ -44,17 +44,17 @@ pub told_near : {A : Type 0} (run : Listed) (pes tolerance : ℕ) (k : Kept A) �
 told_near run pes tolerance k kept =
     record {
       right = record {
-        certified = certified_by_stops run.loads pes k.refinement.least kept.right.least;
-        chosen = chosen_by_stops run.loads pes k.refinement.least kept.chosen;
+        certified = certified_by_stops run.loads pes k.1.least kept.right.least;
+        chosen = chosen_by_stops run.loads pes k.1.least kept.chosen;
         named = kept.named;
         least_naming = kept.least_naming;
         moved = kept.moved_is;
       };
       order = kept.order;
-      proved = subst (λ t. AreProved run.loads (sizes_of run) k.refinement.order (limit_of k.refinement.least.bottleneck t)
-          k.refinement.cuts k.refinement.heights) kept.tolerance_is kept.right.proved;
-      nearest = subst (λ t. AreNearest run.loads (sizes_of run) k.refinement.order k.refinement.present
-          (limit_of k.refinement.least.bottleneck t) k.refinement.cuts) kept.tolerance_is kept.nearest;
+      proved = subst (λ t. AreProved run.loads (sizes_of run) k.1.order (limit_of k.1.least.bottleneck t)
+          k.0.division.cuts k.1.heights) kept.tolerance_is kept.right.proved;
+      nearest = subst (λ t. AreNearest run.loads (sizes_of run) k.1.order k.1.present
+          (limit_of k.1.least.bottleneck t) k.0.division.cuts) kept.tolerance_is kept.nearest;
     }
 
 -- two plans of one run move the same number of bytes
@@ -79,25 +79,26 @@ plan_moves run pes d places bottleneck moved planned plan =
     planned.right.moved ∙ same_moved (sizes_of run) pes d.division.cuts plan.cuts d.naming plan.names cuts planned.least_naming plan.naming ∙ sym plan.moves
 
 -- no more bytes move than by the plan
-pub no_more_than_plan : {A : Type 0} (run : Listed) (pes tolerance : ℕ) (r : Refined A) (places : List ℕ) (bottleneck moved : ℕ)
-    → IsRefined run.loads (sizes_of run) pes tolerance r → IsPlan run pes places bottleneck moved → refined_moved r ≤ moved
-no_more_than_plan run pes tolerance (Planned d) places bottleneck moved refined plan =
+no_more_than_plan : {A : Type 0} (run : Listed) (pes tolerance : ℕ) (d : Decision A) (n : Nearness A) (places : List ℕ) (bottleneck moved : ℕ)
+    → IsRefinedBy run.loads (sizes_of run) pes tolerance d n → IsPlan run pes places bottleneck moved → d.moved ≤ moved
+no_more_than_plan run pes tolerance d Planned places bottleneck moved refined plan =
     omega (arith, plan_moves run pes d places bottleneck moved refined.0 plan)
-no_more_than_plan run pes tolerance (Near k) places bottleneck moved (kept, (d, planned, less)) plan =
-    omega (arith, less, plan_moves run pes d places bottleneck moved planned plan)
+no_more_than_plan run pes tolerance d (InOrder p) places bottleneck moved (kept, (e, planned, less)) plan =
+    omega (arith, less, plan_moves run pes e places bottleneck moved planned plan)
+no_more_than_plan run pes tolerance d (InAnyOrder p) places bottleneck moved refined plan = absurd refined
 
 -- the decision of the plan, as plain lists
-pub refined_plan : {A : Type 0} (run : Listed) (pes tolerance : ℕ) (d : Decision A) (standing : Standing)
-    → IsRefined run.loads (sizes_of run) pes tolerance (Planned d) → IsRefinedRun run pes tolerance false (told_of_plan d) standing
+refined_plan : {A : Type 0} (run : Listed) (pes tolerance : ℕ) (d : Decision A) (standing : Standing)
+    → IsRefinedBy run.loads (sizes_of run) pes tolerance d Planned → IsRefinedRun run pes tolerance false (told_of_plan d) standing
 refined_plan run pes tolerance d standing (planned, inl none) = (told_plan run pes d planned, inl none)
 refined_plan run pes tolerance d standing (planned, inr (k, kept, no_more)) =
     (told_plan run pes d planned, inr (told_of_kept k, standing_of k, told_near run pes tolerance k kept, no_more))
 
 -- kept cuts, as plain lists
-pub refined_near : {A : Type 0} (run : Listed) (pes tolerance : ℕ) (k : Kept A) → IsRefined run.loads (sizes_of run) pes tolerance (Near k)
-    → IsRefinedRun run pes tolerance true (told_of_kept k) (standing_of k)
-refined_near run pes tolerance k (kept, (d, planned, less)) =
-    (told_near run pes tolerance k kept, λ plan is. subst (λ n. k.moved < n) (plans_move_once run pes (told_of_plan d) plan (told_plan run pes d planned) is) less)
+refined_near : {A : Type 0} (run : Listed) (pes tolerance : ℕ) (d : Decision A) (p : OrderProof A) → IsRefinedBy run.loads (sizes_of run) pes tolerance d (InOrder p)
+    → IsRefinedRun run pes tolerance true (told_of_kept (d, p)) (standing_of (d, p))
+refined_near run pes tolerance d p (kept, (e, planned, less)) =
+    (told_near run pes tolerance (d, p) kept, λ plan is. subst (λ n. d.moved < n) (plans_move_once run pes (told_of_plan e) plan (told_plan run pes e planned) is) less)
 
 -- a floor that holds has at most one stop more than there are PEs
 pub few_stops : {A : Type 0} (loads : List ℕ) (pes bottleneck : ℕ) (floor : Floor A) → HoldsFor loads pes bottleneck floor → length (stops_in floor) ≤ pes + 1
@@ -105,47 +106,53 @@ few_stops loads pes bottleneck Zero holds = omega arith
 few_stops loads pes bottleneck (Fence stops) holds = omega (arith, holds.counted)
 
 -- a decision as plain lists, where it is that of the plan
-pub told_as_plan : {A : Type 0} (run : Listed) (pes tolerance thousandths : ℕ) (r : Refined A) (d : Decision A) (near : Bool) (told : Told) (standing : Standing)
-    → r ≡ Planned d → tolerance ≡ thousandths → near ≡ false → told ≡ told_of_plan d → IsRefined run.loads (sizes_of run) pes tolerance r
+pub told_as_plan : {A : Type 0} (run : Listed) (pes tolerance thousandths : ℕ) (d : Decision A) (n : Nearness A) (near : Bool) (told : Told) (standing : Standing)
+    → n ≡ Planned → tolerance ≡ thousandths → near ≡ false → told ≡ told_of_plan d → IsRefinedBy run.loads (sizes_of run) pes tolerance d n
     → IsRefinedRun run pes thousandths near told standing
-told_as_plan run pes tolerance thousandths r d near told standing is same near_is told_is refined =
-    let planned = refined_plan run pes tolerance d standing (subst (IsRefined run.loads (sizes_of run) pes tolerance) is refined) in
+told_as_plan run pes tolerance thousandths d n near told standing is same near_is told_is refined =
+    let planned = refined_plan run pes tolerance d standing (subst (IsRefinedBy run.loads (sizes_of run) pes tolerance d) is refined) in
     let of_thousandths = subst (λ t. IsRefinedRun run pes t false (told_of_plan d) standing) same planned in
     let in_told = subst (λ t. IsRefinedRun run pes thousandths false t standing) (sym told_is) of_thousandths in
     subst (λ b. IsRefinedRun run pes thousandths b told standing) (sym near_is) in_told
 
-pub told_as_near : {A : Type 0} (run : Listed) (pes tolerance thousandths : ℕ) (r : Refined A) (k : Kept A) (near : Bool) (told : Told) (standing : Standing)
-    → r ≡ Near k → tolerance ≡ thousandths → near ≡ true → told ≡ told_of_kept k → standing ≡ standing_of k
-    → IsRefined run.loads (sizes_of run) pes tolerance r → IsRefinedRun run pes thousandths near told standing
-told_as_near run pes tolerance thousandths r k near told standing is same near_is told_is standing_is refined =
-    let kept = refined_near run pes tolerance k (subst (IsRefined run.loads (sizes_of run) pes tolerance) is refined) in
-    let of_thousandths = subst (λ t. IsRefinedRun run pes t true (told_of_kept k) (standing_of k)) same kept in
-    let in_told = subst (λ t. IsRefinedRun run pes thousandths true t (standing_of k)) (sym told_is) of_thousandths in
+pub told_as_near : {A : Type 0} (run : Listed) (pes tolerance thousandths : ℕ) (d : Decision A) (n : Nearness A) (p : OrderProof A) (near : Bool) (told : Told) (standing : Standing)
+    → n ≡ InOrder p → tolerance ≡ thousandths → near ≡ true → told ≡ told_of_kept (d, p) → standing ≡ standing_of (d, p)
+    → IsRefinedBy run.loads (sizes_of run) pes tolerance d n → IsRefinedRun run pes thousandths near told standing
+told_as_near run pes tolerance thousandths d n p near told standing is same near_is told_is standing_is refined =
+    let kept = refined_near run pes tolerance d p (subst (IsRefinedBy run.loads (sizes_of run) pes tolerance d) is refined) in
+    let of_thousandths = subst (λ t. IsRefinedRun run pes t true (told_of_kept (d, p)) (standing_of (d, p))) same kept in
+    let in_told = subst (λ t. IsRefinedRun run pes thousandths true t (standing_of (d, p))) (sym told_is) of_thousandths in
     let in_standing = subst (IsRefinedRun run pes thousandths true told) (sym standing_is) in_told in
     subst (λ b. IsRefinedRun run pes thousandths b told standing) (sym near_is) in_standing
 
-pub same_standing : {A : Type 0} (k : Kept A) (order present : List ℕ) → order ≡ k.refinement.order → present ≡ k.refinement.present
-    → record { order = order; present = present; heights = k.refinement.heights } ≡ standing_of k
-same_standing k order present order_is present_is = rw (order_is, present_is) refl
+-- what is known of cuts near the present ones
+pub near_kept : {A : Type 0} (run : Listed) (pes tolerance : ℕ) (d : Decision A) (n : Nearness A) (p : OrderProof A) → n ≡ InOrder p
+    → IsRefinedBy run.loads (sizes_of run) pes tolerance d n → IsKept run.loads (sizes_of run) pes tolerance (d, p)
+near_kept run pes tolerance d n p is refined =
+    (subst (IsRefinedBy run.loads (sizes_of run) pes tolerance d) is refined).0
+
+pub same_standing : {A : Type 0} (d : Decision A) (p : OrderProof A) (order present : List ℕ) → order ≡ p.order → present ≡ p.present
+    → record { order = order; present = present; heights = p.heights } ≡ standing_of (d, p)
+same_standing d p order present order_is present_is = rw (order_is, present_is) refl
 
 pub left_in : (near : Bool) (steps : ℕ) (old new : StandingLists) → near ≡ false → steps ≡ 0 → IsStandingLeft old new → IsStandingIn near [] steps old new
 left_in near steps old new near_is steps_are left = subst (λ b. IsStandingIn b [] steps old new) (sym near_is) (steps_are, left)
 
 -- the bytes that are reported are those of the decision, and no more than those of the plan
-pub no_more_told : {A : Type 0} (run : Listed) (pes tolerance : ℕ) (r other : Refined A) (told : ℕ) → r ≡ other → told ≡ refined_moved other
-    → IsRefined run.loads (sizes_of run) pes tolerance r → (places : List ℕ) (bottleneck moved : ℕ) → IsPlan run pes places bottleneck moved
+pub no_more_told : {A : Type 0} (run : Listed) (pes tolerance : ℕ) (d : Decision A) (n : Nearness A) (told : ℕ) → told ≡ d.moved
+    → IsRefinedBy run.loads (sizes_of run) pes tolerance d n → (places : List ℕ) (bottleneck moved : ℕ) → IsPlan run pes places bottleneck moved
     → told ≤ moved
-no_more_told run pes tolerance r other told is told_is refined places bottleneck moved plan =
-    omega (arith, told_is, no_more_than_plan run pes tolerance other places bottleneck moved (subst (IsRefined run.loads (sizes_of run) pes tolerance) is refined) plan)
+no_more_told run pes tolerance d n told told_is refined places bottleneck moved plan =
+    omega (arith, told_is, no_more_than_plan run pes tolerance d n places bottleneck moved refined plan)
 
-pub kept_whole_told : {A : Type 0} (loads : List ℕ) (sizes : List (ℕ × ℕ)) (pes tolerance thousandths : ℕ) (r other : Refined A) (least moved : ℕ)
-    → r ≡ other → tolerance ≡ thousandths → least ≡ least_load other → moved ≡ refined_moved other
-    → ((names present : List ℕ) → IsPresentOrder sizes pes names present → AreWithin loads names (limit_of (least_load r) tolerance) present → refined_moved r ≡ 0)
+pub kept_whole_told : {A : Type 0} (loads : List ℕ) (sizes : List (ℕ × ℕ)) (pes tolerance thousandths : ℕ) (d : Decision A) (n other : Nearness A) (least moved : ℕ)
+    → n ≡ other → tolerance ≡ thousandths → least ≡ (least_by d other).bottleneck → moved ≡ d.moved
+    → ((names present : List ℕ) → IsPresentOrder sizes pes names present → AreWithin loads names (limit_of (least_by d n).bottleneck tolerance) present → d.moved ≡ 0)
     → (names present : List ℕ) → IsPresentOrder sizes pes names present → AreWithin loads names (limit_of least thousandths) present → moved ≡ 0
-kept_whole_told loads sizes pes tolerance thousandths r other least moved is same least_is moved_is whole names present order within =
-    let limit : limit_of least thousandths ≡ limit_of (least_load r) tolerance = ap (λ n. limit_of n thousandths)
-    (least_is ∙ ap least_load (sym is)) ∙ ap (limit_of (least_load r)) (sym same) in
-    moved_is ∙ ap refined_moved (sym is) ∙ whole names present order (subst (λ n. AreWithin loads names n present) limit within)
+kept_whole_told loads sizes pes tolerance thousandths d n other least moved is same least_is moved_is whole names present order within =
+    let limit : limit_of least thousandths ≡ limit_of (least_by d n).bottleneck tolerance = ap (λ k. limit_of k thousandths)
+    (least_is ∙ ap (λ m. (least_by d m).bottleneck) (sym is)) ∙ ap (limit_of (least_by d n).bottleneck) (sym same) in
+    moved_is ∙ whole names present order (subst (λ k. AreWithin loads names k present) limit within)
 
 -- what is decided where the PEs need not keep their order
 pub decided_anew : (run : Listed) (pes tolerance : ℕ) (keep near : Bool) (told : Told) (standing : Standing) → keep ≡ false

@@ -1,5 +1,5 @@
 -- What is decided in any order of the PEs, as plain lists.
-use Rattle.std.proofs.Common.{◌≡◌, ℕ, ◌+◌, ◌<◌, ◌≤◌, ◌++◌, Bool, true, false, List, [], ◌∷◌, length, take, drop, append_assoc, arith, ap, replicate, subst, sym, ◌∙◌}
+use Rattle.std.proofs.Common.{◌≡◌, ℕ, ◌+◌, ◌<◌, ◌≤◌, ◌++◌, Bool, true, false, List, [], ◌∷◌, length, take, drop, append_assoc, arith, ap, refl, replicate, subst, sym, ◌∙◌}
 use Rattle.std.specs.Prelude.{pos}
 use Rattle.lb_certificates.specs.Certificate.{NoneAbove}
 use Rattle.lb_certificates.specs.Chain.{IsDivision, IsLeastDivision}
@@ -7,13 +7,12 @@ use Rattle.lb_certificates.specs.Naming.{bytes_moved, IsNaming}
 use Rattle.lb_certificates.proofs.Chains.{block_load-le-peak}
 use Rattle.lb_certificates.proofs.LeastDivisions.{least_from_certified}
 use Rattle.any_order.specs.AnyOrder.{bound_at, AreBounds, AreFewestOfAll, IsPlan as IsWithin}
-use Rattle.chain_refinement.specs.Orders.{IsPresentOrder}
-use Rattle.chain_refinement.specs.Refinement.{AreWithin}
 use Rattle.chain_refinement.specs.Tolerances.{limit_of}
-use Rattle.lb_any_order.specs.Reorderings.{reordering_least, reordering_moved, IsFewest, IsReordering}
-use Rattle.lb_any_order.specs.declared.reordering.Fewest.{Fewest}
-use Rattle.lb_any_order.specs.declared.reordering.Reordering.{Reordering}
-use Rattle.lb_any_order.specs.declared.reordering.Reordering.TheVariants.{InAnyOrder}
+use Rattle.lb_any_order.specs.Reorderings.{Fewest, IsFewest, IsReorderingBy}
+use Rattle.lb_refinement.specs.declared.nearness.AnyOrderProof.{AnyOrderProof}
+use Rattle.lb_refinement.specs.declared.nearness.Nearness.{Nearness}
+use Rattle.lb_refinement.specs.declared.nearness.Nearness.TheVariants.{InAnyOrder}
+use Rattle.lb_strategy.specs.declared.decision.Decision.{Decision}
 use Rattle.lb_lists.specs.Plans.{IsPlan}
 use Rattle.lb_lists.specs.Refinings.{IsRefinedRun, Standing, Told}
 use Rattle.lb_lists.specs.Reorderings.{all_rows, told_of_fewest, AreBoundsIn, AreFlat, AreLevelsIn, BoundRows, IsReorderedRun, IsToldReordered, LevelLists}
@@ -26,38 +25,48 @@ use Rattle.std.proofs.lemmas.List.{length-map}
 
 -- the bounds of cuts and names that move the fewest bytes
 abbrev pub rows_of : {A : Type 0} → Fewest A → BoundRows
-rows_of f = record { any = f.reordered.any; free = f.reordered.free }
+rows_of f = record { any = f.1.any; free = f.1.free }
 
 told_fewest : {A : Type 0} (run : Listed) (pes tolerance : ℕ) (f : Fewest A) → IsFewest run.loads (sizes_of run) pes tolerance f
     → IsToldReordered run pes tolerance (told_of_fewest f) (rows_of f)
 told_fewest run pes tolerance f few =
-    let counted : length f.reordered.names ≡ pes = few.right.plan.naming.counted in
+    let counted : length f.0.naming ≡ pes = few.right.plan.naming.counted in
     record {
       right = record {
-        least = certified_by_stops run.loads pes f.reordered.least few.right.least;
+        least = certified_by_stops run.loads pes f.1.least few.right.least;
         some_pe = few.right.some_pe;
         few_pes = few.right.few_pes;
-        plan = subst (λ t. IsWithin run.loads pes (limit_of f.reordered.least.bottleneck t) f.reordered.cuts f.reordered.names) few.tolerance_is few.right.plan;
+        plan = subst (λ t. IsWithin run.loads pes (limit_of f.1.least.bottleneck t) f.0.division.cuts f.0.naming) few.tolerance_is few.right.plan;
         any_counted = few.right.any_counted;
         free_counted = few.right.free_counted;
-        bounds = subst (λ t. AreBounds run.loads (sizes_of run) pes (limit_of f.reordered.least.bottleneck t) (bound_at f.reordered.any)
-            (bound_at f.reordered.free) (bytes_moved (sizes_of run) f.reordered.cuts f.reordered.names)) few.tolerance_is few.right.bounds;
+        bounds = subst (λ t. AreBounds run.loads (sizes_of run) pes (limit_of f.1.least.bottleneck t) (bound_at f.1.any)
+            (bound_at f.1.free) (bytes_moved (sizes_of run) f.0.division.cuts f.0.naming)) few.tolerance_is few.right.bounds;
       };
-      fewest = subst (λ t. AreFewestOfAll run.loads (sizes_of run) pes (limit_of f.reordered.least.bottleneck t) f.reordered.cuts f.reordered.names) few.tolerance_is few.fewest;
+      fewest = subst (λ t. AreFewestOfAll run.loads (sizes_of run) pes (limit_of f.1.least.bottleneck t) f.0.division.cuts f.0.naming) few.tolerance_is few.fewest;
       moved = few.moved_is;
       no_block_prices = ap (λ n. replicate n (pos 0)) counted;
       no_pe_prices = ap (λ n. replicate n (pos 0)) counted;
     }
 
--- a decision as plain lists, where none moves fewer bytes
-pub told_as_fewest : {A : Type 0} (run : Listed) (pes tolerance thousandths : ℕ) (r : Reordering A) (f : Fewest A) (reordered near : Bool) (told : Told) (standing : Standing)
-    → r ≡ InAnyOrder f → tolerance ≡ thousandths → reordered ≡ true → near ≡ false → told ≡ told_of_fewest f
-    → IsReordering run.loads (sizes_of run) pes tolerance r → IsReorderedRun run pes thousandths reordered near told standing (rows_of f)
-told_as_fewest run pes tolerance thousandths r f reordered near told standing is same reordered_is near_is told_is decided =
-    let few = told_fewest run pes tolerance f (subst (IsReordering run.loads (sizes_of run) pes tolerance) is decided) in
-    let of_thousandths = subst (λ t. IsToldReordered run pes t (told_of_fewest f) (rows_of f)) same few in
-    let in_told = subst (λ t. IsToldReordered run pes thousandths t (rows_of f)) (sym told_is) of_thousandths in
-    subst (λ b. IsReorderedRun run pes thousandths b near told standing (rows_of f)) (sym reordered_is) (near_is, in_told)
+-- what is known of a decision where none moves fewer bytes
+pub few_kept : {A : Type 0} (run : Listed) (pes tolerance : ℕ) (d : Decision A) (n : Nearness A) (p : AnyOrderProof A) → n ≡ InAnyOrder p
+    → IsReorderingBy run.loads (sizes_of run) pes tolerance d n → IsFewest run.loads (sizes_of run) pes tolerance (d, p)
+few_kept run pes tolerance d n p is decided = subst (IsReorderingBy run.loads (sizes_of run) pes tolerance d) is decided
+
+-- the prices of such a decision do not matter
+pub same_fewest : {A : Type 0} (d e : Decision A) (p : AnyOrderProof A) → e.division ≡ d.division → e.naming ≡ d.naming → e.moved ≡ d.moved
+    → told_of_fewest (e, p) ≡ told_of_fewest (d, p)
+same_fewest d e p division naming moved = rw (division, naming, moved) refl
+
+-- such a decision as plain lists
+pub told_as_fewest : {A : Type 0} (run : Listed) (pes tolerance thousandths : ℕ) (d : Decision A) (n : Nearness A) (p : AnyOrderProof A) (reordered near : Bool) (told : Told) (standing : Standing)
+    → n ≡ InAnyOrder p → tolerance ≡ thousandths → reordered ≡ true → near ≡ false → told ≡ told_of_fewest (d, p)
+    → IsReorderingBy run.loads (sizes_of run) pes tolerance d n → IsReorderedRun run pes thousandths reordered near told standing (rows_of (d, p))
+told_as_fewest run pes tolerance thousandths d n p reordered near told standing is same reordered_is near_is told_is decided =
+    let few = told_fewest run pes tolerance (d, p) (few_kept run pes tolerance d n p is decided) in
+    let of_thousandths = subst (λ t. IsToldReordered run pes t (told_of_fewest (d, p)) (rows_of (d, p))) same few in
+    let in_told = subst (λ t. IsToldReordered run pes thousandths t (rows_of (d, p))) (sym told_is) of_thousandths in
+    subst (λ b. IsReorderedRun run pes thousandths b near told standing (rows_of (d, p))) (sym reordered_is) (near_is, in_told)
 
 -- and where it is decided as if that was not asked for
 pub told_in_order : (run : Listed) (pes thousandths : ℕ) (reordered near : Bool) (told : Told) (standing : Standing) (rows : BoundRows)
@@ -104,12 +113,12 @@ fewest_below_plan run pes thousandths told rows few places bottleneck moved plan
     let less = few.fewest.fewest plan.cuts plan.names (within_limit run.loads pes _ bottleneck plan.cuts plan.names above plan.least plan.naming.naming) in
     omega (arith, few.moved, less, plan.moves)
 
-pub no_more_fewest : {A : Type 0} (run : Listed) (pes tolerance : ℕ) (r : Reordering A) (f : Fewest A) (moved : ℕ) → r ≡ InAnyOrder f
-    → moved ≡ f.moved → IsReordering run.loads (sizes_of run) pes tolerance r → (places : List ℕ) (bottleneck more : ℕ)
+pub no_more_fewest : {A : Type 0} (run : Listed) (pes tolerance : ℕ) (d : Decision A) (n : Nearness A) (p : AnyOrderProof A) (moved : ℕ) → n ≡ InAnyOrder p
+    → moved ≡ d.moved → IsReorderingBy run.loads (sizes_of run) pes tolerance d n → (places : List ℕ) (bottleneck more : ℕ)
     → IsPlan run pes places bottleneck more → moved ≤ more
-no_more_fewest run pes tolerance r f moved is moved_is decided places bottleneck more plan =
-    let few = told_fewest run pes tolerance f (subst (IsReordering run.loads (sizes_of run) pes tolerance) is decided) in
-    omega (arith, moved_is, fewest_below_plan run pes tolerance (told_of_fewest f) (rows_of f) few places bottleneck more plan)
+no_more_fewest run pes tolerance d n p moved is moved_is decided places bottleneck more plan =
+    let few = told_fewest run pes tolerance (d, p) (few_kept run pes tolerance d n p is decided) in
+    omega (arith, moved_is, fewest_below_plan run pes tolerance (told_of_fewest (d, p)) (rows_of (d, p)) few places bottleneck more plan)
 
 -- nor does what is decided where that is not asked for
 fewest_below_refined : (run : Listed) (pes thousandths : ℕ) (told : Told) (rows : BoundRows) → IsToldReordered run pes thousandths told rows
@@ -145,16 +154,6 @@ no_more_refined run pes thousandths true near told standing rows (apart, few) be
 no_more_refined run pes thousandths false near told standing rows this beside other stood that =
     let same = same_decision run pes thousandths false near beside told other standing stood this that in
     omega (arith, same.moved)
-
--- so nothing moves where the present places keep to the limit
-pub nothing_told : {A : Type 0} (loads : List ℕ) (sizes : List (ℕ × ℕ)) (pes tolerance thousandths : ℕ) (r other : Reordering A) (least moved : ℕ)
-    → r ≡ other → tolerance ≡ thousandths → least ≡ reordering_least other → moved ≡ reordering_moved other
-    → ((names present : List ℕ) → IsPresentOrder sizes pes names present → AreWithin loads names (limit_of (reordering_least r) tolerance) present → reordering_moved r ≡ 0)
-    → (names present : List ℕ) → IsPresentOrder sizes pes names present → AreWithin loads names (limit_of least thousandths) present → moved ≡ 0
-nothing_told loads sizes pes tolerance thousandths r other least moved is same least_is moved_is none names present order within =
-    let limit : limit_of least thousandths ≡ limit_of (reordering_least r) tolerance = ap (λ n. limit_of n thousandths)
-    (least_is ∙ ap reordering_least (sym is)) ∙ ap (limit_of (reordering_least r)) (sym same) in
-    moved_is ∙ ap reordering_moved (sym is) ∙ none names present order (subst (λ n. AreWithin loads names n present) limit within)
 
 -- one more row in plain lists
 pub flat_more : (rows : List (List (ℕ × ℕ))) (row : List (ℕ × ℕ)) (starts places bytes : List ℕ) (count : ℕ) → AreFlat rows starts places bytes

@@ -1,6 +1,6 @@
 -- The lists that a decision within a tolerance is written to.
 use Rattle.std.specs.Prelude.{◌≡◌, Bool, true, false, ℕ, ◌+◌, ◌<◌, ◌≤◌, List, length, take, drop}
-use Rattle.lb_refinement.specs.declared.refined.Kept.{Kept}
+use Rattle.lb_refinement.specs.Refined.{Kept}
 use Rattle.lb_strategy.specs.declared.decision.Decision.{Decision}
 use Rattle.lb_lists.specs.Plans.{stops_in}
 use Rattle.lb_lists.specs.Refinings.{Standing, Told}
@@ -81,14 +81,14 @@ told_of_plan d =
 abbrev pub told_of_kept : {A : Type 0} → Kept A → Told
 told_of_kept k =
     record {
-      least = k.refinement.least.bottleneck;
-      moved = k.moved;
-      cuts = k.refinement.cuts;
-      names = k.naming;
-      block_prices = k.prices.u;
-      pe_prices = k.prices.v;
-      least_cuts = k.refinement.least.cuts;
-      stops = stops_in k.refinement.least.floor;
+      least = k.1.least.bottleneck;
+      moved = k.0.moved;
+      cuts = k.0.division.cuts;
+      names = k.0.naming;
+      block_prices = k.0.prices.u;
+      pe_prices = k.0.prices.v;
+      least_cuts = k.1.least.cuts;
+      stops = stops_in k.1.least.floor;
     }
 
 -- The heights have this number of steps. They are written where the lists have the capacity for all of them: for each block the

@@ -4,7 +4,7 @@ use Rattle.lb_certificates.specs.Naming.{bytes_moved}
 use Rattle.any_order.specs.AnyOrder.{AreFewestOfAll, IsReordered}
 use Rattle.any_order.specs.declared.reordered.Reordered.{Reordered}
 use Rattle.chain_refinement.specs.Tolerances.{limit_of}
-use Rattle.lb_any_order.specs.declared.reordering.Fewest.{Fewest}
+use Rattle.lb_any_order.specs.Reorderings.{Fewest}
 use Rattle.lb_lists.specs.Claims.{division_of}
 use Rattle.lb_lists.specs.Plans.{stops_in}
 use Rattle.lb_lists.specs.RefinedRooms.{HasRefinedRoom, StandingLists}
@@ -53,14 +53,14 @@ IsReorderedRun run pes tolerance false near told standing rows = IsRefinedRun ru
 abbrev pub told_of_fewest : {A : Type 0} → Fewest A → Told
 told_of_fewest f =
     record {
-      least = f.reordered.least.bottleneck;
-      moved = f.moved;
-      cuts = f.reordered.cuts;
-      names = f.reordered.names;
-      block_prices = replicate (length f.reordered.names) (pos 0);
-      pe_prices = replicate (length f.reordered.names) (pos 0);
-      least_cuts = f.reordered.least.cuts;
-      stops = stops_in f.reordered.least.floor;
+      least = f.1.least.bottleneck;
+      moved = f.0.moved;
+      cuts = f.0.division.cuts;
+      names = f.0.naming;
+      block_prices = replicate (length f.0.naming) (pos 0);
+      pe_prices = replicate (length f.0.naming) (pos 0);
+      least_cuts = f.1.least.cuts;
+      stops = stops_in f.1.least.floor;
     }
 
 -- the contents of the lists of bounds

@@ -7,7 +7,7 @@ ghost use Rattle.chain_refinement.specs.Orders.{IsPresentOrder};
 ghost use Rattle.chain_refinement.specs.Refinement.{AreNearest, AreWithin};
 ghost use Rattle.chain_refinement.specs.Tolerances.{limit_of};
 ghost use Rattle.lb_strategy.specs.Moves.{HasPlace};
-ghost use Rattle.lb_refinement.specs.InOrder.{ordered_bottleneck, ordered_cuts, ordered_least_load, ordered_moved, ordered_names};
+ghost use Rattle.lb_refinement.specs.Refined.{least_load, refined_bottleneck, refined_cuts, refined_moved, refined_names};
 ghost use Rattle.lb_refinement.specs.InOrder.{HasSmallPrices, IsRefinedInOrder};
 ghost use Rattle.lb_lists.specs.Places.{ArePlaces};
 ghost use Rattle.lb_lists.specs.RefinedRooms.{standing_in, standing_lists_in, told_in, HasRefinedRoom, HasStandingListsOf, IsStandingIn};
@@ -24,7 +24,7 @@ use crate::snapshot::snapshot_of;
 use crate::steps::flat_steps;
 use chain_refinement::Tolerance;
 use chare_index::Pes;
-use lb_refinement::{RefinedInOrder, refine_keeping_order};
+use lb_refinement::{Nearness, Refined, refine_keeping_order};
 use std::alloc::Allocator;
 
 /// Decides as [`refine_run`](crate::refine_run) does, so that the PEs keep their order, as [`refine_keeping_order`] does.
@@ -37,19 +37,19 @@ pub fn refine_run_in_order<A: Allocator + Copy>(
     run: &Run<'_>,
     pes: u32,
     tolerance: Tolerance,
-) -> Result<RefinedInOrder<A>, RefineError>
+) -> Result<Refined<A>, RefineError>
     ensures refined { IfOk result (IsRefinedInOrder run.now.loads (sizes_of run.now) pes tolerance) }
-    ensures keeps_order { IfOk result (λ r. (names present : List ℕ) → IsPresentOrder (sizes_of run.now) pes names present → ordered_names r ≡ names) }
+    ensures keeps_order { IfOk result (λ r. (names present : List ℕ) → IsPresentOrder (sizes_of run.now) pes names present → refined_names r ≡ names) }
     ensures nearest { IfOk result (λ r. (names present : List ℕ) → IsPresentOrder (sizes_of run.now) pes names present
-        → AreNearest run.now.loads (sizes_of run.now) names present (limit_of (ordered_least_load r) tolerance) (ordered_cuts r)) }
-    ensures blocks { IfOk result (λ r. IsDivision 0 (length run.now.loads) pes (ordered_cuts r)) }
-    ensures naming { IfOk result (λ r. IsNaming pes (ordered_names r)) }
-    ensures peak { IfOk result (λ r. ordered_bottleneck r ≡ peak run.now.loads (ordered_cuts r)) }
-    ensures within { IfOk result (λ r. ordered_bottleneck r ≤ limit_of (ordered_least_load r) tolerance) }
-    ensures moved { IfOk result (λ r. ordered_moved r ≡ bytes_moved (sizes_of run.now) (ordered_cuts r) (ordered_names r)) }
+        → AreNearest run.now.loads (sizes_of run.now) names present (limit_of (least_load r) tolerance) (refined_cuts r)) }
+    ensures blocks { IfOk result (λ r. IsDivision 0 (length run.now.loads) pes (refined_cuts r)) }
+    ensures naming { IfOk result (λ r. IsNaming pes (refined_names r)) }
+    ensures peak { IfOk result (λ r. refined_bottleneck r ≡ peak run.now.loads (refined_cuts r)) }
+    ensures within { IfOk result (λ r. refined_bottleneck r ≤ limit_of (least_load r) tolerance) }
+    ensures moved { IfOk result (λ r. refined_moved r ≡ bytes_moved (sizes_of run.now) (refined_cuts r) (refined_names r)) }
     ensures kept_whole { IfOk result (λ r. (names present : List ℕ) → IsPresentOrder (sizes_of run.now) pes names present
-        → AreWithin run.now.loads names (limit_of (ordered_least_load r) tolerance) present → ordered_moved r ≡ 0) }
-    ensures places { IfOk result (λ r. (i : ℕ) → i < length (sizes_of run.now) → HasPlace (ordered_cuts r) (ordered_names r) i) }
+        → AreWithin run.now.loads names (limit_of (least_load r) tolerance) present → refined_moved r ≡ 0) }
+    ensures places { IfOk result (λ r. (i : ℕ) → i < length (sizes_of run.now) → HasPlace (refined_cuts r) (refined_names r) i) }
     ensures bounded { IfOk result (HasSmallPrices (sizes_of run.now)) }
     ensures asked { OnOk result (IsAsked run.now pes) }
     ensures small { OnOk result (AreSmall run.now.loads) }
@@ -107,16 +107,18 @@ pub(crate) fn in_order_into<A: Allocator + Copy>(
         Ok(refined) => refined,
         Err(refused) => return Err(refused),
     };
-    match refined {
-        RefinedInOrder::Planned(decision) => Ok(write_planned(decision, room, standing)),
-        RefinedInOrder::Near(kept) => {
-            let Ok(flat) = flat_steps(alloc, kept.refinement.heights.as_slice()) else {
+    let Refined { decision, nearness } = refined;
+    match nearness {
+        Nearness::Planned => Ok(write_planned(decision, room, standing)),
+        Nearness::InOrder(proof) => {
+            let Ok(flat) = flat_steps(alloc, proof.heights.as_slice()) else {
                 return Err(RefineError::Run(RunError::OutOfMemory));
             };
-            let Ok(kept) = priced(alloc, kept) else {
+            let Ok(decision) = priced(alloc, decision) else {
                 return Err(RefineError::Run(RunError::OutOfMemory));
             };
-            Ok(write_near(kept, flat, room, standing))
+            Ok(write_near(decision, proof, flat, room, standing))
         }
+        Nearness::InAnyOrder(_) => unreachable!(),
     }
 }

@@ -8,7 +8,7 @@
 //! - [`refine_run`]: decides within a tolerance, for a run within the limits of a snapshot; [`refine_into`] writes the decision
 //!   into [`Buffers`] and [`StandingBuffers`], or returns a [`RefineError`].
 //! - [`refine_run_in_order`]: decides so that the PEs keep their order, which [`refine_into`] does where that is asked for.
-//! - [`reorder_run`]: decides where the PEs may change their order, as a [`ReorderedRun`]; [`reorder_into`] writes the decision
+//! - [`reorder_run`]: decides where the PEs may change their order; [`reorder_into`] writes the decision
 //!   into these and [`BoundsBuffers`].
 //! - [`check_claim`]: whether a [`Claim`] is right, whoever made it, or its first flaw; [`number_of`]: the number of a flaw.
 //! - [`check_refined`]: whether a [`RefinedClaim`] of a decision within a tolerance is right, or its first [`RefinedFlaw`],
@@ -78,6 +78,6 @@ pub use reordered_checking::{
     ReorderedClaimFlaw, check_reordered_claim, number_of_reordered, place_of_reordered,
 };
 pub use reordered_claim::ReorderedClaim;
-pub use reordering::{ReorderedNumbers, ReorderedRun, reorder_into, reorder_run};
+pub use reordering::{ReorderedNumbers, reorder_into, reorder_run};
 pub use run::Run;
 pub use scaling::{ScaleError, scale_loads};

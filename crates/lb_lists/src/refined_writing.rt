@@ -13,9 +13,8 @@ use crate::deciding::{Buffers, Decided, write_decision};
 use crate::plan::Plan;
 use crate::refining::{RefinedNumbers, StandingBuffers};
 use crate::steps::FlatSteps;
-use chain_refinement::Refinement;
 use lb_certificates::{Division, PriceList, Prices};
-use lb_refinement::{Kept, KeptInOrder};
+use lb_refinement::OrderProof;
 use lb_strategy::Decision;
 use std::alloc::{AllocError, Allocator};
 
@@ -86,37 +85,36 @@ pub(crate) fn numbers(decided: Decided, bottleneck: u64, near: bool, steps: usiz
     }
 }
 
-/// Cuts in the order of the PEs as other cuts near the present ones are: their names are the order, and each price is 0.
+/// A decision whose names are the order of the PEs, with prices of 0.
 ///
 /// # Errors
 ///
 /// Memory for a list was refused.
 pub(crate) fn priced<A: Allocator + Copy>(
     alloc: A,
-    kept: KeptInOrder<A>,
-) -> Result<Kept<A>, AllocError>
-    ensures refinement { IfOk result (λ k. k.refinement ≡ kept.refinement) }
-    ensures bottleneck { IfOk result (λ k. k.bottleneck ≡ kept.bottleneck) }
-    ensures naming { IfOk result (λ k. k.naming ≡ kept.refinement.order) }
-    ensures block_prices { IfOk result (λ k. k.prices.u ≡ replicate (length kept.refinement.order) (pos 0)) }
-    ensures pe_prices { IfOk result (λ k. k.prices.v ≡ replicate (length kept.refinement.order) (pos 0)) }
-    ensures moved { IfOk result (λ k. k.moved ≡ kept.moved) }
+    decision: Decision<A>,
+) -> Result<Decision<A>, AllocError>
+    ensures division { IfOk result (λ d. d.division ≡ decision.division) }
+    ensures naming { IfOk result (λ d. d.naming ≡ decision.naming) }
+    ensures block_prices { IfOk result (λ d. d.prices.u ≡ replicate (length decision.naming) (pos 0)) }
+    ensures pe_prices { IfOk result (λ d. d.prices.v ≡ replicate (length decision.naming) (pos 0)) }
+    ensures moved { IfOk result (λ d. d.moved ≡ decision.moved) }
 {
-    let KeptInOrder {
-        refinement,
-        bottleneck,
+    let Decision {
+        division,
+        naming,
+        prices,
         moved,
         moves,
-    } = kept;
-    let naming = refinement.order.clone()?;
+    } = decision;
+    drop(prices);
     let blocks = naming.as_slice().len();
     let prices = Prices {
         u: PriceList::new(vec![in alloc; 0i64; blocks]?),
         v: PriceList::new(vec![in alloc; 0i64; blocks]?),
     };
-    Ok(Kept {
-        refinement,
-        bottleneck,
+    Ok(Decision {
+        division,
         naming,
         prices,
         moved,
@@ -127,56 +125,55 @@ pub(crate) fn priced<A: Allocator + Copy>(
 /// Writes cuts near the present ones, with what proves them: the order of the PEs, the present cuts and the heights, which have
 /// these steps.
 pub(crate) fn write_near<A: Allocator>(
-    kept: Kept<A>,
+    decision: Decision<A>,
+    proof: OrderProof<A>,
     steps: FlatSteps<A>,
     room: &mut Buffers<'_>,
     standing: &mut StandingBuffers<'_>,
 ) -> RefinedNumbers
-    requires divides { IsDivision 0 (length room.old.new_places.now) (blocks_between kept.refinement.cuts) kept.refinement.cuts }
-    requires some_block { 0 < blocks_between kept.refinement.cuts }
-    requires cuts { length room.old.cuts.now ≡ length kept.refinement.cuts }
-    requires stops { length (stops_in kept.refinement.least.floor) ≤ length room.old.stops.now }
-    requires names { length room.old.names.now ≡ length kept.naming }
-    requires named { length kept.naming ≡ blocks_between kept.refinement.cuts }
-    requires block_prices { length room.old.block_prices.now ≡ length kept.prices.u }
-    requires pe_prices { length room.old.pe_prices.now ≡ length kept.prices.v }
-    requires least_cuts { length standing.old.least_cuts.now ≡ length kept.refinement.least.cuts }
-    requires order { length standing.old.order.now ≡ length kept.refinement.order }
-    requires present { length standing.old.present.now ≡ length kept.refinement.present }
-    requires step_starts { length standing.old.step_starts.now ≡ length (first_steps 0 kept.refinement.heights) }
+    requires divides { IsDivision 0 (length room.old.new_places.now) (blocks_between decision.division.cuts) decision.division.cuts }
+    requires some_block { 0 < blocks_between decision.division.cuts }
+    requires cuts { length room.old.cuts.now ≡ length decision.division.cuts }
+    requires stops { length (stops_in proof.least.floor) ≤ length room.old.stops.now }
+    requires names { length room.old.names.now ≡ length decision.naming }
+    requires named { length decision.naming ≡ blocks_between decision.division.cuts }
+    requires block_prices { length room.old.block_prices.now ≡ length decision.prices.u }
+    requires pe_prices { length room.old.pe_prices.now ≡ length decision.prices.v }
+    requires least_cuts { length standing.old.least_cuts.now ≡ length proof.least.cuts }
+    requires order { length standing.old.order.now ≡ length proof.order }
+    requires present { length standing.old.present.now ≡ length proof.present }
+    requires step_starts { length standing.old.step_starts.now ≡ length (first_steps 0 proof.heights) }
     requires step_rises { length standing.old.step_rises.now ≡ length standing.old.step_places.now }
-    requires starts { steps.starts.items ≡ first_steps 0 kept.refinement.heights }
-    requires places { steps.places.items ≡ places_of (all_steps kept.refinement.heights) }
-    requires rises { steps.rises.items ≡ rises_of (all_steps kept.refinement.heights) }
+    requires starts { steps.starts.items ≡ first_steps 0 proof.heights }
+    requires places { steps.places.items ≡ places_of (all_steps proof.heights) }
+    requires rises { steps.rises.items ≡ rises_of (all_steps proof.heights) }
     ensures same_lists { HasListsOf room.old room.new }
     ensures same_standing { HasStandingListsOf standing.old standing.new }
-    ensures told { told_in result.least result.moved result.stops (lists_in room.new) (standing_lists_in standing.new) ≡ told_of_kept kept }
-    ensures bottleneck { result.bottleneck ≡ kept.bottleneck }
-    ensures placed { ArePlaces kept.refinement.cuts kept.naming (length room.old.new_places.now) room.new.new_places.now }
-    ensures counted { result.stops ≡ length (stops_in kept.refinement.least.floor) }
+    ensures told { told_in result.least result.moved result.stops (lists_in room.new) (standing_lists_in standing.new) ≡ told_of_kept (decision, proof) }
+    ensures bottleneck { result.bottleneck ≡ decision.division.bottleneck }
+    ensures placed { ArePlaces decision.division.cuts decision.naming (length room.old.new_places.now) room.new.new_places.now }
+    ensures counted { result.stops ≡ length (stops_in proof.least.floor) }
     ensures behind { drop result.stops room.new.stops.now ≡ drop result.stops room.old.stops.now }
     ensures near { result.near ≡ true }
-    ensures order { standing.new.order.now ≡ kept.refinement.order }
-    ensures present { standing.new.present.now ≡ kept.refinement.present }
-    ensures steps { AreStepsIn kept.refinement.heights result.steps (standing_lists_in standing.old) (standing_lists_in standing.new) }
+    ensures order { standing.new.order.now ≡ proof.order }
+    ensures present { standing.new.present.now ≡ proof.present }
+    ensures steps { AreStepsIn proof.heights result.steps (standing_lists_in standing.old) (standing_lists_in standing.new) }
 {
-    let Kept {
-        refinement,
-        bottleneck,
+    let Decision {
+        division,
         naming,
         prices,
         moved,
         moves,
-    } = kept;
+    } = decision;
     drop(moves);
-    let Refinement {
+    let OrderProof {
         least,
         tolerance: _,
         order,
         present,
-        cuts,
         heights,
-    } = refinement;
+    } = proof;
     drop(heights);
     standing.order.copy_from_slice(order.as_slice());
     standing.present.copy_from_slice(present.as_slice());
@@ -189,7 +186,13 @@ pub(crate) fn write_near<A: Allocator>(
     } = least;
     standing.least_cuts.copy_from_slice(least_cuts.as_slice());
     drop(least_cuts);
-    // The cuts are those of the refinement; bottleneck and stops are those of the least division.
+    let Division {
+        bottleneck,
+        cuts,
+        floor: no_floor,
+    } = division;
+    drop(no_floor);
+    // The cuts are those of the decision; bottleneck and stops are those of the least division.
     let plan = Plan {
         division: Division {
             bottleneck: least_load,

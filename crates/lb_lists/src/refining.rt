@@ -23,7 +23,7 @@ use crate::snapshot::snapshot_of;
 use crate::steps::flat_steps;
 use chain_refinement::Tolerance;
 use chare_index::Pes;
-use lb_refinement::{Refined, refine};
+use lb_refinement::{Nearness, Refined, refine};
 use std::alloc::Allocator;
 
 /// Buffers of the caller for the order of the PEs and the present cuts, and for the heights that prove that no cuts within a
@@ -178,13 +178,15 @@ pub fn refine_into<A: Allocator + Copy>(
         Ok(refined) => refined,
         Err(refused) => return Err(refused),
     };
-    match refined {
-        Refined::Planned(decision) => Ok(write_planned(decision, room, standing)),
-        Refined::Near(kept) => {
-            let Ok(flat) = flat_steps(alloc, kept.refinement.heights.as_slice()) else {
+    let Refined { decision, nearness } = refined;
+    match nearness {
+        Nearness::Planned => Ok(write_planned(decision, room, standing)),
+        Nearness::InOrder(proof) => {
+            let Ok(flat) = flat_steps(alloc, proof.heights.as_slice()) else {
                 return Err(RefineError::Run(RunError::OutOfMemory));
             };
-            Ok(write_near(kept, flat, room, standing))
+            Ok(write_near(decision, proof, flat, room, standing))
         }
+        Nearness::InAnyOrder(_) => unreachable!(),
     }
 }

@@ -7,9 +7,9 @@ ghost use Rattle.lb_strategy.specs.Decisions.{ArePricesBounded};
 ghost use Rattle.chain_refinement.specs.Orders.{IsPresentOrder};
 ghost use Rattle.chain_refinement.specs.Refinement.{AreWithin};
 ghost use Rattle.chain_refinement.specs.Tolerances.{limit_of};
-ghost use Rattle.lb_refinement.specs.Refined.{refined_moved, IsRefined};
+ghost use Rattle.lb_refinement.specs.Refined.{least_load, refined_bottleneck, refined_cuts, refined_moved, refined_names, IsRefined};
 ghost use Rattle.lb_refinement.specs.declared.refined.Refined.{Refined};
-ghost use Rattle.lb_any_order.specs.Reorderings.{reordering_cuts, reordering_least, reordering_moved, reordering_names, ArePricesSmallInOrder, HasPlaceBelow, IsReordering};
+ghost use Rattle.lb_any_order.specs.Reorderings.{ArePricesSmallInOrder, HasPlaceBelow, IsReordering};
 ghost use Rattle.lb_lists.specs.Plans.{IsPlan};
 ghost use Rattle.lb_lists.specs.Places.{ArePlaces};
 ghost use Rattle.lb_lists.specs.RefinedRooms.{standing_in, standing_lists_in, told_in, HasRefinedRoom, HasStandingListsOf, IsStandingIn};
@@ -21,27 +21,17 @@ ghost use Rattle.lb_lists.specs.Runs.{sizes_of, AreSmall, FitsSnapshot, IsAsked,
 use crate::bounds::{BoundsBuffers, flat_levels, has_level_room};
 use crate::deciding::Buffers;
 use crate::error::{RefineError, RunError};
-use crate::refined_writing::{write_near, write_planned};
+use crate::refined_writing::{priced, write_near, write_planned};
 use crate::refining::{RefinedNumbers, StandingBuffers, has_refined_room};
-use crate::reordered_writing::{no_prices, write_fewest};
+use crate::reordered_writing::write_fewest;
 use crate::run::Run;
 use crate::snapshot::snapshot_of;
 use crate::steps::flat_steps;
 use chain_refinement::Tolerance;
 use chare_index::Pes;
-use lb_any_order::{Reordering, refine_in_any_order};
-use lb_refinement::{Refined, greatest_load};
-use std::alloc::{Allocator, Global};
-
-/// What is decided for a run within a tolerance where the PEs may change their order.
-#[derive(Drop)]
-#[derive_where(Debug)]
-pub struct ReorderedRun<A: Allocator = Global> {
-    /// Cuts and names that move the fewest bytes of all, or what is decided where that is not asked for.
-    pub decided: Reordering<A>,
-    /// The load of the heaviest block, in work units.
-    pub bottleneck: u64,
-}
+use lb_any_order::refine_in_any_order;
+use lb_refinement::{Nearness, Refined};
+use std::alloc::Allocator;
 
 /// The numbers of a decision in any order of the PEs that was written.
 #[derive(Clone, Copy, Debug, PartialEq, Eq)]
@@ -69,18 +59,18 @@ pub fn reorder_run<A: Allocator + Copy>(
     run: &Run<'_>,
     pes: u32,
     tolerance: Tolerance,
-) -> Result<ReorderedRun<A>, RefineError>
-    ensures reordering { IfOk result (λ r. IsReordering run.now.loads (sizes_of run.now) pes tolerance r.decided) }
-    ensures blocks { IfOk result (λ r. IsDivision 0 (length run.now.loads) pes (reordering_cuts r.decided)) }
-    ensures naming { IfOk result (λ r. IsNaming pes (reordering_names r.decided)) }
-    ensures peak { IfOk result (λ r. r.bottleneck ≡ peak run.now.loads (reordering_cuts r.decided)) }
-    ensures within { IfOk result (λ r. r.bottleneck ≤ limit_of (reordering_least r.decided) tolerance) }
+) -> Result<Refined<A>, RefineError>
+    ensures reordering { IfOk result (IsReordering run.now.loads (sizes_of run.now) pes tolerance) }
+    ensures blocks { IfOk result (λ r. IsDivision 0 (length run.now.loads) pes (refined_cuts r)) }
+    ensures naming { IfOk result (λ r. IsNaming pes (refined_names r)) }
+    ensures peak { IfOk result (λ r. refined_bottleneck r ≡ peak run.now.loads (refined_cuts r)) }
+    ensures within { IfOk result (λ r. refined_bottleneck r ≤ limit_of (least_load r) tolerance) }
     ensures no_more { IfOk result (λ r. (other : Refined A) → IsRefined run.now.loads (sizes_of run.now) pes tolerance other
-        → reordering_moved r.decided ≤ refined_moved other) }
+        → refined_moved r ≤ refined_moved other) }
     ensures kept_whole { IfOk result (λ r. (names present : List ℕ) → IsPresentOrder (sizes_of run.now) pes names present
-        → AreWithin run.now.loads names (limit_of (reordering_least r.decided) tolerance) present → reordering_moved r.decided ≡ 0) }
-    ensures places { IfOk result (λ r. (i : ℕ) → i < length (sizes_of run.now) → HasPlaceBelow pes (reordering_cuts r.decided) (reordering_names r.decided) i) }
-    ensures bounded { IfOk result (λ r. ArePricesSmallInOrder (sizes_of run.now) r.decided) }
+        → AreWithin run.now.loads names (limit_of (least_load r) tolerance) present → refined_moved r ≡ 0) }
+    ensures places { IfOk result (λ r. (i : ℕ) → i < length (sizes_of run.now) → HasPlaceBelow pes (refined_cuts r) (refined_names r) i) }
+    ensures bounded { IfOk result (ArePricesSmallInOrder (sizes_of run.now)) }
     ensures asked { OnOk result (IsAsked run.now pes) }
     ensures small { OnOk result (AreSmall run.now.loads) }
     ensures fits { OnOk result (FitsSnapshot run.now pes) }
@@ -90,16 +80,12 @@ pub fn reorder_run<A: Allocator + Copy>(
         Ok(snapshot) => snapshot,
         Err(refused) => return Err(refused),
     };
-    let count = Pes::of(pes);
-    let Ok(decided) = refine_in_any_order(alloc, &snapshot, count, tolerance) else {
-        return Err(RefineError::Run(RunError::OutOfMemory));
-    };
-    let bottleneck = greatest_load(snapshot.loads(), pes, decided.cuts());
+    let decided = refine_in_any_order(alloc, &snapshot, Pes::of(pes), tolerance);
     drop(snapshot);
-    Ok(ReorderedRun {
-        decided,
-        bottleneck,
-    })
+    match decided {
+        Ok(decided) => Ok(decided),
+        Err(_) => Err(RefineError::Run(RunError::OutOfMemory)),
+    }
 }
 
 // Whether the lists of all three rooms have the lengths that this number of elements and `pes` PEs need.
@@ -184,36 +170,27 @@ pub fn reorder_into<A: Allocator + Copy>(
     if !has_reordered_room(room, standing, bounds, run.loads.len(), pes) {
         return Err(RefineError::Run(RunError::BadInput));
     }
-    let found = match reorder_run(alloc, run, pes, tolerance) {
-        Ok(found) => found,
+    let decided = match reorder_run(alloc, run, pes, tolerance) {
+        Ok(decided) => decided,
         Err(refused) => return Err(refused),
     };
-    let ReorderedRun {
-        decided,
-        bottleneck,
-    } = found;
-    match decided {
-        Reordering::InOrder(Refined::Planned(decision)) => Ok(in_order(write_planned(
-            decision, room, standing,
-        ))),
-        Reordering::InOrder(Refined::Near(kept)) => {
-            let Ok(flat) = flat_steps(alloc, kept.refinement.heights.as_slice()) else {
+    let Refined { decision, nearness } = decided;
+    match nearness {
+        Nearness::Planned => Ok(in_order(write_planned(decision, room, standing))),
+        Nearness::InOrder(proof) => {
+            let Ok(flat) = flat_steps(alloc, proof.heights.as_slice()) else {
                 return Err(RefineError::Run(RunError::OutOfMemory));
             };
-            Ok(in_order(write_near(kept, flat, room, standing)))
+            Ok(in_order(write_near(decision, proof, flat, room, standing)))
         }
-        Reordering::InAnyOrder(fewest) => {
-            let (any, free) = (
-                fewest.reordered.any.as_slice(),
-                fewest.reordered.free.as_slice(),
-            );
-            let Ok(flat) = flat_levels(alloc, any, free) else {
+        Nearness::InAnyOrder(proof) => {
+            let Ok(flat) = flat_levels(alloc, proof.any.as_slice(), proof.free.as_slice()) else {
                 return Err(RefineError::Run(RunError::OutOfMemory));
             };
-            let Ok(prices) = no_prices(alloc, pes as usize) else {
+            let Ok(decision) = priced(alloc, decision) else {
                 return Err(RefineError::Run(RunError::OutOfMemory));
             };
-            Ok(write_fewest(fewest, bottleneck, prices, flat, room, standing, bounds))
+            Ok(write_fewest(decision, proof, flat, room, standing, bounds))
         }
     }
 }
