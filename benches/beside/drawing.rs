@@ -1,4 +1,4 @@
-//! How the next event is drawn, as docs/RUNS.md says.
+//! How the next event is drawn, as crates/schedules/README.md says.
 
 /// SplitMix64 (Steele, Lea and Flood, OOPSLA 2014).
 struct Numbers {
