@@ -1,12 +1,12 @@
 -- What the arguments of a command line ask for, as clap reads them: `lb_sim [--procs P] [--tolerance T] [--keep-order]
--- [--any-order] [--check] [--json] FILE`.
+-- [--any-order] [--check] FILE`.
 use Rattle.std.specs.Prelude.{ℕ, ◌≡◌, ◌≤◌, List, [], ◌∷◌, ◌++◌, Option, None, Some, codes, pos}
 use Rattle.std.specs.Str.Parse.{IsNumeral, digits_value, without_leading_plus}
 use Rattle.clap.specs.Words.{App, Rule, Text, first_of, matches_of, one_of, with_rule}
 use Rattle.clap.specs.declared.builder.value_parser.ValueParser.TheVariants.{Signed}
 use Rattle.chare_index.specs.declared.limits.TheConstants.Limits.{PES}
 use Rattle.lb_replay.specs.declared.request.Clash.{Clash}
-use Rattle.lb_replay.specs.declared.request.Clash.TheVariants.{ProcsAndCheck, ToleranceAndCheck, KeepOrderAndCheck, KeepOrderAlone, AnyOrderAndCheck, AnyOrderAlone, KeepOrderAndAnyOrder, JsonAndTolerance, JsonAndCheck}
+use Rattle.lb_replay.specs.declared.request.Clash.TheVariants.{ProcsAndCheck, ToleranceAndCheck, KeepOrderAndCheck, KeepOrderAlone, AnyOrderAndCheck, AnyOrderAlone, KeepOrderAndAnyOrder}
 use Rattle.program_words.specs.Arguments.{file_rule, flag_rule, tolerance_rule, versioned, word_rule}
 
 -- a number of PEs in place of the dump's own
@@ -25,14 +25,10 @@ any_order_rule = flag_rule (codes "any-order")
 abbrev pub check_rule : Rule
 check_rule = flag_rule (codes "check")
 
--- another: the decision is to be printed as JSON
-abbrev pub json_rule : Rule
-json_rule = flag_rule (codes "json")
-
 -- the program with its arguments, to which clap adds those that ask for help and for the version
 abbrev pub program : App
 program =
-    with_rule (with_rule (with_rule (with_rule (with_rule (with_rule (with_rule (versioned (codes "lb_sim")) file_rule) procs_rule) tolerance_rule) keep_order_rule) any_order_rule) check_rule) json_rule
+    with_rule (with_rule (with_rule (with_rule (with_rule (with_rule (versioned (codes "lb_sim")) file_rule) procs_rule) tolerance_rule) keep_order_rule) any_order_rule) check_rule
 
 -- the argument that names the file
 abbrev pub file_in : List Text → Option Text
@@ -61,11 +57,8 @@ AsksKeepOrder words = one_of (codes "keep-order") (matches_of program words) ≡
 abbrev pub AsksAnyOrder : List Text → Type 0
 AsksAnyOrder words = one_of (codes "any-order") (matches_of program words) ≡ Some (codes "true")
 
-abbrev pub AsksJson : List Text → Type 0
-AsksJson words = one_of (codes "json") (matches_of program words) ≡ Some (codes "true")
-
 -- the line where a check is asked for, and also a number of PEs, a tolerance, an order that is kept or any order; or such an order
--- without a tolerance; or both with one; or JSON, and also a tolerance or a check
+-- without a tolerance; or both with one
 abbrev pub both_line : Clash → List ℕ
 both_line ProcsAndCheck = codes "lb_sim: --procs and --check: a decision is checked for its own number of PEs; leave one out" ++ 10 ∷ []
 both_line ToleranceAndCheck = codes "lb_sim: --tolerance and --check: a check decides nothing; leave one out" ++ 10 ∷ []
@@ -74,5 +67,3 @@ both_line KeepOrderAlone = codes "lb_sim: --keep-order without --tolerance: add 
 both_line AnyOrderAndCheck = codes "lb_sim: --any-order and --check: a check decides nothing; leave one out" ++ 10 ∷ []
 both_line AnyOrderAlone = codes "lb_sim: --any-order without --tolerance: add --tolerance T, or leave --any-order out" ++ 10 ∷ []
 both_line KeepOrderAndAnyOrder = codes "lb_sim: --keep-order and --any-order: the PEs keep their order, or may change it; leave one out" ++ 10 ∷ []
-both_line JsonAndTolerance = codes "lb_sim: --json and --tolerance: JSON is written of the least decision; leave one out" ++ 10 ∷ []
-both_line JsonAndCheck = codes "lb_sim: --json and --check: a check decides nothing; leave one out" ++ 10 ∷ []

@@ -6,7 +6,7 @@ use Rattle.lb_replay.specs.Simulation.{EndsReplay}
 use Rattle.lb_replay.specs.Verifying.{EndsCheck}
 use Rattle.lb_replay.specs.declared.ended.Ended.{Ended}
 use Rattle.lb_replay.specs.declared.request.Clash.{Clash}
-use Rattle.lb_replay.specs.declared.request.Clash.TheVariants.{ProcsAndCheck, ToleranceAndCheck, KeepOrderAndCheck, KeepOrderAlone, AnyOrderAndCheck, AnyOrderAlone, KeepOrderAndAnyOrder, JsonAndTolerance, JsonAndCheck}
+use Rattle.lb_replay.specs.declared.request.Clash.TheVariants.{ProcsAndCheck, ToleranceAndCheck, KeepOrderAndCheck, KeepOrderAlone, AnyOrderAndCheck, AnyOrderAlone, KeepOrderAndAnyOrder}
 use Rattle.lb_replay.specs.declared.request.Task.{Task}
 use Rattle.lb_replay.specs.declared.request.Task.TheVariants.{Replay, Refine, RefineInOrder, RefineInAnyOrder, Check}
 use Rattle.lb_replay.specs.declared.way.Way.TheVariants.{Least, Within, InOrder, InAnyOrder}
@@ -34,13 +34,6 @@ check_of None None false false = Ok Check
 abbrev pub task_of : Option ℕ → Option ℕ → Bool → Bool → Bool → Result Task Clash
 task_of procs tolerance keep_order any_order false = replay_of procs tolerance keep_order any_order
 task_of procs tolerance keep_order any_order true = check_of procs tolerance keep_order any_order
-
--- JSON is written of the least decision, so it cannot be combined with a tolerance, nor with a check
-abbrev pub clash_of_json : Bool → Option ℕ → Bool → Option Clash
-clash_of_json false tolerance check = None
-clash_of_json true (Some tolerance) check = Some JsonAndTolerance
-clash_of_json true None true = Some JsonAndCheck
-clash_of_json true None false = None
 
 -- a number of PEs that a replay is asked for is 1 to 256
 abbrev pub MayRun : Task → Type 0

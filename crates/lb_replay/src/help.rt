@@ -18,8 +18,6 @@ Example: lb_sim three-elements.lbd1 prints
   moved 10
 lb_sim --check three-elements.lbd2 prints
   check: ok
-lb_sim --json prints the decision as tezgumi.json_of of Python does, but for a
-check
 
 bottleneck B              the greatest load of a block, the least there can be
 fence S0 S1 ..            proves that: from each stop to the next, both

@@ -52,7 +52,7 @@ mod words;
 pub use ended::Ended;
 pub use fault::dump_advice;
 pub use request::{Asked, Clash, Task, run};
-pub use simulation::{replay_file, report_dump, simulate, simulate_by, simulate_logged};
+pub use simulation::{replay_file, simulate, simulate_by, simulate_logged};
 pub use verifying::{verify, verify_file, verify_logged};
 pub use way::Way;
 pub use words::{asked, refuse_both};

@@ -2,7 +2,7 @@
 
 ghost use Rattle.std.specs.Option.{ForSome};
 ghost use Rattle.std.specs.Prelude.{◌≡◌, ◌≤◌, ℕ, List, Option, Some, IfOk, IfErr, IfSome};
-ghost use Rattle.lb_replay.specs.Requests.{EndsTask, MayRun, check_of, clash_of_json, task_of};
+ghost use Rattle.lb_replay.specs.Requests.{EndsTask, MayRun, check_of, task_of};
 ghost use Rattle.lb_replay.specs.Simulation.{ReportsUnread};
 
 use crate::ended::Ended;
@@ -29,8 +29,6 @@ pub struct Asked<'a> {
     pub any_order: bool,
     /// Whether the recorded decision is to be checked.
     pub check: bool,
-    /// Whether the decision is to be printed as a line of JSON.
-    pub json: bool,
 }
 
 /// What is to be done with a dump.
@@ -65,10 +63,6 @@ pub enum Clash {
     AnyOrderAlone,
     /// An order that is to be kept, and any order.
     KeepOrderAndAnyOrder,
-    /// JSON, which is written of the least decision, and a tolerance.
-    JsonAndTolerance,
-    /// JSON, and a check, which decides nothing.
-    JsonAndCheck,
 }
 
 impl Asked<'_> {
@@ -96,18 +90,6 @@ impl Asked<'_> {
             (procs, (Some(t), (true, false))) => Ok(Task::RefineInOrder(procs, t)),
             (procs, (Some(t), (false, true))) => Ok(Task::RefineInAnyOrder(procs, t)),
             (_, (Some(_), (true, true))) => Err(Clash::KeepOrderAndAnyOrder),
-        }
-    }
-
-    /// Why no JSON can be printed, where it is asked for.
-    pub fn clash_of_json(&self) -> Option<Clash>
-        ensures value { result ≡ clash_of_json self.now.json self.now.tolerance self.now.check }
-    {
-        match (self.json, (self.tolerance, self.check)) {
-            (false, _) => None,
-            (true, (Some(_), _)) => Some(Clash::JsonAndTolerance),
-            (true, (None, true)) => Some(Clash::JsonAndCheck),
-            (true, (None, false)) => None,
         }
     }
 

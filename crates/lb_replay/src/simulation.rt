@@ -5,7 +5,7 @@ ghost use Rattle.std.specs.Option.{ForSome};
 ghost use Rattle.std.specs.String.{string_bytes};
 ghost use Rattle.lb_strategy.specs.declared.error.PlanError.TheVariants.{OutOfMemory};
 ghost use Rattle.lb_replay.specs.Text.{fault_line};
-ghost use Rattle.lb_replay.specs.declared.fault.Fault.TheVariants.{Dump, Plan};
+ghost use Rattle.lb_replay.specs.declared.fault.Fault.TheVariants.{Plan};
 ghost use Rattle.lb_replay.specs.declared.way.Way.TheVariants.{Least};
 ghost use Rattle.lb_dump.specs.Reading.{ReaderHasFailed};
 ghost use Rattle.lb_replay.specs.Internal.{IsUnread, without_memory};
@@ -243,14 +243,6 @@ fn planned_text<A: Allocator + Copy, B: Allocator>(
         Ok(decision) => decision_text(alloc, snapshot, number, &decision),
         Err(fault) => Err(Fault::Plan(fault)),
     }
-}
-
-/// Writes the line of a fault of a dump, as a replay does, or the one for out of memory, or a prefix of it where the writer fails.
-pub fn report_dump<A: Allocator, W: Write>(alloc: A, writer: &mut W, fault: DumpError) -> Ended
-    ensures reported { ReportsFault (W.contents writer.old) (W.contents writer.new) (Dump fault) result
-        ⊎ ReportsFault (W.contents writer.old) (W.contents writer.new) (Dump DumpError.OutOfMemory) result }
-{
-    report(alloc, writer, Fault::Dump(fault), &mut CallLog::new())
 }
 
 /// Writes the line of a fault, or the one for out of memory.

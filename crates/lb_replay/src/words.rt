@@ -8,7 +8,7 @@ ghost use Rattle.clap.specs.Words.{FailsBy, app_of, fault_of, first_value, found
 ghost use Rattle.clap.specs.declared.builder.value_parser.ValueParser.TheVariants.{Signed};
 ghost use Rattle.program_words.specs.Arguments.{NamesFile, SpellsTolerance, file_rule, tolerance_rule};
 ghost use Rattle.streams.specs.Writing.{WritesPrefix};
-ghost use Rattle.lb_replay.specs.CommandLine.{AsksAnyOrder, AsksCheck, AsksJson, AsksKeepOrder, Spells, any_order_rule, both_line, check_rule, file_in, json_rule, keep_order_rule, procs_in, procs_rule};
+ghost use Rattle.lb_replay.specs.CommandLine.{AsksAnyOrder, AsksCheck, AsksKeepOrder, Spells, any_order_rule, both_line, check_rule, file_in, keep_order_rule, procs_in, procs_rule};
 ghost use Rattle.lb_replay.specs.CommandLine.{program, tolerance_in};
 
 use crate::help::{ABOUT, HOW_TO};
@@ -49,13 +49,6 @@ const ANY_ORDER_ALONE: &str =
 const KEEP_ORDER_AND_ANY_ORDER: &str =
     "lb_sim: --keep-order and --any-order: the PEs keep their order, or may change it; leave one out\n";
 
-/// What is printed where both JSON and a tolerance are asked for.
-const JSON_AND_TOLERANCE: &str =
-    "lb_sim: --json and --tolerance: JSON is written of the least decision; leave one out\n";
-
-/// What is printed where both JSON and a check are asked for.
-const JSON_AND_CHECK: &str = "lb_sim: --json and --check: a check decides nothing; leave one out\n";
-
 /// Writes which two options cannot be combined, or which one needs another, and returns the status for that, [`NO_WORDS`].
 pub fn refuse_both<W: Write>(writer: &mut W, clash: Clash) -> u8
     ensures told { WritesPrefix (W.contents writer.old) (W.contents writer.new) (both_line clash) }
@@ -77,8 +70,6 @@ fn line_of(clash: Clash) -> &'static str
         Clash::AnyOrderAndCheck => ANY_ORDER_AND_CHECK,
         Clash::AnyOrderAlone => ANY_ORDER_ALONE,
         Clash::KeepOrderAndAnyOrder => KEEP_ORDER_AND_ANY_ORDER,
-        Clash::JsonAndTolerance => JSON_AND_TOLERANCE,
-        Clash::JsonAndCheck => JSON_AND_CHECK,
     }
 }
 
@@ -86,7 +77,7 @@ fn line_of(clash: Clash) -> &'static str
 ///
 /// # Errors
 ///
-/// The arguments are not `[--procs P] [--tolerance T] [--keep-order] [--any-order] [--check] [--json] FILE` with a P of 1 to 256
+/// The arguments are not `[--procs P] [--tolerance T] [--keep-order] [--any-order] [--check] FILE` with a P of 1 to 256
 /// (`Limits::PES`) and a T of 0 to 1,000 (`Tolerance::MOST`), help or the version is asked for, or memory ran out. The error has
 /// the text to print; [`words_status`] is the status for it. Arguments that ask for a check and also for another of these, for an
 /// order that is kept or any order and for no tolerance, or for both orders, are no error here: [`Asked::task`] returns the
@@ -99,7 +90,6 @@ pub fn asked<'a>(alloc: Global, words: &'a [&'a str]) -> Result<Asked<'a>, Error
     ensures keep_order { IfOk result (λ asked. IsTrue asked.keep_order ↔ AsksKeepOrder (texts words.now)) }
     ensures any_order { IfOk result (λ asked. IsTrue asked.any_order ↔ AsksAnyOrder (texts words.now)) }
     ensures check { IfOk result (λ asked. IsTrue asked.check ↔ AsksCheck (texts words.now)) }
-    ensures json { IfOk result (λ asked. IsTrue asked.json ↔ AsksJson (texts words.now)) }
     ensures some_pe { IfOk result (λ asked. ForSome asked.procs (λ p. 1 ≤ p)) }
     ensures few_pes { IfOk result (λ asked. ForSome asked.procs (λ p. p ≤ Limits.PES)) }
 {
@@ -109,7 +99,7 @@ pub fn asked<'a>(alloc: Global, words: &'a [&'a str]) -> Result<Asked<'a>, Error
     }
 }
 
-// The arguments that are understood: `lb_sim [--procs P] [--tolerance T] [--keep-order] [--any-order] [--check] [--json] FILE`, and those for
+// The arguments that are understood: `lb_sim [--procs P] [--tolerance T] [--keep-order] [--any-order] [--check] FILE`, and those for
 // help and for the version, which clap adds.
 fn command<'a>(alloc: Global) -> Result<Command<'a>, AllocError>
     ensures program { IfOk result (λ command. app_of command ≡ program) }
@@ -121,8 +111,7 @@ fn command<'a>(alloc: Global) -> Result<Command<'a>, AllocError>
     let command = command.arg(tolerance(alloc))?;
     let command = command.arg(keep_order(alloc))?;
     let command = command.arg(any_order(alloc))?;
-    let command = command.arg(check(alloc))?;
-    command.arg(json(alloc))
+    command.arg(check(alloc))
 }
 
 fn file<'a>(alloc: Global) -> Arg<'a>
@@ -194,19 +183,6 @@ fn check<'a>(alloc: Global) -> Arg<'a>
     )
 }
 
-fn json<'a>(alloc: Global) -> Arg<'a>
-    ensures rule { rule_of result ≡ json_rule }
-    ensures fits { FitsChain result }
-{
-    flag(
-        alloc,
-        "json",
-        "Prints the decision as a line of JSON, with its{n}\
-         cuts, names and certificates. It goes with{n}\
-         --procs alone",
-    )
-}
-
 // A number of PEs.
 fn number_of_pes<'a>() -> ValueParser<'a>
     ensures { result ≡ Signed (pos 1) (pos Limits.PES) }
@@ -223,7 +199,6 @@ fn found<'a>(matches: &ArgMatches<'a>) -> Asked<'a>
     ensures keep_order { IsTrue result.keep_order ↔ (one_text (found_of matches.now) (codes "keep-order") ≡ Some (codes "true")) }
     ensures any_order { IsTrue result.any_order ↔ (one_text (found_of matches.now) (codes "any-order") ≡ Some (codes "true")) }
     ensures check { IsTrue result.check ↔ (one_text (found_of matches.now) (codes "check") ≡ Some (codes "true")) }
-    ensures json { IsTrue result.json ↔ (one_text (found_of matches.now) (codes "json") ≡ Some (codes "true")) }
     ensures some_pe { ForSome result.procs (λ p. 1 ≤ p) }
     ensures few_pes { ForSome result.procs (λ p. p ≤ Limits.PES) }
 {
@@ -234,7 +209,6 @@ fn found<'a>(matches: &ArgMatches<'a>) -> Asked<'a>
         keep_order: matches.get_one("keep-order") == Some(true),
         any_order: matches.get_one("any-order") == Some(true),
         check: matches.get_one("check") == Some(true),
-        json: matches.get_one("json") == Some(true),
     }
 }
 

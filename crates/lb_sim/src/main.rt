@@ -1,8 +1,8 @@
-//! `lb_sim [--procs P] [--tolerance T] [--keep-order] [--any-order] [--check] [--json] FILE` replays a dump of the load database offline: it
+//! `lb_sim [--procs P] [--tolerance T] [--keep-order] [--any-order] [--check] FILE` replays a dump of the load database offline: it
 //! prints the least division of the elements into consecutive blocks, with the fence that proves it, the PE of each block and the
 //! bytes that move. With `--tolerance` the blocks may weigh up to a limit above the least load, and fewer bytes move; with
 //! `--keep-order` the PEs then keep their order, and with `--any-order` they may change it, so that the fewest bytes move. With
-//! `--check` it prints instead whether the decision in the dump is right, and with `--json` the decision as a line of JSON.
+//! `--check` it prints instead whether the decision in the dump is right.
 //!
 //! - `program_words::on_words`: the arguments of the command line, and the status. `lb_replay::asked`: what the
 //!   arguments ask for; `program_words::refused`: the status where they ask for nothing to be done.
@@ -17,7 +17,6 @@ ghost use Rattle.std.specs.Prelude.{◌≤◌};
 ghost use Rattle.std.specs.Option.{ForSome};
 
 use chare_index::Limits;
-use decision_json::replay_json;
 use dump_format::DumpError;
 use dump_lengths::{HeadWitness, said_of_end};
 use lb_replay::{Asked, Ended, Task, asked, dump_advice, refuse_both, run};
@@ -47,34 +46,24 @@ fn do_task(rt: &HostRuntime, asked: &Asked<'_>) -> u8
     requires some_pe { ForSome asked.now.procs (λ p. 1 ≤ p) }
     requires few_pes { ForSome asked.now.procs (λ p. p ≤ Limits.PES) }
 {
-    let task = match asked.task() {
-        Ok(task) => task,
-        Err(clash) => return refuse_both(&mut rt.stderr(), clash),
-    };
-    if let Some(clash) = asked.clash_of_json() {
-        return refuse_both(&mut rt.stderr(), clash);
+    match asked.task() {
+        Ok(task) => run_task(rt, asked.file, task),
+        Err(clash) => refuse_both(&mut rt.stderr(), clash),
     }
-    run_task(rt, asked, task)
 }
 
 // Opens the file, or the standard input for `-`, does the task to the standard output, and returns the status. Where a read failed or the
 // file has no whole dump, the file's name, the system's reason, and what to do are printed to the standard error; and where the
 // standard output did not take the text, that.
-fn run_task(rt: &HostRuntime, asked: &Asked<'_>, task: Task) -> u8
-    requires task { MayRun task }
-    requires some_pe { ForSome asked.now.procs (λ p. 1 ≤ p) }
-    requires few_pes { ForSome asked.now.procs (λ p. p ≤ Limits.PES) }
+fn run_task(rt: &HostRuntime, name: &str, task: Task) -> u8
+    requires { MayRun task }
 {
     let mut head = HeadWitness::new();
-    let file = open_watched(rt, asked.file, &mut head);
+    let file = open_watched(rt, name, &mut head);
     let mut output = Noted::new(io::writer(rt));
-    let (ended, reason) = if asked.json {
-        replay_json(rt.alloc(), file, &mut output, asked.procs)
-    } else {
-        run(rt.alloc(), task, file, &mut output)
-    };
+    let (ended, reason) = run(rt.alloc(), task, file, &mut output);
     tell_output(rt, output.failure());
-    tell_file(rt, asked.file, &head, ended, reason);
+    tell_file(rt, name, &head, ended, reason);
     ended.status()
 }
 

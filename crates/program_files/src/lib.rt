@@ -8,6 +8,7 @@
 //! use program_files::{Watched, Witness};
 //! use std::io::Read;
 //!
+//! #[derive(Clone, Copy)]
 //! struct Lines(u32);
 //!
 //! impl Witness for Lines {

@@ -25,7 +25,7 @@ fn is_row(asked: &Asked<'_>, row: &Asking) -> bool {
         && asked.procs == procs
         && asked.tolerance.map(Tolerance::get) == thousandths
         && (asked.keep_order, asked.any_order, asked.check) == flags
-        && asked.task().err().or(asked.clash_of_json()) == clash
+        && asked.task().err() == clash
 }
 
 // Whether the arguments of a row ask for it.
@@ -38,31 +38,7 @@ fn is_asked(alloc: Global, row: &Asking) -> bool {
 
 const PLAIN: (bool, bool, bool) = (false, false, false);
 
-static ASKING: [Asking; 21] = [
-    (
-        &["lb_sim", "--json", "--procs", "3", "f"],
-        "f",
-        Some(3),
-        None,
-        PLAIN,
-        None,
-    ),
-    (
-        &["lb_sim", "--json", "--tolerance", "5", "f"],
-        "f",
-        None,
-        Some(5),
-        PLAIN,
-        Some(Clash::JsonAndTolerance),
-    ),
-    (
-        &["lb_sim", "--check", "--json", "f"],
-        "f",
-        None,
-        None,
-        (false, false, true),
-        Some(Clash::JsonAndCheck),
-    ),
+static ASKING: [Asking; 18] = [
     (&["lb_sim", "f"], "f", None, None, PLAIN, None),
     (
         &["lb_sim", "--procs", "2", "f"],
@@ -256,15 +232,7 @@ fn is_told(rt: &impl AllocGlobal, clash: Clash, line: &str) -> bool {
     right
 }
 
-static CLASHES: [(Clash, &str); 9] = [
-    (
-        Clash::JsonAndTolerance,
-        "lb_sim: --json and --tolerance: JSON is written of the least decision; leave one out\n",
-    ),
-    (
-        Clash::JsonAndCheck,
-        "lb_sim: --json and --check: a check decides nothing; leave one out\n",
-    ),
+static CLASHES: [(Clash, &str); 7] = [
     (
         Clash::ProcsAndCheck,
         "lb_sim: --procs and --check: a decision is checked for its own number of PEs; leave one out\n",

@@ -36,11 +36,6 @@ returns-in-Ok-clause-check c =
     let rows = found_by program _ (texts c.args.words.now) c.in-Ok.matches simple c.in_ok-command.ensures.program c.in-Ok.ensures.matches in
     by_word _ (λ word. word ≡ Some (codes "true")) _ _ (one_word program (texts c.args.words.now) c.in-Ok.matches (codes "check") rows) c.found.ensures.check
 
-pub returns-in-Ok-clause-json : goal.returns-in-Ok-clause-json
-returns-in-Ok-clause-json c =
-    let rows = found_by program _ (texts c.args.words.now) c.in-Ok.matches simple c.in_ok-command.ensures.program c.in-Ok.ensures.matches in
-    by_word _ (λ word. word ≡ Some (codes "true")) _ _ (one_word program (texts c.args.words.now) c.in-Ok.matches (codes "json") rows) c.found.ensures.json
-
 pub returns-in-Ok-clause-keep_order : goal.returns-in-Ok-clause-keep_order
 returns-in-Ok-clause-keep_order c =
     let rows = found_by program _ (texts c.args.words.now) c.in-Ok.matches simple c.in_ok-command.ensures.program c.in-Ok.ensures.matches in

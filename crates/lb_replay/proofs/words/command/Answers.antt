@@ -6,10 +6,10 @@ use Rattle.clap.specs.Words.{first_value, found_of}
 use Rattle.clap.proofs.CallerLemmas.{required_in_chain}
 use Rattle.program_words.proofs.Chains.{are_distinct, distinct_ids, ids_of, with_argument}
 use Rattle.program_words.specs.Arguments.{file_rule, tolerance_rule, versioned}
-use Rattle.lb_replay.specs.CommandLine.{any_order_rule, check_rule, json_rule, keep_order_rule, procs_rule}
+use Rattle.lb_replay.specs.CommandLine.{any_order_rule, check_rule, keep_order_rule, procs_rule}
 use Rattle.lb_replay.proofs.words.command.Goals as goal
 
-distinct : are_distinct (codes "file" ∷ codes "procs" ∷ codes "tolerance" ∷ codes "keep-order" ∷ codes "any-order" ∷ codes "check" ∷ codes "json" ∷ []) ≡ true
+distinct : are_distinct (codes "file" ∷ codes "procs" ∷ codes "tolerance" ∷ codes "keep-order" ∷ codes "any-order" ∷ codes "check" ∷ []) ≡ true
 distinct = refl
 
 pub returns-clause-program : goal.returns-clause-program
@@ -21,13 +21,12 @@ returns-clause-program c =
     let four = with_argument _ c.in_ok-command-4.command c.keep_order.result _ keep_order_rule three c.in_ok-command-4.ensures
     c.keep_order.ensures.fits c.keep_order.ensures.rule in
     let five = with_argument _ c.in_ok-command-5.command c.any_order.result _ any_order_rule four c.in_ok-command-5.ensures c.any_order.ensures.fits c.any_order.ensures.rule in
-    let six = with_argument _ c.in_ok-command-6.command c.check.result _ check_rule five c.in_ok-command-6.ensures c.check.ensures.fits c.check.ensures.rule in
-    IfOk-weaker c.arg-7.result _ _ (λ command added.
-    with_argument _ command c.json.result _ json_rule six added c.json.ensures.fits c.json.ensures.rule) c.arg-7.ensures
+    IfOk-weaker c.arg-6.result _ _ (λ command added.
+    with_argument _ command c.check.result _ check_rule five added c.check.ensures.fits c.check.ensures.rule) c.arg-6.ensures
 
 pub returns-clause-named : goal.returns-clause-named
 returns-clause-named c =
-    let chain = c.file.result ∷ c.procs.result ∷ c.tolerance.result ∷ c.keep_order.result ∷ c.any_order.result ∷ c.check.result ∷ c.json.result ∷ [] in
+    let chain = c.file.result ∷ c.procs.result ∷ c.tolerance.result ∷ c.keep_order.result ∷ c.any_order.result ∷ c.check.result ∷ [] in
     let named : are_distinct (ids_of chain) ≡ true = rw (
       ap (λ r. r.id) c.file.ensures.rule,
       ap (λ r. r.id) c.procs.ensures.rule,
@@ -35,14 +34,13 @@ returns-clause-named c =
       ap (λ r. r.id) c.keep_order.ensures.rule,
       ap (λ r. r.id) c.any_order.ensures.rule,
       ap (λ r. r.id) c.check.ensures.rule,
-      ap (λ r. r.id) c.json.ensures.rule,
     ) distinct in
     let all = All-from_recursion FitsChain chain (
       c.file.ensures.fits,
-      (c.procs.ensures.fits, (c.tolerance.ensures.fits, (c.keep_order.ensures.fits, (c.any_order.ensures.fits, (c.check.ensures.fits, (c.json.ensures.fits, tt)))))),
+      (c.procs.ensures.fits, (c.tolerance.ensures.fits, (c.keep_order.ensures.fits, (c.any_order.ensures.fits, (c.check.ensures.fits, tt))))),
     ) in
     let bare = c.new_program-command.ensures.bare in
-    IfOk-weaker c.arg-7.result _ _ (λ command added m parsed.
+    IfOk-weaker c.arg-6.result _ _ (λ command added m parsed.
     subst (λ id. is_some (first_value (found_of m) id) ≡ true) (ap (λ r. r.id) c.file.ensures.rule)
     (required_in_chain c.new_program-command.result command chain 0 c.file.result m (
       c.in_ok-command.command,
@@ -53,16 +51,8 @@ returns-clause-named c =
         (
           c.in_ok-command-3.command,
           c.in_ok-command-3.ensures,
-          (
-            c.in_ok-command-4.command,
-            c.in_ok-command-4.ensures,
-            (
-              c.in_ok-command-5.command,
-              c.in_ok-command-5.ensures,
-              (c.in_ok-command-6.command, c.in_ok-command-6.ensures, (command, added, refl)),
-            ),
-          ),
+          (c.in_ok-command-4.command, c.in_ok-command-4.ensures, (c.in_ok-command-5.command, c.in_ok-command-5.ensures, (command, added, refl))),
         ),
       ),
     )
-    bare.args bare.groups bare.globals bare.negates all (distinct_ids chain named) (omega arith) c.file.ensures.takes parsed)) c.arg-7.ensures
+    bare.args bare.groups bare.globals bare.negates all (distinct_ids chain named) (omega arith) c.file.ensures.takes parsed)) c.arg-6.ensures
