@@ -15,13 +15,15 @@ use Rattle.lb_certificates.specs.declared.division.Floor.{Floor}
 use Rattle.lb_certificates.specs.declared.division.Floor.TheVariants.{Zero, Fence}
 use Rattle.lb_database.specs.Measuring.{elements}
 use Rattle.lb_refinement.specs.declared.refined.Refined.{Refined}
-use Rattle.lb_refinement.specs.declared.refined.Refined.TheVariants.{Near, Planned}
+use Rattle.lb_refinement.specs.Refined.{as_planned}
+use Rattle.lb_refinement.specs.declared.nearness.Nearness.{Nearness}
+use Rattle.lb_refinement.specs.declared.nearness.Nearness.TheVariants.{Planned, InOrder, InAnyOrder}
 use Rattle.lb_snapshot.specs.Measured.{Taken}
 use Rattle.lb_strategy.specs.Decisions.{IsRight}
 use Rattle.lb_strategy.specs.Moves.{is_move, move_of, moves_below}
 use Rattle.lb_strategy.specs.declared.decision.Decision.{Decision}
 use Rattle.std_heap.specs.declared.Global.{Global}
-use Rattle.board_handle.specs.Dumps.{recorded_of}
+use Rattle.board_handle.specs.Dumps.{recorded_by, recorded_of}
 use Rattle.board_handle.specs.Owning.{BoardView}
 
 -- no more elements move than there are, and each that moves is one
@@ -44,12 +46,12 @@ stop_count loads blocks bottleneck Zero holds = tt
 stop_count loads blocks bottleneck (Fence stops) holds = holds.counted
 
 right_of : (strategy : Strategy) (loads : List ℕ) (sizes : List (ℕ × ℕ)) (pes : ℕ) (d : Decision Global)
-    → IsDecidedBy strategy loads sizes pes (Planned d) → IsRight loads sizes pes d
+    → IsDecidedBy strategy loads sizes pes (as_planned d) → IsRight loads sizes pes d
 right_of Least loads sizes pes d decided = decided.right
 right_of (Refine tolerance) loads sizes pes d decided = decided.0.right
 
 recorded : (b : BoardView) (round : ℕ) (s : Taken) (d : Decision Global) → IsBoard b → length s.loads ≡ length s.sizes
-    → IsDecided (elements b.database) b.pes b.strategy round (s, Planned d) → IsRecorded (length s.loads) (record { target = s.procs; decision = d })
+    → IsDecided (elements b.database) b.pes b.strategy round (s, as_planned d) → IsRecorded (length s.loads) (record { target = s.procs; decision = d })
 recorded b round s d board paired decided =
     let right = right_of b.strategy s.loads s.sizes b.pes d decided.by_strategy in
     let few : length (moves_below s.sizes d.division.cuts d.naming (length s.sizes)) ≤ length s.sizes = few_moves s.sizes d.division.cuts d.naming (length s.sizes) in
@@ -69,12 +71,13 @@ recorded b round s d board paired decided =
           (subst (λ moves. All (λ move. move.0 < length s.sizes) moves) (sym right.moves) (moved_elements s.sizes d.division.cuts d.naming (length s.sizes)));
     }
 
-may : (b : BoardView) (round : ℕ) (s : Taken) (d : Refined Global) → IsBoard b → length s.loads ≡ length s.sizes
-    → IsDecided (elements b.database) b.pes b.strategy round (s, d) → MayRecord (length s.loads) (recorded_of s d)
-may b round s (Planned d) board paired decided = recorded b round s d board paired decided
-may b round s (Near k) board paired decided = tt
+may : (b : BoardView) (round : ℕ) (s : Taken) (d : Decision Global) (n : Nearness Global) → IsBoard b → length s.loads ≡ length s.sizes
+    → IsDecided (elements b.database) b.pes b.strategy round (s, record { decision = d; nearness = n }) → MayRecord (length s.loads) (recorded_by s d n)
+may b round s d Planned board paired decided = recorded b round s d board paired decided
+may b round s d (InOrder p) board paired decided = tt
+may b round s d (InAnyOrder p) board paired decided = tt
 
 pub may_record : (b : BoardView) (round : ℕ) (kept : Kept Global) → IsBoard b → kept_of b.rounds round ≡ Some kept → length kept.0.loads ≡ length kept.0.sizes
     → MayRecord (length kept.0.loads) (recorded_of kept.0 kept.1)
 may_record b round kept board is paired =
-    may b round kept.0 kept.1 board paired (subst (λ k. IfSome k (IsDecided (elements b.database) b.pes b.strategy round)) is (board.decided round))
+    may b round kept.0 kept.1.decision kept.1.nearness board paired (subst (λ k. IfSome k (IsDecided (elements b.database) b.pes b.strategy round)) is (board.decided round))

@@ -9,7 +9,7 @@ use crate::handle::BoardHandle;
 use crate::reading::round_of;
 use dump_format::{Dump, Recorded};
 use dump_writing::encode_dump;
-use lb_refinement::Refined;
+use lb_refinement::{Nearness, Refined};
 use lb_snapshot::Snapshot;
 use std::alloc::{AllocError, Global};
 use sync_board::Board;
@@ -65,11 +65,12 @@ fn dump_of(alloc: Global, board: &Board, round: u32) -> Result<Vec<u8>, HandleEr
 fn recorded_of(snapshot: &Snapshot, decision: &Refined) -> Result<Option<Recorded>, AllocError>
     ensures recorded { IfOk result (λ recorded. recorded ≡ recorded_of snapshot.now decision.now) }
 {
-    let Refined::Planned(plan) = decision else {
-        return Ok(None);
-    };
-    Ok(Some(Recorded {
-        target: snapshot.procs(),
-        decision: plan.clone()?,
-    }))
+    match decision.nearness {
+        Nearness::Planned => Ok(Some(Recorded {
+            target: snapshot.procs(),
+            decision: decision.decision.clone()?,
+        })),
+        Nearness::InOrder(_) => Ok(None),
+        Nearness::InAnyOrder(_) => Ok(None),
+    }
 }

@@ -6,7 +6,7 @@ use crate::fixtures::{assert_for, pe, round};
 use at_sync::{Board, BoardError, Strategy};
 use chain_refinement::Tolerance;
 use chare_index::{Limits, Round};
-use lb_refinement::Refined;
+use lb_refinement::Nearness;
 use lb_snapshot::Units;
 use row_fixtures::{CountingGate, MeetingGate};
 use std::process::Abort;
@@ -212,7 +212,7 @@ fn is_decided_so<R: Threads + Sync + Abort + AllocGlobal>(rt: &R, row: &Decided)
     };
     let right = match board.decision_for(round(rt, 1)) {
         Some(decision) => {
-            matches!(decision, Refined::Near(_)) == *near
+            matches!(decision.nearness, Nearness::InOrder(_)) == *near
                 && decision.least().bottleneck == 6
                 && decision.bottleneck() == *bottleneck
                 && decision.moved() == *moved

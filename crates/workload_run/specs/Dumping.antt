@@ -3,7 +3,9 @@ use Rattle.std.specs.Prelude.{◌≡◌, ◌⊎◌, ℕ, List, [], ◌∷◌, �
 use Rattle.std.specs.Fmt.{decimal}
 use Rattle.lb_snapshot.specs.Measured.{Taken}
 use Rattle.lb_refinement.specs.declared.refined.Refined.{Refined}
-use Rattle.lb_refinement.specs.declared.refined.Refined.TheVariants.{Near, Planned}
+use Rattle.lb_refinement.specs.declared.nearness.Nearness.{Nearness}
+use Rattle.lb_refinement.specs.declared.nearness.Nearness.TheVariants.{Planned}
+use Rattle.lb_strategy.specs.declared.decision.Decision.{Decision}
 use Rattle.dump_format.specs.Dumps.{Dumped}
 use Rattle.dump_format.specs.Text.{IsLbd1, IsLbd2}
 use Rattle.dump_format.specs.declared.error.DumpError.{DumpError}
@@ -16,9 +18,12 @@ use Rattle.workload_run.specs.declared.round_dump.DumpFormat.TheVariants.{Lbd1, 
 use Rattle.workload_run.specs.declared.dumps.NotWritten.{NotWritten}
 
 -- what is recorded of a decision: a plan, on as many PEs as the snapshot has. A dump cannot hold cuts within a tolerance.
+abbrev pub recorded_by : {A : Type 0} → Taken → Decision A → Nearness A → Option (Recorded A)
+recorded_by s d Planned = Some (record { target = s.procs; decision = d })
+recorded_by s d nearness = None
+
 abbrev pub recorded_of : {A : Type 0} → Taken → Refined A → Option (Recorded A)
-recorded_of s (Planned d) = Some (record { target = s.procs; decision = d })
-recorded_of s (Near k) = None
+recorded_of s r = recorded_by s r.decision r.nearness
 
 -- a round with what is recorded of its decision
 abbrev pub recorded : {A : Type 0} → Taken → Refined A → Dumped A

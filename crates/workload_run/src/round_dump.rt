@@ -6,7 +6,7 @@ ghost use Rattle.workload_run.specs.Dumping.{MayFail, PutsRound, recorded, recor
 
 use dump_format::{Dump, DumpError, Recorded};
 use dump_writing::{write_dump, write_to};
-use lb_refinement::Refined;
+use lb_refinement::{Nearness, Refined};
 use lb_snapshot::Snapshot;
 use std::alloc::{AllocError, Allocator};
 use std::io::Write;
@@ -86,11 +86,12 @@ fn recorded_of<A: Allocator + Copy>(
 ) -> Result<Option<Recorded<A>>, AllocError>
     ensures recorded { IfOk result (λ recorded. recorded ≡ recorded_of snapshot.now decision.now) }
 {
-    let Refined::Planned(plan) = decision else {
-        return Ok(None);
-    };
-    Ok(Some(Recorded {
-        target: snapshot.procs(),
-        decision: plan.clone()?,
-    }))
+    match decision.nearness {
+        Nearness::Planned => Ok(Some(Recorded {
+            target: snapshot.procs(),
+            decision: decision.decision.clone()?,
+        })),
+        Nearness::InOrder(_) => Ok(None),
+        Nearness::InAnyOrder(_) => Ok(None),
+    }
 }
