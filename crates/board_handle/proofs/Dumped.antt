@@ -14,7 +14,6 @@ use Rattle.lb_certificates.specs.Naming.{blocks_between}
 use Rattle.lb_certificates.specs.declared.division.Floor.{Floor}
 use Rattle.lb_certificates.specs.declared.division.Floor.TheVariants.{Zero, Fence}
 use Rattle.lb_database.specs.Measuring.{elements}
-use Rattle.lb_refinement.specs.declared.refined.Refined.{Refined}
 use Rattle.lb_refinement.specs.Refined.{as_planned}
 use Rattle.lb_refinement.specs.declared.nearness.Nearness.{Nearness}
 use Rattle.lb_refinement.specs.declared.nearness.Nearness.TheVariants.{Planned, InOrder, InAnyOrder}
