@@ -5,9 +5,8 @@ use Rattle.dump_format.specs.Dumps.{Dumped}
 use Rattle.dump_format.specs.declared.recorded.Recorded.{Recorded}
 use Rattle.dump_format.proofs.OneText.{one_dump}
 use Rattle.lb_certificates.specs.declared.division.Division.{Division}
-use Rattle.lb_refinement.specs.Refined.{AreSame, refined_cuts, refined_least, refined_moved, refined_moves, refined_names, refined_prices}
+use Rattle.lb_refinement.specs.Refined.{AreSame, as_planned, refined_cuts, refined_least, refined_moved, refined_moves, refined_names, refined_prices}
 use Rattle.lb_refinement.specs.declared.refined.Refined.{Refined}
-use Rattle.lb_refinement.specs.declared.refined.Refined.TheVariants.{Planned}
 use Rattle.lb_refinement.proofs.OneRefined.{one_refined}
 use Rattle.lb_replay.proofs.RefinedTexts.{chosen_from_refined}
 use Rattle.lb_snapshot.specs.Measured.{Taken}
@@ -48,7 +47,7 @@ module _ (A : Type 0) (style : Style) (name : List ℕ) (s : Taken) where
 
   -- a decision within a tolerance with other parts, except for those that no text depends on
   abbrev refined_with : Refined A → ℕ → List (ℕ × ℕ × ℕ) → List ℕ → List ℕ → Refined A
-  refined_with r least moves cuts names = Planned (record {
+  refined_with r least moves cuts names = as_planned (record {
     division = record { bottleneck = least; cuts = cuts; floor = (refined_least r).floor };
     naming = names;
     prices = refined_prices r;

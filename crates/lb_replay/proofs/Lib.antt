@@ -3,8 +3,6 @@ pub mod Endings
 pub mod OneEnds
 pub mod OneFlaws
 pub mod OneTexts
-pub mod OrderedTexts
 pub mod PeLines
 pub mod RefinedTexts
-pub mod ReorderedTexts
 pub mod RightTexts

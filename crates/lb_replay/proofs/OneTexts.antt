@@ -1,11 +1,10 @@
 -- What is printed is a function of the bytes read, the number of PEs and the way in which it is decided.
-use Rattle.std.proofs.Common.{◌≡◌, ℕ, List, ◌++◌, length, Option, Some, ap, sym, ◌∙◌, subst}
+use Rattle.std.proofs.Common.{◌≡◌, ℕ, List, [], ◌++◌, length, Option, Some, ap, sym, ◌∙◌, subst}
 use Rattle.chain_partition.proofs.ChosenOnce.{only_from_chosen}
 use Rattle.lb_certificates.specs.declared.division.Division.{Division}
 use Rattle.lb_snapshot.specs.Measured.{Taken}
 use Rattle.dump_format.specs.Dumps.{Dumped}
 use Rattle.dump_format.proofs.OneText.{one_dump}
-use Rattle.lb_refinement.specs.InOrder.{AreSameInOrder, ordered_least}
 use Rattle.lb_refinement.specs.Refined.{AreSame, refined_least}
 use Rattle.lb_refinement.proofs.InOrderCases.{one_in_order}
 use Rattle.lb_refinement.proofs.OneRefined.{one_refined}
@@ -15,8 +14,7 @@ use Rattle.lb_replay.specs.Simulation.{blocks_of, HasOneText, IsDecided, IsInOrd
 use Rattle.lb_replay.specs.Text.{head_line, bottleneck_line, floor_line, block_lines, moved_line, decision_text, text_within}
 use Rattle.lb_replay.specs.declared.way.Way.{Way}
 use Rattle.lb_replay.specs.declared.way.Way.TheVariants.{Least, Within, InOrder, InAnyOrder}
-use Rattle.lb_replay.proofs.OrderedTexts.{chosen_from_ordered}
-use Rattle.lb_replay.proofs.RefinedTexts.{chosen_from_refined}
+use Rattle.lb_replay.proofs.RefinedTexts.{chosen_from_ordered, chosen_from_refined}
 
 -- decisions that agree in what is printed have one text
 same_text : {A : Type 0} (s : Taken) (pes : ℕ) (d e : Decision A) → IsSame d e → decision_text s pes d ≡ decision_text s pes e
@@ -41,12 +39,12 @@ one_planned A s blocks text other this that =
 module _ {A : Type 0} (s : Taken) (pes tolerance : ℕ) where
   -- decisions within a tolerance that agree in what is printed have one text
   same_within : (least least' : Division A) (cuts cuts' names names' : List ℕ) (moved moved' : ℕ) → least ≡ least' → cuts ≡ cuts' → names ≡ names'
-      → moved ≡ moved' → text_within s pes tolerance least cuts names moved ≡ text_within s pes tolerance least' cuts' names' moved'
+      → moved ≡ moved' → text_within s pes tolerance [] least cuts names moved ≡ text_within s pes tolerance [] least' cuts' names' moved'
   same_within least least' cuts cuts' names names' moved moved' divided cut named moves =
-      ap (λ division. text_within s pes tolerance division cuts names moved) divided
-      ∙ ap (λ cuts. text_within s pes tolerance least' cuts names moved) cut
-      ∙ ap (λ names. text_within s pes tolerance least' cuts' names moved) named
-      ∙ ap (λ moved. text_within s pes tolerance least' cuts' names' moved) moves
+      ap (λ division. text_within s pes tolerance [] division cuts names moved) divided
+      ∙ ap (λ cuts. text_within s pes tolerance [] least' cuts names moved) cut
+      ∙ ap (λ names. text_within s pes tolerance [] least' cuts' names moved) named
+      ∙ ap (λ moved. text_within s pes tolerance [] least' cuts' names' moved) moves
 
   one_within : (text other : List ℕ) → IsWithin A s pes tolerance text → IsWithin A s pes tolerance other → text ≡ other
   one_within text other this that =
@@ -61,9 +59,9 @@ module _ {A : Type 0} (s : Taken) (pes tolerance : ℕ) where
   one_ordered text other this that =
       let chosen = chosen_from_ordered s.loads s.sizes pes tolerance that.decision that.refined in
       let also = chosen_from_ordered s.loads s.sizes pes tolerance this.decision this.refined in
-      let least : ordered_least this.decision ≡ ordered_least that.decision = only_from_chosen s.loads pes (ordered_least that.decision)
-      chosen (ordered_least this.decision) also in
-      let same : AreSameInOrder this.decision that.decision = one_in_order s.loads s.sizes pes tolerance this.decision that.decision this.refined that.refined in
+      let least : refined_least this.decision ≡ refined_least that.decision = only_from_chosen s.loads pes (refined_least that.decision)
+      chosen (refined_least this.decision) also in
+      let same : AreSame this.decision that.decision = one_in_order s.loads s.sizes pes tolerance this.decision that.decision this.refined that.refined in
       this.printed ∙ same_within _ _ _ _ _ _ _ _ least same.cuts same.names same.moved ∙ sym that.printed
 
 one_decided : (A : Type 0) (s : Taken) (blocks : ℕ) (way : Way) (text other : List ℕ) → HasOneText way → IsDecided A s blocks way text

@@ -1,5 +1,5 @@
 -- How a replay of a dump ends, and what its writer has then.
-use Rattle.std.specs.Prelude.{◌≡◌, ℕ, ◌≤◌, ◌⊎◌, List, Option, IfSome, unwrap_or}
+use Rattle.std.specs.Prelude.{◌≡◌, ℕ, ◌≤◌, ◌⊎◌, true, false, List, Option, IfSome, unwrap_or}
 use Rattle.std.specs.Io.KnownBytes.{Appends, Consumes, IsAtEnd}
 use Rattle.lb_snapshot.specs.Measured.{Taken}
 use Rattle.lb_certificates.specs.Naming.{IsLeastNaming}
@@ -11,15 +11,13 @@ use Rattle.dump_format.specs.declared.error.DumpError.{DumpError}
 use Rattle.dump_format.specs.declared.error.DumpError.TheVariants.{Read}
 use Rattle.lb_refinement.specs.InOrder.{IsRefinedInOrder}
 use Rattle.lb_refinement.specs.Refined.{IsRefined, refined_moved}
-use Rattle.lb_refinement.specs.declared.in_order.RefinedInOrder.{RefinedInOrder}
 use Rattle.lb_refinement.specs.declared.refined.Refined.{Refined}
-use Rattle.lb_any_order.specs.Reorderings.{IsReordering, reordering_moved}
-use Rattle.lb_any_order.specs.declared.reordering.Reordering.{Reordering}
+use Rattle.lb_any_order.specs.Reorderings.{IsReordering}
 use Rattle.lb_strategy.specs.Decisions.{IsRight}
 use Rattle.lb_strategy.specs.declared.decision.Decision.{Decision}
 use Rattle.lb_strategy.specs.declared.error.PlanError.{PlanError}
 use Rattle.streams.specs.Writing.{WritesPrefix}
-use Rattle.lb_replay.specs.Text.{decision_text, fault_line, ordered_text, refined_text, reordering_text}
+use Rattle.lb_replay.specs.Text.{decision_text, fault_line, refined_text}
 use Rattle.lb_replay.specs.declared.ended.Ended.{Ended}
 use Rattle.lb_replay.specs.declared.ended.Ended.TheVariants.{Printed, WriteFailed}
 use Rattle.lb_replay.specs.declared.fault.Fault.{Fault}
@@ -43,21 +41,21 @@ pub record IsPlanned (A : Type 0) (s : Taken) (blocks : ℕ) (text : List ℕ) :
 pub record IsWithin (A : Type 0) (s : Taken) (blocks tolerance : ℕ) (text : List ℕ) : Type 0 where
   pub decision : Refined A
   pub refined : IsRefined s.loads s.sizes blocks tolerance decision
-  pub printed : text ≡ refined_text s blocks tolerance decision
+  pub printed : text ≡ refined_text s blocks tolerance false decision
 
 -- this is the text of the decision on the snapshot within the tolerance that keeps the order of the PEs
 pub record IsInOrder (A : Type 0) (s : Taken) (blocks tolerance : ℕ) (text : List ℕ) : Type 0 where
-  pub decision : RefinedInOrder A
+  pub decision : Refined A
   pub refined : IsRefinedInOrder s.loads s.sizes blocks tolerance decision
-  pub printed : text ≡ ordered_text s blocks tolerance decision
+  pub printed : text ≡ refined_text s blocks tolerance false decision
 
 -- This is the text of a decision on the snapshot within the tolerance in any order of the PEs, which moves no more bytes than the
 -- one where that is not asked for.
 pub record IsInAnyOrder (A : Type 0) (s : Taken) (blocks tolerance : ℕ) (text : List ℕ) : Type 0 where
-  pub decision : Reordering A
+  pub decision : Refined A
   pub reordering : IsReordering s.loads s.sizes blocks tolerance decision
-  pub no_more : (other : Refined A) → IsRefined s.loads s.sizes blocks tolerance other → reordering_moved decision ≤ refined_moved other
-  pub printed : text ≡ reordering_text s blocks tolerance decision
+  pub no_more : (other : Refined A) → IsRefined s.loads s.sizes blocks tolerance other → refined_moved decision ≤ refined_moved other
+  pub printed : text ≡ refined_text s blocks tolerance true decision
 
 -- the text of the decision that is made in this way
 abbrev pub IsDecided : (A : Type 0) → Taken → ℕ → Way → List ℕ → Type 0

@@ -1,6 +1,6 @@
 -- What a replay and a check print, byte by byte: the text of a decision, the line of a decision that is right, or the line
 -- of a fault.
-use Rattle.std.specs.Prelude.{ℕ, ◌+◌, ◌==◌, if◌then◌else◌, List, [], ◌∷◌, ◌++◌, length, slice_index, codes}
+use Rattle.std.specs.Prelude.{Bool, ◌≡◌, ℕ, ◌+◌, ◌==◌, if◌then◌else◌, List, [], ◌∷◌, ◌++◌, length, slice_index, codes}
 use Rattle.std.specs.Fmt.{decimal}
 use Rattle.std.specs.List.{flat_map, range_with_len}
 use Rattle.dump_format.specs.declared.error.DumpError.{DumpError}
@@ -9,15 +9,13 @@ use Rattle.lb_strategy.specs.declared.error.PlanError.{PlanError}
 use Rattle.lb_replay.specs.declared.fault.Fault.{Fault}
 use Rattle.lb_replay.specs.declared.fault.Fault.TheVariants.{Dump, Plan, Flawed, NoDecision}
 use Rattle.chain_refinement.specs.Tolerances.{limit_of}
-use Rattle.lb_certificates.specs.Chain.{block_load}
+use Rattle.lb_certificates.specs.Certificate.{IsCertified}
+use Rattle.lb_certificates.specs.Chain.{block_load, IsDivision}
 use Rattle.lb_snapshot.specs.Measured.{Taken}
-use Rattle.lb_refinement.specs.InOrder.{ordered_cuts, ordered_least, ordered_moved, ordered_names}
 use Rattle.lb_refinement.specs.Refined.{refined_cuts, refined_least, refined_moved, refined_names}
-use Rattle.lb_refinement.specs.declared.in_order.RefinedInOrder.{RefinedInOrder}
+use Rattle.lb_refinement.specs.declared.nearness.Nearness.{Nearness}
+use Rattle.lb_refinement.specs.declared.nearness.Nearness.TheVariants.{InAnyOrder}
 use Rattle.lb_refinement.specs.declared.refined.Refined.{Refined}
-use Rattle.lb_any_order.specs.Reorderings.{reordering_cuts, reordering_division, reordering_moved, reordering_names}
-use Rattle.lb_any_order.specs.declared.reordering.Reordering.{Reordering}
-use Rattle.lb_any_order.specs.declared.reordering.Reordering.TheVariants.{InAnyOrder, InOrder}
 use Rattle.lb_strategy.specs.declared.decision.Decision.{Decision}
 use Rattle.lb_certificates.specs.declared.division.Division.{Division}
 use Rattle.lb_certificates.specs.declared.division.Floor.{Floor}
@@ -82,33 +80,29 @@ decision_text s pes d =
     head_line s.step pes (length s.loads) ++ bottleneck_line d.division.bottleneck ++ floor_line d.division.floor
     ++ block_lines s.loads d.division.cuts d.naming pes ++ moved_line d.moved
 
--- The whole text of a decision within a tolerance on a snapshot, for this number of PEs: the bottleneck and the floor are those of the
--- least division, and the blocks and the bytes that move those of the decision.
-abbrev pub text_within : {A : Type 0} → Taken → ℕ → ℕ → Division A → List ℕ → List ℕ → ℕ → List ℕ
-text_within s pes tolerance least cuts names moved =
-    head_line s.step pes (length s.loads) ++ bottleneck_line least.bottleneck ++ floor_line least.floor
-    ++ limit_line (limit_of least.bottleneck tolerance) ++ block_lines s.loads cuts names pes ++ moved_line moved
-
-abbrev pub refined_text : {A : Type 0} → Taken → ℕ → ℕ → Refined A → List ℕ
-refined_text s pes tolerance r =
-    text_within s pes tolerance (refined_least r) (refined_cuts r) (refined_names r) (refined_moved r)
-
--- the whole text of a decision that keeps the order of the PEs
-abbrev pub ordered_text : {A : Type 0} → Taken → ℕ → ℕ → RefinedInOrder A → List ℕ
-ordered_text s pes tolerance r =
-    text_within s pes tolerance (ordered_least r) (ordered_cuts r) (ordered_names r) (ordered_moved r)
-
 -- reordered yes where no cuts within the limit and no names move fewer bytes, and otherwise reordered no
-abbrev pub reordered_line : {A : Type 0} → Reordering A → List ℕ
-reordered_line (InAnyOrder f) = codes "reordered yes" ++ newline
-reordered_line (InOrder r) = codes "reordered no" ++ newline
+abbrev pub reordered_line : {A : Type 0} → Nearness A → List ℕ
+reordered_line (InAnyOrder proof) = codes "reordered yes" ++ newline
+reordered_line nearness = codes "reordered no" ++ newline
 
--- the text of a decision in any order of the PEs, with that line behind the limit
-abbrev pub reordering_text : {A : Type 0} → Taken → ℕ → ℕ → Reordering A → List ℕ
-reordering_text s pes tolerance r =
-    head_line s.step pes (length s.loads) ++ bottleneck_line (reordering_division r).bottleneck ++ floor_line (reordering_division r).floor
-    ++ limit_line (limit_of (reordering_division r).bottleneck tolerance) ++ reordered_line r
-    ++ block_lines s.loads (reordering_cuts r) (reordering_names r) pes ++ moved_line (reordering_moved r)
+-- The whole text of a decision within a tolerance on a snapshot, for this number of PEs: the bottleneck and the floor are those of the
+-- least division, and the blocks and the bytes that move those of the decision. A line may stand behind the limit.
+abbrev pub text_within : {A : Type 0} → Taken → ℕ → ℕ → List ℕ → Division A → List ℕ → List ℕ → ℕ → List ℕ
+text_within s pes tolerance line least cuts names moved =
+    head_line s.step pes (length s.loads) ++ bottleneck_line least.bottleneck ++ floor_line least.floor
+    ++ limit_line (limit_of least.bottleneck tolerance) ++ line ++ block_lines s.loads cuts names pes ++ moved_line moved
+
+-- in any order of the PEs that line says whether it is known that none moves fewer bytes
+abbrev pub refined_text : {A : Type 0} → Taken → ℕ → ℕ → Bool → Refined A → List ℕ
+refined_text s pes tolerance in_any_order r =
+    text_within s pes tolerance (if in_any_order then reordered_line r.nearness else []) (refined_least r) (refined_cuts r) (refined_names r) (refined_moved r)
+
+-- What is printed of a decision is there: a name for each block, as many blocks as names, and a limit that is measured from a
+-- certified division.
+pub record IsPrintable {A : Type 0} (loads : List ℕ) (pes : ℕ) (r : Refined A) : Type 0 where
+  pub named : length (refined_names r) ≡ pes
+  pub divides : IsDivision 0 (length loads) (length (refined_names r)) (refined_cuts r)
+  pub certified : IsCertified loads pes (refined_least r)
 
 -- the one line for out of memory
 abbrev pub memory_line : List ℕ

@@ -15,7 +15,7 @@ ghost use Rattle.lb_replay.specs.Simulation.{EndsReplay, HasOneText, IsDecided, 
 
 use crate::ended::Ended;
 use crate::fault::{Fault, NO_MEMORY, fault_line};
-use crate::text::{decision_text, ordered_text, refined_text, reordering_text};
+use crate::text::{decision_text, refined_text};
 use crate::way::Way;
 use chain_refinement::Tolerance;
 use chare_index::{Limits, Pes};
@@ -182,6 +182,7 @@ fn decided_text<A: Allocator + Copy, B: Allocator>(
 }
 
 // The text of the decision within a tolerance, or out of memory.
+#[tactic(auto, using(crate::proofs::RefinedTexts::printable_from_refined))]
 fn text_within<A: Allocator + Copy, B: Allocator>(
     alloc: A,
     snapshot: &Snapshot<B>,
@@ -192,12 +193,13 @@ fn text_within<A: Allocator + Copy, B: Allocator>(
     ensures fault { IfErr result (λ fault. fault ≡ Plan OutOfMemory) }
 {
     match refine(alloc, snapshot, pes, tolerance) {
-        Ok(decision) => refined_text(alloc, snapshot, pes.get(), tolerance, &decision),
+        Ok(decision) => refined_text(alloc, snapshot, pes.get(), tolerance, false, &decision),
         Err(_) => Err(Fault::Plan(PlanError::OutOfMemory)),
     }
 }
 
 // The text of the decision within a tolerance that keeps the order of the PEs, or out of memory.
+#[tactic(auto, using(crate::proofs::RefinedTexts::printable_from_ordered))]
 fn text_in_order<A: Allocator + Copy, B: Allocator>(
     alloc: A,
     snapshot: &Snapshot<B>,
@@ -208,12 +210,13 @@ fn text_in_order<A: Allocator + Copy, B: Allocator>(
     ensures fault { IfErr result (λ fault. fault ≡ Plan OutOfMemory) }
 {
     match refine_keeping_order(alloc, snapshot, pes, tolerance) {
-        Ok(decision) => ordered_text(alloc, snapshot, pes.get(), tolerance, &decision),
+        Ok(decision) => refined_text(alloc, snapshot, pes.get(), tolerance, false, &decision),
         Err(_) => Err(Fault::Plan(PlanError::OutOfMemory)),
     }
 }
 
 // The text of the decision within a tolerance in any order of the PEs, or out of memory.
+#[tactic(auto, using(crate::proofs::RefinedTexts::printable_from_reordering))]
 fn text_in_any_order<A: Allocator + Copy, B: Allocator>(
     alloc: A,
     snapshot: &Snapshot<B>,
@@ -224,7 +227,7 @@ fn text_in_any_order<A: Allocator + Copy, B: Allocator>(
     ensures fault { IfErr result (λ fault. fault ≡ Plan OutOfMemory) }
 {
     match refine_in_any_order(alloc, snapshot, pes, tolerance) {
-        Ok(decision) => reordering_text(alloc, snapshot, pes.get(), tolerance, &decision),
+        Ok(decision) => refined_text(alloc, snapshot, pes.get(), tolerance, true, &decision),
         Err(_) => Err(Fault::Plan(PlanError::OutOfMemory)),
     }
 }

@@ -1,23 +1,19 @@
 //! The printed text of a decision, of the plan or within a tolerance. The whole text is made before any of it is written.
 
-ghost use Rattle.std.specs.Prelude.{◌≡◌, ◌++◌, [], OnOk, IfOk, IfErr, length};
+ghost use Rattle.std.specs.Prelude.{◌≡◌, ◌++◌, [], OnOk, IfOk, IfErr, if◌then◌else◌, length};
 ghost use Rattle.std.specs.List.{flat_map};
 ghost use Rattle.std.specs.String.{string_bytes};
 ghost use Rattle.lb_certificates.specs.Chain.{IsDivision};
-ghost use Rattle.lb_any_order.specs.Reorderings.{IsReordering};
-ghost use Rattle.lb_refinement.specs.InOrder.{IsRefinedInOrder};
-ghost use Rattle.lb_refinement.specs.Refined.{IsRefined};
 ghost use Rattle.lb_strategy.specs.Decisions.{IsRight};
 ghost use Rattle.lb_strategy.specs.declared.error.PlanError.TheVariants.{OutOfMemory};
 ghost use Rattle.lb_replay.specs.declared.fault.Fault.TheVariants.{Plan};
 ghost use Rattle.lb_replay.specs.Text.{head_line, bottleneck_line, floor_line, blank_number, block_start, block_line, block_lines, pe_line, moved_line, decision_text};
-ghost use Rattle.lb_replay.specs.Text.{limit_line, ordered_text, refined_text, reordered_line, reordering_text};
+ghost use Rattle.lb_replay.specs.Text.{IsPrintable, limit_line, refined_text, reordered_line};
 
 use crate::fault::Fault;
 use chain_refinement::Tolerance;
-use lb_any_order::Reordering;
 use lb_certificates::Floor;
-use lb_refinement::{Refined, RefinedInOrder};
+use lb_refinement::{Nearness, Refined};
 use lb_snapshot::{Loads, Snapshot};
 use lb_strategy::{Decision, PlanError};
 use std::alloc::{AllocError, Allocator};
@@ -67,7 +63,8 @@ fn push_decision<A: Allocator, B: Allocator, C: Allocator>(
 }
 
 /// The text of a decision for `pes` PEs on the snapshot within the tolerance: the bottleneck and the floor of the least division,
-/// the limit, a line for each block, and the bytes that move.
+/// the limit, a line for each block, and the bytes that move. In any order of the PEs a line says whether it is known that none
+/// moves fewer bytes.
 ///
 /// # Errors
 ///
@@ -77,31 +74,32 @@ pub(crate) fn refined_text<A: Allocator, B: Allocator, C: Allocator>(
     snapshot: &Snapshot<B>,
     pes: u32,
     tolerance: Tolerance,
+    in_any_order: bool,
     decision: &Refined<C>,
 ) -> Result<String<A>, Fault>
-    requires { IsRefined snapshot.now.loads snapshot.now.sizes pes tolerance decision.now }
-    ensures text { IfOk result (λ text. string_bytes text ≡ refined_text snapshot.now pes tolerance decision.now) }
+    requires { IsPrintable snapshot.now.loads pes decision.now }
+    ensures text { IfOk result (λ text. string_bytes text ≡ refined_text snapshot.now pes tolerance in_any_order decision.now) }
     ensures fault { IfErr result (λ fault. fault ≡ Plan OutOfMemory) }
 {
     let mut text = String::new(alloc);
-    match push_refined(&mut text, snapshot, pes, tolerance, decision) {
+    match push_refined(&mut text, snapshot, pes, tolerance, in_any_order, decision) {
         Ok(()) => Ok(text),
         Err(_) => Err(Fault::Plan(PlanError::OutOfMemory)),
     }
 }
 
 // Writes the text of a decision within a tolerance to an empty string.
-#[tactic(auto, using(crate::proofs::RefinedTexts::divides_from_refined, crate::proofs::RefinedTexts::named_from_refined))]
 fn push_refined<A: Allocator, B: Allocator, C: Allocator>(
     text: &mut String<A>,
     snapshot: &Snapshot<B>,
     pes: u32,
     tolerance: Tolerance,
+    in_any_order: bool,
     decision: &Refined<C>,
 ) -> Result<(), AllocError>
     requires empty { string_bytes text.old ≡ [] }
-    requires refined { IsRefined snapshot.now.loads snapshot.now.sizes pes tolerance decision.now }
-    ensures text { OnOk result (string_bytes text.new ≡ refined_text snapshot.now pes tolerance decision.now) }
+    requires printable { IsPrintable snapshot.now.loads pes decision.now }
+    ensures text { OnOk result (string_bytes text.new ≡ refined_text snapshot.now pes tolerance in_any_order decision.now) }
 {
     let loads = snapshot.loads();
     let least = decision.least();
@@ -109,113 +107,26 @@ fn push_refined<A: Allocator, B: Allocator, C: Allocator>(
     push_bottleneck(text, least.bottleneck)?;
     push_floor(text, &least.floor)?;
     push_limit(text, tolerance.limit(least.bottleneck))?;
+    push_reordered(text, in_any_order, &decision.nearness)?;
     push_blocks(text, loads, decision.cuts(), decision.names())?;
     push_moved(text, decision.moved())
 }
 
-/// The text of a decision within a tolerance that keeps the order of the PEs.
-///
-/// # Errors
-///
-/// Out of memory, as a fault of the plan.
-pub(crate) fn ordered_text<A: Allocator, B: Allocator, C: Allocator>(
-    alloc: A,
-    snapshot: &Snapshot<B>,
-    pes: u32,
-    tolerance: Tolerance,
-    decision: &RefinedInOrder<C>,
-) -> Result<String<A>, Fault>
-    requires { IsRefinedInOrder snapshot.now.loads snapshot.now.sizes pes tolerance decision.now }
-    ensures text { IfOk result (λ text. string_bytes text ≡ ordered_text snapshot.now pes tolerance decision.now) }
-    ensures fault { IfErr result (λ fault. fault ≡ Plan OutOfMemory) }
-{
-    let mut text = String::new(alloc);
-    match push_ordered(&mut text, snapshot, pes, tolerance, decision) {
-        Ok(()) => Ok(text),
-        Err(_) => Err(Fault::Plan(PlanError::OutOfMemory)),
-    }
-}
-
-// Writes the text of a decision that keeps the order to an empty string.
-#[tactic(auto, using(crate::proofs::OrderedTexts::divides_from_ordered, crate::proofs::OrderedTexts::named_from_ordered))]
-fn push_ordered<A: Allocator, B: Allocator, C: Allocator>(
-    text: &mut String<A>,
-    snapshot: &Snapshot<B>,
-    pes: u32,
-    tolerance: Tolerance,
-    decision: &RefinedInOrder<C>,
-) -> Result<(), AllocError>
-    requires empty { string_bytes text.old ≡ [] }
-    requires refined { IsRefinedInOrder snapshot.now.loads snapshot.now.sizes pes tolerance decision.now }
-    ensures text { OnOk result (string_bytes text.new ≡ ordered_text snapshot.now pes tolerance decision.now) }
-{
-    let loads = snapshot.loads();
-    let least = decision.least();
-    push_head(text, snapshot.step(), pes, loads.as_slice().len())?;
-    push_bottleneck(text, least.bottleneck)?;
-    push_floor(text, &least.floor)?;
-    push_limit(text, tolerance.limit(least.bottleneck))?;
-    push_blocks(text, loads, decision.cuts(), decision.names())?;
-    push_moved(text, decision.moved())
-}
-
-/// The text of a decision in any order of the PEs, with a line that says whether it is known that none moves fewer bytes.
-///
-/// # Errors
-///
-/// Out of memory, as a fault of the plan.
-pub(crate) fn reordering_text<A: Allocator, B: Allocator, C: Allocator>(
-    alloc: A,
-    snapshot: &Snapshot<B>,
-    pes: u32,
-    tolerance: Tolerance,
-    decision: &Reordering<C>,
-) -> Result<String<A>, Fault>
-    requires { IsReordering snapshot.now.loads snapshot.now.sizes pes tolerance decision.now }
-    ensures text { IfOk result (λ text. string_bytes text ≡ reordering_text snapshot.now pes tolerance decision.now) }
-    ensures fault { IfErr result (λ fault. fault ≡ Plan OutOfMemory) }
-{
-    let mut text = String::new(alloc);
-    match push_reordering(&mut text, snapshot, pes, tolerance, decision) {
-        Ok(()) => Ok(text),
-        Err(_) => Err(Fault::Plan(PlanError::OutOfMemory)),
-    }
-}
-
-// Writes the text of a decision in any order to an empty string.
-#[tactic(auto, using(crate::proofs::ReorderedTexts::divides_from_reordering, crate::proofs::ReorderedTexts::named_from_reordering))]
-fn push_reordering<A: Allocator, B: Allocator, C: Allocator>(
-    text: &mut String<A>,
-    snapshot: &Snapshot<B>,
-    pes: u32,
-    tolerance: Tolerance,
-    decision: &Reordering<C>,
-) -> Result<(), AllocError>
-    requires empty { string_bytes text.old ≡ [] }
-    requires reordering { IsReordering snapshot.now.loads snapshot.now.sizes pes tolerance decision.now }
-    ensures text { OnOk result (string_bytes text.new ≡ reordering_text snapshot.now pes tolerance decision.now) }
-{
-    let loads = snapshot.loads();
-    let least = decision.least();
-    push_head(text, snapshot.step(), pes, loads.as_slice().len())?;
-    push_bottleneck(text, least.bottleneck)?;
-    push_floor(text, &least.floor)?;
-    push_limit(text, tolerance.limit(least.bottleneck))?;
-    push_reordered(text, decision)?;
-    push_blocks(text, loads, decision.cuts(), decision.names())?;
-    push_moved(text, decision.moved())
-}
-
-// Whether no cuts and no names move fewer bytes.
+// In any order of the PEs, whether no cuts and no names move fewer bytes.
 fn push_reordered<A: Allocator, C: Allocator>(
     text: &mut String<A>,
-    decision: &Reordering<C>,
+    in_any_order: bool,
+    nearness: &Nearness<C>,
 ) -> Result<(), AllocError>
-    ensures { OnOk result (string_bytes text.new ≡ string_bytes text.old ++ reordered_line decision.now) }
+    ensures { OnOk result (string_bytes text.new ≡ string_bytes text.old ++ (if in_any_order then reordered_line nearness.now else [])) }
 {
-    match decision {
-        Reordering::InAnyOrder(_) => text.push_str("reordered yes\n"),
-        Reordering::InOrder(_) => text.push_str("reordered no\n"),
+    if !in_any_order {
+        return Ok(());
+    }
+    match nearness {
+        Nearness::InAnyOrder(_) => text.push_str("reordered yes\n"),
+        Nearness::Planned => text.push_str("reordered no\n"),
+        Nearness::InOrder(_) => text.push_str("reordered no\n"),
     }
 }
 

@@ -1,10 +1,16 @@
 use Rattle.std.proofs.lemmas.Result.{IfOk-weaker}
+use Rattle.lb_replay.proofs.RefinedTexts.{printable_from_ordered}
 use Rattle.lb_replay.proofs.simulation.text_in_order.Goals as goal
+
+pub refined_text-requires : goal.refined_text-requires
+refined_text-requires g c =
+    let s = c.args.snapshot.now in
+    rw c.get.ensures.value (printable_from_ordered s.loads s.sizes c.args.pes c.args.tolerance c.in-Ok.decision c.in-Ok.ensures.refined)
 
 pub returns-in-Ok-clause-text : goal.returns-in-Ok-clause-text
 returns-in-Ok-clause-text g c =
-    IfOk-weaker c.ordered_text.result _ _ (λ text printed. record {
+    IfOk-weaker c.refined_text.result _ _ (λ text printed. record {
       decision = c.in-Ok.decision;
       refined = c.in-Ok.ensures.refined;
       printed = printed;
-    }) (rw c.get.ensures.value at c.ordered_text.ensures.text)
+    }) (rw c.get.ensures.value at c.refined_text.ensures.text)

@@ -1,5 +1,11 @@
 use Rattle.std.proofs.lemmas.Result.{IfOk-weaker}
+use Rattle.lb_replay.proofs.RefinedTexts.{printable_from_refined}
 use Rattle.lb_replay.proofs.simulation.text_within.Goals as goal
+
+pub refined_text-requires : goal.refined_text-requires
+refined_text-requires g c =
+    let s = c.args.snapshot.now in
+    rw c.get.ensures.value (printable_from_refined s.loads s.sizes c.args.pes c.args.tolerance c.in-Ok.decision c.in-Ok.ensures.decided.refined)
 
 pub returns-in-Ok-clause-text : goal.returns-in-Ok-clause-text
 returns-in-Ok-clause-text g c =
