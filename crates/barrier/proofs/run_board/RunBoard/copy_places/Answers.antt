@@ -15,12 +15,12 @@ copy-requires-clause-for_pes g c =
     let places : ArePlaces c.self.inside.board.pes c.in-Some.decision.now.division.cuts
     c.in-Some.decision.now.naming = kept_places c.self.inside.board c.args.round c.in-Some.decision.now c.in-Some.ensures.decided in
     let on_pes : c.self.inside.board.pes ≡ g.J.BoardSize.pes = c.self.invariant.1 in
-    rw (← on_pes) places
+    rw (c.as_slice.ensures.value, c.as_slice-2.ensures.value, ← on_pes) places
 
 pub returns-clause-places : goal.returns-clause-places
 returns-clause-places g c _ i inside =
     let known : i < elements c.self.inside.board.database = omega (arith, inside, c.self.invariant.0) in
-    let copied : c.copy.new.self ≡ places_by c.args.round c.in-Some.decision.now = c.copy.ensures.copied in
+    let copied : c.copy.new.self ≡ places_by c.args.round c.in-Some.decision.now = rw (← c.as_slice.ensures.value, ← c.as_slice-2.ensures.value) c.copy.ensures.copied in
     let same : place_among (places_by c.args.round c.in-Some.decision.now) i ≡ place_in c.self.inside.board c.args.round i = same_place
     c.self.inside.board c.args.round c.in-Some.decision.now c.in-Some.ensures.decided i known in
     ap (λ (places : PlacesView). place_among places i) copied ∙ rw (← c.self.view_is) same
