@@ -165,7 +165,7 @@ impl<C: Chare<A>, H: Openings<C>, A: Allocator + Copy> PeState<C, H, A> {
         end.kept = None;
     }
 
-    /// Keeps or drops what an element handles from now on, where it stands here. Its journal is what it was.
+    /// Keeps or drops what an element handles, where it stands here. One that has settled something stays `Dropped`.
     pub fn set_history(&mut self, index: Index, history: History)
         ensures same { self.new ≡ self.old }
     {
