@@ -1,8 +1,10 @@
 //! The run of a rod.
 
-ghost use Rattle.std.specs.Prelude.{IfOk};
+ghost use Rattle.std.specs.Prelude.{◌≡◌, IfOk, MatchResult};
 ghost use Rattle.heat_rod.specs.Rods.{opening_rod};
-ghost use Rattle.rts_run.specs.Outcomes.{IsOutcome};
+ghost use Rattle.rts_core.specs.Worlds.{opening_words};
+ghost use Rattle.rts_run.specs.Configs.{MayBegin, RefusesRun};
+ghost use Rattle.rts_run.specs.Outcomes.{EndsIdle, IsOutcome};
 
 use chare_index::NoGate;
 use chares::Chare;
@@ -17,7 +19,8 @@ use std::thread::Threads;
 ///
 /// # Errors
 ///
-/// Those of [`rts_run::run`]. No thread was started then.
+/// Those of [`rts_run::run`] of as many chares as the rod has strips, which are made only where each number is within its limits. No
+/// thread was started then.
 pub fn run_rod<R: Threads + Wait + Sync, A: Allocator + Copy + Send + Sync>(
     rt: &R,
     alloc: A,
@@ -25,10 +28,17 @@ pub fn run_rod<R: Threads + Wait + Sync, A: Allocator + Copy + Send + Sync>(
     options: &Options,
     rod: &Rod,
 ) -> Result<Outcome<RodChare<A>, A>, RunError>
+    ensures answer { MatchResult result (λ _. MayBegin config.now rod.now.strips) (RefusesRun config.now rod.now.strips) }
     ensures outcome { IfOk result (IsOutcome ⟦<RodChare<A> as Chare<A>>⟧.step ⟦<RodChare<A> as Pup<A>>⟧.fits ⟦<RodChare<A> as Pup<A>>⟧.pack
         ⟦<RodChare<A> as Chare<A>>⟧.refuses (opening_rod rod.now.plan rod.now.strips) config.now.pes options.now.strategy) }
+    ensures idle { IfOk result (EndsIdle options.now.idle) }
+    ensures homes { IfOk result (λ o. o.homes ≡ opening_words rod.now.strips config.now.pes) }
 {
-    let chares = rod.chares(alloc)?;
-    let outcome = run_with(rt, alloc, config, options, &NoGate, chares)?;
-    Ok(outcome)
+    if let Some(setting) = config.first_outside(rod.strips as usize) {
+        return Err(RunError::Config(setting));
+    }
+    let Ok(chares) = rod.chares(alloc) else {
+        return Err(RunError::OutOfMemory);
+    };
+    run_with(rt, alloc, config, options, &NoGate, chares)
 }

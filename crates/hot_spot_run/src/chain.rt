@@ -1,9 +1,12 @@
 //! The run of a chain of strips.
 
-ghost use Rattle.std.specs.Prelude.{IfOk};
+ghost use Rattle.std.specs.Prelude.{◌≡◌, IfErr, IfOk, length};
 ghost use Rattle.hot_spot_strip.specs.Openings.{opening_strips};
 ghost use Rattle.hot_spot_strip.specs.Strips.{StripRefuses, strip_step};
-ghost use Rattle.rts_run.specs.Outcomes.{IsOutcome};
+ghost use Rattle.hot_spot_strip.specs.declared.error.StripChainError.TheVariants.{Limit};
+ghost use Rattle.rts_core.specs.Worlds.{opening_words};
+ghost use Rattle.rts_run.specs.Outcomes.{EndsIdle, IsOutcome};
+ghost use Rattle.hot_spot_run.specs.Limits.{MayRun};
 
 use chare_index::NoGate;
 use hot_spot_strip::{Strip, StripChain, StripChainError};
@@ -19,7 +22,7 @@ use std::thread::Threads;
 /// # Errors
 ///
 /// [`Limit`](StripChainError::Limit) where a number of the chain or of the config is out of its limits, or there are more strips
-/// than an array may have, and [`OutOfMemory`](StripChainError::OutOfMemory). No thread was started then.
+/// than an array may have, and only there, and [`OutOfMemory`](StripChainError::OutOfMemory). No thread was started then.
 pub fn run_chain<R: Threads + Wait + Sync, A: Allocator + Copy + Send + Sync>(
     rt: &R,
     alloc: A,
@@ -29,6 +32,10 @@ pub fn run_chain<R: Threads + Wait + Sync, A: Allocator + Copy + Send + Sync>(
 ) -> Result<Outcome<Strip<A>, A>, StripChainError>
     ensures outcome { IfOk result (IsOutcome strip_step ⟦<Strip<A> as Pup<A>>⟧.fits ⟦<Strip<A> as Pup<A>>⟧.pack StripRefuses
         (opening_strips chain.now.mode chain.now.rounds chain.now.work 0 chain.now.cells.now) config.now.pes options.now.strategy) }
+    ensures idle { IfOk result (EndsIdle options.now.idle) }
+    ensures homes { IfOk result (λ o. o.homes ≡ opening_words (length chain.now.cells.now) config.now.pes) }
+    ensures within { IfOk result (λ _. MayRun chain.now.mode chain.now.rounds chain.now.work chain.now.cells.now config.now) }
+    ensures refused { IfErr result (λ e. e ≡ Limit → ¬ (MayRun chain.now.mode chain.now.rounds chain.now.work chain.now.cells.now config.now)) }
 {
     run_chain_watched(rt, alloc, config, options, &NoWatch, chain)
 }
@@ -52,8 +59,15 @@ pub fn run_chain_watched<
 ) -> Result<Outcome<Strip<A>, A>, StripChainError>
     ensures outcome { IfOk result (IsOutcome strip_step ⟦<Strip<A> as Pup<A>>⟧.fits ⟦<Strip<A> as Pup<A>>⟧.pack StripRefuses
         (opening_strips chain.now.mode chain.now.rounds chain.now.work 0 chain.now.cells.now) config.now.pes options.now.strategy) }
+    ensures idle { IfOk result (EndsIdle options.now.idle) }
+    ensures homes { IfOk result (λ o. o.homes ≡ opening_words (length chain.now.cells.now) config.now.pes) }
+    ensures within { IfOk result (λ _. MayRun chain.now.mode chain.now.rounds chain.now.work chain.now.cells.now config.now) }
+    ensures refused { IfErr result (λ e. e ≡ Limit → ¬ (MayRun chain.now.mode chain.now.rounds chain.now.work chain.now.cells.now config.now)) }
 {
-    let strips = chain.strips(alloc)?;
+    let strips = match chain.strips(alloc) {
+        Ok(strips) => strips,
+        Err(error) => return Err(error),
+    };
     match run_watched(rt, alloc, config, options, &NoGate, watch, strips) {
         Ok(outcome) => Ok(outcome),
         Err(RunError::Config) => Err(StripChainError::Limit),

@@ -14,7 +14,6 @@ use Rattle.rts_core.specs.declared.event.Event.{Event}
 use Rattle.rts_core.specs.Events.{After, Happens, MayDecide, enabled, or_nothing, pe_of}
 use Rattle.rts_core.specs.Worlds.{WorldView}
 use Rattle.schedules.specs.Choices.{ChoicesView, ChooserView, Knows, KnowsBut, put_into, turn_of}
-use Rattle.schedules.specs.Drawn.{DrawsTo}
 use Rattle.schedules.specs.Draws.{Draws, DrawsAll, IsChosen, Turn, drawn}
 use Rattle.schedules.specs.declared.bias.Bias.{Bias}
 use Rattle.schedules.proofs.Elements.{Stays, enabled_stays, knows_rest}
@@ -25,7 +24,7 @@ where_taken P Q true e m = m
 where_taken P Q false e m = cc
 
 -- the last of a list with one more member
-last_more : {X : Type 0} (xs : List X) (x : X) → slice_get (xs ++ x ∷ []) (length (xs ++ x ∷ []) - 1) ≡ Some x
+pub last_more : {X : Type 0} (xs : List X) (x : X) → slice_get (xs ++ x ∷ []) (length (xs ++ x ∷ []) - 1) ≡ Some x
 last_more {X} xs x =
     let l = length-append xs (x ∷ []) in
     let i : length (xs ++ x ∷ []) - 1 ≡ length xs = omega (arith, l) in
@@ -41,7 +40,7 @@ same_some : {X : Type 0} (x y : X) → Some x ≡ Some y → x ≡ y
 unfolding in_some
 same_some x y e = ap (in_some x) e
 
-last_is : {X : Type 0} (before after : List X) (made found : X) → after ≡ before ++ made ∷ [] → slice_get after (length after - 1) ≡ Some found → found ≡ made
+pub last_is : {X : Type 0} (before after : List X) (made found : X) → after ≡ before ++ made ∷ [] → slice_get after (length after - 1) ≡ Some found → found ≡ made
 last_is {X} before after made found split got =
     let at = subst (λ (l : List X). slice_get l (length l - 1) ≡ Some found) split got in
     same_some found made (sym at ∙ last_more before made)
@@ -112,12 +111,7 @@ module _ {C A : Type 0} (step : Step C) (pack : C → List ℕ) (unpack : List �
   found_counted before after true P c knows is (event, (by, (entries, split, may, did))) = still_counted before.world after.world event entries c knows may did
   found_counted before after false P c knows is m = cc
 
-  -- so far no step was taken; and one more was
-  pub drawn_none : (bias : Bias) (course : CourseView C A) (chooser : ChooserView) → course.steps ≡ []
-      → DrawsAll step pack unpack bias (turn_of course.world chooser) course.steps (turn_of course.world chooser)
-  drawn_none bias course chooser fresh =
-      subst (λ (s : List Made). DrawsAll step pack unpack bias (turn_of course.world chooser) s (turn_of course.world chooser)) (sym fresh) refl
-
+  -- so far these steps were drawn; and one more was
   pub drawn_next : (bias : Bias) (at : Turn C A) (before after : CourseView C A) (old new : ChooserView) (taken : Bool) (P : Type 0) → old.bias ≡ bias
       → DrawsAll step pack unpack bias at before.steps (turn_of before.world old) → taken ≡ true
       → MatchBool taken ((made : Made) × (after.steps ≡ before.steps ++ made ∷ []) × Draws step pack unpack old.bias (turn_of before.world old) made (turn_of after.world new)) P
@@ -127,25 +121,6 @@ module _ {C A : Type 0} (step : Step C) (pack : C → List ℕ) (unpack : List �
       subst (λ (s : List Made). DrawsAll step pack unpack bias at s (turn_of after.world new)) (sym split)
       (draws_more bias at before.steps (turn_of before.world old) made (turn_of after.world new) all by_bias)
   drawn_next bias at before after old new false P same all is m = cc
-
-  -- the steps end here, where no event was refused, and where one was
-  pub ends_here : (bias : Bias) (at : Turn C A) (before now : CourseView C A) (chooser : ChooserView) → now ≡ before
-      → DrawsAll step pack unpack bias at before.steps (turn_of before.world chooser) → DrawsTo step pack unpack bias at now.steps now.world None
-  ends_here bias at before now chooser same all =
-      subst (λ (v : CourseView C A). DrawsTo step pack unpack bias at v.steps v.world None) (sym same)
-      (record { last = turn_of before.world chooser; drawn = all; left = refl; next = tt })
-
-  pub refused_here : (bias : Bias) (at : Turn C A) (before now : CourseView C A) (chooser : ChooserView) (event : Event) → now ≡ before → chooser.bias ≡ bias
-      → DrawsAll step pack unpack bias at before.steps (turn_of before.world chooser) → IsChosen step pack unpack chooser.bias (turn_of before.world chooser) event
-      → DrawsTo step pack unpack bias at now.steps now.world (Some event)
-  refused_here bias at before now chooser event same by all chosen =
-      subst (λ (v : CourseView C A). DrawsTo step pack unpack bias at v.steps v.world (Some event)) (sym same)
-      (record {
-        last = turn_of before.world chooser;
-        drawn = all;
-        left = refl;
-        next = subst (λ (b : Bias). IsChosen step pack unpack b (turn_of before.world chooser) event) by chosen;
-      })
 
 -- what the rest of a draw knows depends only on the values
 pub rest_at : {C A : Type 0} (event : Event) (w w' : WorldView C A) (c c' : ChoicesView) (q q' : Option ℕ) (es es' : List TraceEntry) → w' ≡ w → c' ≡ c → q' ≡ q → es' ≡ es

@@ -1,6 +1,6 @@
 -- What a step of a PE leaves as it is: the other PEs, all queues but its own and the one that it puts a parcel into, the rounds that
 -- were decided, and the elements that no entry of its trace names.
-use Rattle.std.proofs.Common.{◌≡◌, ◌≢◌, ◌∙◌, ℕ, zero, suc, List, [], ◌∷◌, length, Option, Some, None, Bool, true, false, refl, sym, ap, subst}
+use Rattle.std.proofs.Common.{◌≡◌, ◌≢◌, ◌∙◌, ℕ, zero, suc, List, [], ◌∷◌, Option, Some, None, Bool, true, false, refl, sym, ap, subst}
 use Rattle.std.specs.Prelude.{IfSome, Result, Ok, Err, slice_get, slice_set, if◌then◌else◌, not, is_none, ◌==◌}
 use Rattle.std.specs.Option.{option_and_then, option_map, option_map_or}
 use Rattle.std.proofs.lemmas.List.{length-set}

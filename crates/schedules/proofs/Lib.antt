@@ -1,4 +1,5 @@
 pub mod Choosers
+pub mod Counting
 pub mod Counts
 pub mod Drawings
 pub mod DrawnRuns

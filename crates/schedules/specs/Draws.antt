@@ -17,6 +17,7 @@ use Rattle.rts_core.specs.Events.{Happens, pe_of, where_true}
 use Rattle.rts_core.specs.Worlds.{WorldView}
 use Rattle.rts_core.specs.declared.event.Event.{Event}
 use Rattle.rts_core.specs.declared.event.Event.TheVariants as Happening
+use Rattle.schedules.specs.Courses.{IsDone}
 use Rattle.schedules.specs.Generators.{next_state, scaled}
 use Rattle.schedules.specs.NumberSets.{those}
 use Rattle.schedules.specs.declared.bias.Bias.{Bias}
@@ -173,8 +174,10 @@ module _ {C A : Type 0} (step : Step C) (pack : C → List ℕ) (unpack : List �
   abbrev pub AnyIsChosen : Turn C A → Type 0
   AnyIsChosen at = (event : Event) → IsChosen at event
 
-  -- a step with the event that is drawn leads from one turn to the next
+  -- a step with the event that is drawn leads from one turn to the next; there is none once every element has finished and no letter
+  -- is held
   pub record Draws (at : Turn C A) (made : Made) (next : Turn C A) : Type 0 where
+    pub goes_on : ¬ (IsDone at.world)
     pub enabled : IsEnabled step pack unpack at.world made.0
     pub happens : Happens step pack unpack at.world made.0 (next.world, made.1)
     pub chosen : IsChosen at made.0

@@ -1,4 +1,5 @@
 pub mod Choices
+pub mod Counting
 pub mod Courses
 pub mod Drawn
 pub mod Draws

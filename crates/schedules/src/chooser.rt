@@ -34,8 +34,6 @@ pub(crate) struct Chooser<A: Allocator = Global> {
     generator: SplitMix64,
     bias: Bias,
     choices: Choices<A>,
-    // How many letters are held. No clause rests on it.
-    held: u64,
 }
 
 impl<A: Allocator> Model for Chooser<A> {
@@ -65,17 +63,11 @@ impl<A: Allocator + Copy> Chooser<A> {
             generator: SplitMix64::new(seed),
             bias,
             choices: Choices::new(alloc, world)?,
-            held: 0,
         })
     }
 }
 
 impl<A: Allocator> Chooser<A> {
-    /// Whether no letter seems to be held.
-    pub(crate) fn holds_none(&self) -> bool {
-        self.held == 0
-    }
-
     /// Draws one of the events that are enabled, or returns `None` where none is.
     pub(crate) fn draw<C: Chare<A>, H: Openings<C>>(
         &mut self,
@@ -115,7 +107,6 @@ impl<A: Allocator> Chooser<A> {
             Some(p) => self.choices.see(world, p, to, entries),
             None => self.choices.look_again(world, event, entries),
         }
-        self.held = held_after(self.held, entries);
     }
 
     /// Looks again at everything that may be enabled, after a step that was not drawn.
@@ -132,7 +123,6 @@ impl<A: Allocator> Chooser<A> {
         ensures bias { self.new.bias ≡ self.old.bias }
     {
         self.choices.look_again(world, event, entries);
-        self.held = world.account().held;
     }
 
     // Draws one of the events that are enabled, of any PE.
@@ -207,17 +197,4 @@ fn is_starved(bias: &Bias, event: &Option<Event>) -> bool
         return false;
     };
     p == starved
-}
-
-// How many letters are held after a step with these entries: no clause rests on it.
-fn held_after(held: u64, entries: &[TraceEntry]) -> u64 {
-    let mut held = held;
-    for entry in entries {
-        match entry {
-            TraceEntry::Posted(_, _) => held = held.wrapping_add(1),
-            TraceEntry::Executed(_, _) => held = held.wrapping_sub(1),
-            _ => {}
-        }
-    }
-    held
 }

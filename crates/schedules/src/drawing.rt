@@ -5,6 +5,7 @@ ghost use Rattle.courses.specs.Courses.{IsEnabled, IsIdle, Made, RefusesTaking};
 ghost use Rattle.rts_core.specs.Events.{Happens};
 ghost use Rattle.rts_core.specs.declared.event.Event.{Event};
 ghost use Rattle.schedules.specs.Choices.{Knows, put_into, turn_of};
+ghost use Rattle.schedules.specs.Courses.{IsDone};
 ghost use Rattle.schedules.specs.Draws.{AnyIsChosen, Draws, IsChosen, drawn, places_after};
 
 use crate::chooser::Chooser;
@@ -19,6 +20,7 @@ pub(crate) fn draw_step<C: Chare<A>, H: Openings<C>, A: Allocator + Copy>(
     course: &mut Course<C, H, A>,
     chooser: &mut Chooser<A>,
 ) -> Result<bool, Refusal>
+    requires goes_on { ¬ (IsDone course.old.world) }
     requires knows { Knows course.old.world chooser.old.choices }
     ensures strategy { course.new.strategy ≡ course.old.strategy }
     ensures bias { chooser.new.bias ≡ chooser.old.bias }
@@ -42,6 +44,7 @@ fn take_drawn<C: Chare<A>, H: Openings<C>, A: Allocator + Copy>(
     course: &mut Course<C, H, A>,
     chooser: &mut Chooser<A>,
 ) -> Result<bool, Refusal>
+    requires goes_on { ¬ (IsDone course.old.world) }
     requires knows { Knows course.old.world chooser.old.choices }
     ensures strategy { course.new.strategy ≡ course.old.strategy }
     ensures bias { chooser.new.bias ≡ chooser.old.bias }

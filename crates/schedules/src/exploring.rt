@@ -1,10 +1,11 @@
 //! Runs by a seed.
 
-ghost use Rattle.std.specs.Prelude.{◌≡◌, ◌≤◌, [], IfOk, MatchResult, length};
-ghost use Rattle.courses.specs.Courses.{IsIdle};
+ghost use Rattle.std.specs.Prelude.{◌≡◌, ◌≤◌, ◌↔◌, [], IfOk, IsTrue, MatchResult, length};
+ghost use Rattle.courses.specs.Courses.{IsIdle, trace_of};
 ghost use Rattle.rts_core.specs.Worlds.{opening_world};
 ghost use Rattle.schedules.specs.Choices.{Knows, turn_of};
-ghost use Rattle.schedules.specs.Courses.{IsExplored};
+ghost use Rattle.schedules.specs.Counting.{Counts};
+ghost use Rattle.schedules.specs.Courses.{IsDone, IsExplored};
 ghost use Rattle.schedules.specs.Drawn.{DrawsTo, IsDrawn};
 ghost use Rattle.schedules.specs.Endings.{EndsCourse, EndsRun, refused_in};
 ghost use Rattle.schedules.specs.Schedules.{MayExplore, RefusesSchedule};
@@ -13,6 +14,7 @@ use crate::chooser::Chooser;
 use crate::drawing::draw_step;
 use crate::explored::Explored;
 use crate::leaving::{Ending, is_done, leave};
+use crate::letter_count::LetterCount;
 use crate::schedule::Schedule;
 use chare_index::{Limits, Pes};
 use chares::{Chare, Openings};
@@ -32,7 +34,8 @@ use std::marker::Brand;
 /// [`Idle`](pe_worker::Fault::Idle) only where no event at all is enabled, as [`Stopped`](pe_worker::Fault::Stopped) only where it
 /// has taken as many steps as the schedule allows, and with any other fault only where the event that was refused has a cause for
 /// it in the world that is left: a handler that may return it, the last round, or memory. The clause `drawn` says that each step has
-/// the event that the seed draws there under the bias, and so has the event that was refused.
+/// the event that the seed draws there under the bias, and so has the event that was refused. None was taken, and none refused, once
+/// every element had finished and no letter was held: the run ends there.
 ///
 /// # Errors
 ///
@@ -83,12 +86,13 @@ fn explore_as<C: Chare<A>, H: Openings<C>, A: Allocator + Copy>(
     leave(alloc, course, ending)
 }
 
-// Takes one step after another, up to the limit of the schedule.
+// Takes one step after another, until the course is done, and up to the limit of the schedule.
 fn draw_steps<C: Chare<A>, H: Openings<C>, A: Allocator + Copy>(
     course: &mut Course<C, H, A>,
     chooser: &mut Chooser<A>,
     steps: u64,
 ) -> Ending
+    requires some_pe { 1 ≤ H.pes }
     requires fresh { course.old.steps ≡ [] }
     requires knows { Knows course.old.world chooser.old.choices }
     ensures strategy { course.new.strategy ≡ course.old.strategy }
@@ -98,18 +102,14 @@ fn draw_steps<C: Chare<A>, H: Openings<C>, A: Allocator + Copy>(
     ensures drawn { DrawsTo C.step C.pack C.unpack chooser.old.bias (turn_of course.old.world chooser.old) course.new.steps
         course.new.world (refused_in result) }
 {
+    let mut letters = LetterCount::of_no_step();
     for _step in 0..steps {
-        if chooser.holds_none() && is_done(course.world()) {
+        if is_over(course, letters) {
             return Ending::Done;
         }
         match draw_step(course, chooser) {
-            Ok(true) => {}
-            Ok(false) => {
-                if is_done(course.world()) {
-                    return Ending::Done;
-                }
-                return Ending::Idle;
-            }
+            Ok(true) => letters = letters.with_last(course.steps()),
+            Ok(false) => return Ending::Idle,
             Err(refusal) => return Ending::Refused(refusal),
         }
     }
@@ -117,4 +117,17 @@ fn draw_steps<C: Chare<A>, H: Openings<C>, A: Allocator + Copy>(
         return Ending::Done;
     }
     Ending::Stopped
+}
+
+// Whether a course is done whose letters have been counted. Their places are visited only where as many were executed as were posted.
+fn is_over<C: Chare<A>, H: Openings<C>, A: Allocator>(
+    course: &Course<C, H, A>,
+    letters: LetterCount,
+) -> bool
+    requires some_pe { 1 ≤ H.pes }
+    requires counts { Counts (trace_of course.now.steps) letters }
+    ensures answer { IsTrue result ↔ IsDone course.now.world }
+{
+    let _led = course.steps();
+    letters.is_balanced() && is_done(course.world())
 }

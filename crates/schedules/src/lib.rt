@@ -18,6 +18,7 @@ mod explored;
 mod exploring;
 mod generator;
 mod leaving;
+mod letter_count;
 mod moves;
 mod number_set;
 mod replaying;

@@ -19,6 +19,7 @@ new-requires-2 g c =
 pub draw_steps-ending-requires : goal.draw_steps-ending-requires
 draw_steps-ending-requires g c =
     record {
+      some_pe = omega (arith, c.requires.may.0.0, c.requires.run);
       fresh = c.in_ok-course.ensures.steps;
       knows = subst (λ w. Knows w c.in_ok-chooser.chooser.choices) c.world.ensures.value c.in_ok-chooser.ensures.knows;
     }

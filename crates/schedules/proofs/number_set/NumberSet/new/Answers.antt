@@ -1,5 +1,4 @@
 use Rattle.std.proofs.Common.{Bool, ℕ, arith}
-use Rattle.std.specs.Int.{div_ceil}
 use Rattle.schedules.proofs.Counts.{none_at_first}
 use Rattle.schedules.proofs.number_set.NumberSet.new.Goals as goal
 
