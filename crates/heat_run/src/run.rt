@@ -34,8 +34,8 @@ pub fn run_rod<R: Threads + Wait + Sync, A: Allocator + Copy + Send + Sync>(
     ensures idle { IfOk result (EndsIdle options.now.idle) }
     ensures homes { IfOk result (λ o. o.homes ≡ opening_words rod.now.strips config.now.pes) }
 {
-    if let Some(setting) = config.first_outside(rod.strips as usize) {
-        return Err(RunError::Config(setting));
+    if let Some(_setting) = config.first_outside(rod.strips as usize) {
+        return Err(RunError::Config);
     }
     let Ok(chares) = rod.chares(alloc) else {
         return Err(RunError::OutOfMemory);
