@@ -44,7 +44,7 @@ pub fn replay<C: Chare<A>, A: Allocator + Copy>(
     ensures follows { IfOk result (Follows events.now) }
     ensures ends { IfOk result (EndsList C.step C.pack C.refuses C.unpack) }
 {
-    if let Some(_setting) = schedule.first_outside(chares.len()) {
+    if let Some(setting) = schedule.first_outside(chares.len()) {
         return Err(ReplayError::Config(setting));
     }
     replay_as::<C, Brand, A>(alloc, schedule, chares, events)
