@@ -90,8 +90,10 @@ public:
     std::shared_ptr<const detail::decision> decided(std::uint32_t after) override { return to_.knows(me_) ? inner_.decided(after) : nullptr; }
     bool ended() override { return inner_.ended(); }
     void fail(const tezgumi::fault &met) override { inner_.fail(met); }
-    void rest(std::uint32_t round) override { inner_.rest(round); }
+    void exit(std::uint32_t element, const detail::beside &value) override { inner_.exit(element, value); }
+    void rest(std::uint32_t round, std::uint64_t late) override { inner_.rest(round, late); }
     void wake() override { inner_.wake(); }
+    std::uint32_t quiets() override { return inner_.quiets(); }
 
 private:
     detail::thread_link inner_;
@@ -381,8 +383,10 @@ public:
     std::shared_ptr<const detail::decision> decided(std::uint32_t) override { return nullptr; }
     bool ended() override { return false; }
     void fail(const tezgumi::fault &) override {}
-    void rest(std::uint32_t) override {}
+    void exit(std::uint32_t, const detail::beside &) override {}
+    void rest(std::uint32_t, std::uint64_t) override {}
     void wake() override {}
+    std::uint32_t quiets() override { return 0; }
 };
 
 // PEs become slow one after another: what waits for each comes to its room, and then there is one more.
@@ -667,6 +671,44 @@ void bodies()
     expect("a body goes down a tree of PEs", good && is_tree && of_pe[0] + of_pe[1] + of_pe[2] + of_pe[3] == pes - 1);
 }
 
+// A message to some elements: its body goes to their PEs, once to each.
+struct caller : tezgumi::chare {
+    using messages = tezgumi::messages<std::string>;
+    bool is_called = false;
+    void pup(pup::er &p) { p(is_called); }
+    void resume(tezgumi::round, tezgumi::array<caller> &all)
+    {
+        std::vector<std::uint32_t> some;
+        for (std::uint32_t i = 0; i < all.size(); i++) {
+            if (i % 100 == 7 && i / 100 != 2) some.push_back(i);
+            if (i / 100 == 3) some.push_back(i);
+        }
+        if (all.me() == 0) all.send(std::string(2000, 'c'), some);
+        is_called = std::count(some.begin(), some.end(), all.me()) > 0;
+        if (!is_called) finish();
+    }
+    void receive(const std::string &)
+    {
+        word(0)++;
+        finish();
+    }
+};
+
+void lists()
+{
+    tests::clear_page();
+    net<caller> net(4);
+    std::atomic<std::uint64_t> bodies[4] = {}, bytes{0};
+    net.to.sends = [&](std::uint32_t, std::uint32_t to, detail::batch &of) {
+        detail::parcel next;
+        for (detail::batch copy = of; copy.front(next); copy.pop(next)) bodies[to] += next.is_body();
+        bytes += of.whole_size();
+    };
+    const bool good = !net.run(400, [](std::uint32_t) { return caller(); });
+    const bool are_right = bodies[0] == 0 && bodies[1] == 1 && bodies[2] == 0 && bodies[3] == 1;
+    expect("the body of a message to some elements goes once to each of their PEs", good && are_right && bytes < 2 * 2100 + 104 * 60 && net.letters.executed == 103);
+}
+
 // ---- Marks of rounds, which travel with an element, and which the board does not weigh ----
 
 struct wanderer : tezgumi::chare {
@@ -719,6 +761,7 @@ int main(int argc, char **argv)
     beginnings();
     shelves();
     bodies();
+    lists();
     marks();
     altered();
     early();

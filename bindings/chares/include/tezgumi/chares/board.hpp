@@ -277,7 +277,8 @@ private:
 };
 
 // Whether all PEs have nothing to do: each is asked by a number, and answers once it has nothing to do, with how many messages it has
-// sent and received. Nothing is left where two questions in a row are answered by the same numbers, as many sent as received.
+// sent and received. Nothing is left where two questions in a row are answered by the same numbers, as many sent as received. Letters may be
+// there that leave only then.
 class quiet_question {
 public:
     explicit quiet_question(std::uint32_t pes) : pes_(pes) {}
@@ -287,14 +288,15 @@ public:
     std::uint32_t ask()
     {
         answers_ = 0;
-        sent_ = received_ = 0;
+        sent_ = received_ = late_ = 0;
         return ++number_;
     }
     // Takes an answer, and says whether nothing is left to do.
-    bool answer(std::uint32_t number, std::uint64_t sent, std::uint64_t received)
+    bool answer(std::uint32_t number, std::uint64_t sent, std::uint64_t received, std::uint64_t late)
     {
         if (number != number_) return false;
         answers_++;
+        late_ += late;
         sent_ += sent;
         received_ += received;
         if (answers_ != pes_) return false;
@@ -303,11 +305,13 @@ public:
         received_before_ = received_;
         return same;
     }
+    // How many letters leave now, as nothing is left to do.
+    std::uint64_t late() const { return late_; }
 
 private:
     const std::uint32_t pes_;
     std::uint32_t number_ = 0, answers_ = 0;
-    std::uint64_t sent_ = 0, received_ = 0;
+    std::uint64_t sent_ = 0, received_ = 0, late_ = 0;
     std::uint64_t sent_before_ = UINT64_MAX, received_before_ = UINT64_MAX;
 };
 

@@ -99,6 +99,12 @@ struct fault {
     }
 };
 
+// How an element ended the run, by `exit`.
+struct exited {
+    std::uint32_t element = fault::no_element; // which one, if there was one
+    pup::bytes value; // as it packs
+};
+
 // A letter to an element that is not there.
 class stranger : public std::out_of_range {
 public:

@@ -115,11 +115,12 @@ private:
     {
         bool busy = link_.poll();
         // A PE that had nothing to do a moment ago only looks whether something came.
-        if (idle_ != 0 && has_nothing() && !busy && !link_.has_news(round_)) return rest(true);
+        if (idle_ != 0 && has_nothing() && !busy && !link_.has_news(round_) && link_.quiets() == quiets_) return rest(true);
         if (auto next = link_.decided(round_)) {
             adopt(*next);
             busy = true;
         }
+        busy = send_late() || busy;
         turn_began_ = clock_.look();
         if (idle_ != 0) oldest_ = turn_began_; // what could not leave before the PE rested
         busy = go_on() || busy;
@@ -367,15 +368,8 @@ private:
     {
         if (index >= n_) throw run_fault(fault_kind::mismatch, "an element is looked for that is not there");
         pe_->look(room_[index] ? me_ : places_[index]);
-        if (log_) tell_look(index);
-    }
-    void tell_look(std::uint32_t index)
-    {
-        if (room_[index]) {
-            log_->look_here(index);
-        } else {
-            log_->look(index, places_[index], round_);
-        }
+        if (log_ && room_[index]) log_->look_here(index);
+        if (log_ && !room_[index]) log_->look(index, places_[index], round_);
     }
 
     // Gives up what may leave the outbox, in which are so many parcels, or nobody knows how many. Bodies that several letters name follow.
@@ -418,6 +412,19 @@ private:
     {
         if (log_) log_->flush(to, next);
         if (to >= pes_) throw run_fault(fault_kind::mismatch, "a parcel goes to no PE");
+        if (!late_.keeps(me_, to, next)) send(to, next);
+    }
+    // Letters leave that do so once nothing else is to be done. Whether there were any.
+    bool send_late()
+    {
+        if (link_.quiets() == quiets_) return false;
+        quiets_ = link_.quiets();
+        const bool did = late_.leave([this](std::uint32_t to, const parcel &next) { send(to, next); });
+        empty_outbox();
+        return did;
+    }
+    void send(std::uint32_t to, parcel next)
+    {
         if (next.is_element()) {
             const auto at = leaving_.find(next.element());
             if (at == leaving_.end()) throw run_fault(fault_kind::mismatch, "an element leaves that did not depart");
@@ -491,8 +498,10 @@ private:
     {
         said &so = objects_.said_by(index);
         out_.taken();
+        for (const auto &some : out_.late) late_.expect(posted_ + some.first, posted_ + some.second);
         posted_ += out_.letters;
         inside_ += out_.letters;
+        if (so.exits) link_.exit(index, so.exits);
         add_to_outbox(out_.letters, true);
         mark(at);
         if (so.finished) {
@@ -676,7 +685,7 @@ private:
 
     void rest(bool is_at_rest)
     {
-        if (is_at_rest) link_.rest(round_);
+        if (is_at_rest) link_.rest(round_, late_.count());
         // The longer nothing comes the longer it sleeps, so that waiting takes little of the processor.
         idle_++;
         if (idle_ > 256) {
@@ -760,6 +769,8 @@ private:
     work_clock::point turn_began_{}, oldest_{};
     int grace_ = 0;
     patience patience_; // with PEs for which it holds back letters of others
+    late_letters late_;
+    std::uint32_t quiets_ = 0; // how often such letters have left
     // What goes beside parcels: the objects of elements that leave, and long bodies.
     std::map<std::uint32_t, beside> leaving_;
     body_room bodies_;
