@@ -709,6 +709,27 @@ void lists()
     expect("the body of a message to some elements goes once to each of their PEs", good && are_right && bytes < 2 * 2100 + 104 * 60 && net.letters.executed == 103);
 }
 
+// Of the letters that wait until nothing is to be done only those leave that the PE had told of.
+void late_ones()
+{
+    detail::late_letters late;
+    std::vector<std::uint32_t> left;
+    std::uint8_t message[30] = {0};
+    detail::parcel one;
+    one.message = message;
+    one.len = sizeof message;
+    const auto comes = [&](std::uint32_t poster, std::uint32_t number) {
+        pup::detail::write_word<std::uint32_t>(message + detail::parcel::poster_at, poster);
+        pup::detail::write_word<std::uint32_t>(message + detail::parcel::number_at, number);
+        return late.keeps(1, 2, one);
+    };
+    const auto leave = [&] { return late.leave([&](std::uint32_t to, const detail::parcel &next) { left.push_back(100 * to + next.number()); }); };
+    late.expect(5, 8);
+    bool good = !comes(1, 4) && comes(1, 5) && !comes(0, 6) && comes(1, 6) && !comes(1, 5) && !leave() && late.tell() == 2;
+    good = good && comes(1, 7) && leave() && left == std::vector<std::uint32_t>{205, 206} && !leave() && late.tell() == 1 && leave();
+    expect("letters that wait until nothing is to be done leave as they were told of", good && left.size() == 3 && left[2] == 207 && !comes(1, 7));
+}
+
 // ---- Marks of rounds, which travel with an element, and which the board does not weigh ----
 
 struct wanderer : tezgumi::chare {
@@ -762,6 +783,7 @@ int main(int argc, char **argv)
     shelves();
     bodies();
     lists();
+    late_ones();
     marks();
     altered();
     early();

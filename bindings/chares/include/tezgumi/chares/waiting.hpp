@@ -89,7 +89,12 @@ private:
 // Letters of a PE that leave only once nothing else is to be done. They are known by their numbers, until the PE gives them up.
 class late_letters {
 public:
-    std::uint64_t count() const { return letters_.size(); }
+    // How many there are, as the PE tells. Only these leave the next time, and none that comes to be before the PE hears of that.
+    std::uint64_t tell()
+    {
+        told_ = letters_.size();
+        return told_;
+    }
     // Letters with the numbers from first to before end are such.
     void expect(std::uint64_t first, std::uint64_t end)
     {
@@ -103,11 +108,11 @@ public:
         numbers_.erase(of.number());
         return true;
     }
-    // They leave, by send(to, parcel). Whether there were any.
+    // Those that were told leave, by send(to, parcel). Whether there were any.
     template <class F> bool leave(F &&send)
     {
-        const bool did = !letters_.empty();
-        for (; !letters_.empty(); letters_.pop_front()) {
+        const bool did = told_ != 0;
+        for (; told_ != 0; told_--, letters_.pop_front()) {
             parcel next;
             next.message = letters_.front().second.data();
             next.len = letters_.front().second.size();
@@ -119,6 +124,7 @@ public:
 private:
     std::unordered_set<std::uint32_t> numbers_;
     std::deque<std::pair<std::uint32_t, pup::bytes>> letters_; // where each goes, and its message
+    std::uint64_t told_ = 0;
 };
 
 // By the PE to which their elements go on adding; and by the body that they name.

@@ -138,11 +138,8 @@ private:
         return clock_.now() - turn_began_ >= long_turn || (outbound_.total() != 0 && clock_.now() - oldest_ >= long_turn);
     }
     // Whether all that this PE could do takes a message that comes. What it sends to itself it has taken in before it looks.
-    bool has_nothing() const
-    {
-        const bool none_waits = revived_.empty() && held_own_.is_empty() && held_others_.is_empty();
-        return outbound_.total() == 0 && due_.empty() && later_.empty() && !has_hand_ && none_waits;
-    }
+    bool has_nothing() const { return outbound_.total() == 0 && due_.empty() && later_.empty() && !has_hand_ && none_waits(); }
+    bool none_waits() const { return revived_.empty() && held_own_.is_empty() && held_others_.is_empty(); }
     // Sends what is ready, or all, where nothing else is to do, the turn was long, or some has waited for long.
     bool flush(bool all)
     {
@@ -180,7 +177,7 @@ private:
     }
     bool fetch_waiting()
     {
-        if (revived_.empty() && held_others_.is_empty() && held_own_.is_empty()) {
+        if (none_waits()) {
             grace_ = 0;
             return false;
         }
@@ -685,7 +682,7 @@ private:
 
     void rest(bool is_at_rest)
     {
-        if (is_at_rest) link_.rest(round_, late_.count());
+        if (is_at_rest) link_.rest(round_, late_.tell());
         // The longer nothing comes the longer it sleeps, so that waiting takes little of the processor.
         idle_++;
         if (idle_ > 256) {
