@@ -130,16 +130,20 @@ public:
     // The next batch that came; and that it is used up.
     virtual bool receive(std::uint32_t &from, batch &of) = 0;
     virtual void took(std::uint32_t from) = 0;
-    // Gives notes to the board.
+    // Gives notes to the board, with what was contributed by them.
     virtual void report(std::vector<note> &notes) = 0;
     // The last decision, where it is of a round after this one.
     virtual std::shared_ptr<const decision> decided(std::uint32_t after) = 0;
     // Whether all are to end, and that this PE has met a fault, for which all end.
     virtual bool ended() = 0;
     virtual void fail(const fault &met) = 0;
-    // This PE had nothing to do in a turn, as of this round; or had something.
-    virtual void rest(std::uint32_t round) = 0;
+    // An element ends the run. The first one that does counts.
+    virtual void exit(std::uint32_t element, const beside &value) = 0;
+    // This PE had nothing to do in a turn, as of this round, and has so many letters that leave once nothing is to be done; or it had something.
+    virtual void rest(std::uint32_t round, std::uint64_t late) = 0;
     virtual void wake() = 0;
+    // How often nothing was to be done, and such letters were to leave.
+    virtual std::uint32_t quiets() = 0;
 };
 
 } // namespace detail

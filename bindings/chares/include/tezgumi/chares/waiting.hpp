@@ -5,6 +5,7 @@
 #include "outbound.hpp"
 
 #include <map>
+#include <unordered_set>
 
 namespace tezgumi {
 namespace detail {
@@ -50,6 +51,8 @@ public:
         }
         return nullptr;
     }
+    // What the first letters wait for, where there are any.
+    Key first_key() const { return queues_.begin()->first; }
     // Takes these away.
     arrival take_first()
     {
@@ -81,6 +84,47 @@ private:
     const std::size_t batch_;
     Map queues_;
     Key key_{};
+};
+
+// Letters of a PE that leave only once nothing else is to be done. They are known by their numbers, until the PE gives them up.
+class late_letters {
+public:
+    // How many there are, as the PE tells. Only these leave the next time, and none that comes to be before the PE hears of that.
+    std::uint64_t tell()
+    {
+        told_ = letters_.size();
+        return told_;
+    }
+    // Letters with the numbers from first to before end are such.
+    void expect(std::uint64_t first, std::uint64_t end)
+    {
+        for (; first != end; first++) numbers_.insert(static_cast<std::uint32_t>(first));
+    }
+    // Whether this one, which leaves PE me, is such. Then it stays here.
+    bool keeps(std::uint32_t me, std::uint32_t to, const parcel &of)
+    {
+        if (numbers_.empty() || !of.is_letter() || of.poster() != me || numbers_.count(of.number()) == 0) return false;
+        letters_.emplace_back(to, pup::bytes(of.message, of.message + of.len));
+        numbers_.erase(of.number());
+        return true;
+    }
+    // Those that were told leave, by send(to, parcel). Whether there were any.
+    template <class F> bool leave(F &&send)
+    {
+        const bool did = told_ != 0;
+        for (; told_ != 0; told_--, letters_.pop_front()) {
+            parcel next;
+            next.message = letters_.front().second.data();
+            next.len = letters_.front().second.size();
+            send(letters_.front().first, next);
+        }
+        return did;
+    }
+
+private:
+    std::unordered_set<std::uint32_t> numbers_;
+    std::deque<std::pair<std::uint32_t, pup::bytes>> letters_; // where each goes, and its message
+    std::uint64_t told_ = 0;
 };
 
 // By the PE to which their elements go on adding; and by the body that they name.
