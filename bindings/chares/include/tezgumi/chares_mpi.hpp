@@ -468,9 +468,9 @@ private:
 
     // ---- Rank 0 ----
 
-    void take_notes(const std::vector<note> &owed)
+    void take_notes(std::vector<note> &owed)
     {
-        for (const note &one : owed) board_->take(one);
+        for (note &one : owed) board_->take(one);
         if (board_->is_complete()) {
             latest_ = std::make_shared<const decision>(board_->decide());
             if (log) log->decide(latest_->round);

@@ -101,8 +101,8 @@ public:
         for (std::uint64_t b = 0; b <= pes; b++) present_.cuts[b] = static_cast<std::uint32_t>((b * n + pes - 1) / pes);
     }
 
-    // Takes a note: the first of an element in the round that is under way, or that it has finished.
-    void take(const note &of)
+    // Takes a note, and what was contributed by it: the first of an element in the round that is under way, or that it has finished.
+    void take(note &of)
     {
         if (of.index >= n_ || of.pe >= pes_) throw run_fault(fault_kind::mismatch, "a note of no element or no PE");
         if (of.finished) {
@@ -119,7 +119,7 @@ public:
         loads_[of.index] = std::min(of.load, TEZGUMI_BOARD_LOAD);
         places_[of.index] = of.pe;
         bytes_[of.index] = of.bytes;
-        given_[of.index] = of.given;
+        given_[of.index] = std::move(of.given);
     }
 
     bool all_finished() { return handle_.all_finished(); }

@@ -130,7 +130,7 @@ public:
     // The next batch that came; and that it is used up.
     virtual bool receive(std::uint32_t &from, batch &of) = 0;
     virtual void took(std::uint32_t from) = 0;
-    // Gives notes to the board.
+    // Gives notes to the board, with what was contributed by them.
     virtual void report(std::vector<note> &notes) = 0;
     // The last decision, where it is of a round after this one.
     virtual std::shared_ptr<const decision> decided(std::uint32_t after) = 0;

@@ -50,14 +50,14 @@ public:
 
     // ---- The board ----
 
-    // Hands in notes. One thread at a time takes them to the board, and decides; the others leave theirs to it, and go on. What takes long
-    // is done outside of the lock: a round is decided, then all are told of it, and then the program is.
-    void report(const std::vector<note> &notes, event_log *log)
+    // Hands in notes, and takes what was contributed by them. One thread at a time brings them to the board, and decides; the others leave theirs
+    // to it, and go on. What takes long is done outside of the lock: a round is decided, then all are told of it, and then the program is.
+    void report(std::vector<note> &notes, event_log *log)
     {
         std::vector<note> mine;
         {
             const std::lock_guard<std::mutex> lock(mutex_);
-            notes_.insert(notes_.end(), notes.begin(), notes.end());
+            notes_.insert(notes_.end(), std::make_move_iterator(notes.begin()), std::make_move_iterator(notes.end()));
             if (is_deciding_) return;
             is_deciding_ = true;
         }
@@ -126,9 +126,9 @@ private:
         if (mine.empty()) is_deciding_ = false;
         return !mine.empty();
     }
-    void post(const std::vector<note> &notes, event_log *log)
+    void post(std::vector<note> &notes, event_log *log)
     {
-        for (const note &one : notes) board_.take(one);
+        for (note &one : notes) board_.take(one);
         if (board_.is_complete()) {
             auto next = std::make_shared<const decision>(board_.decide());
             if (log) log->decide(next->round);

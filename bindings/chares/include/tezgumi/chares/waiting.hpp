@@ -50,6 +50,8 @@ public:
         }
         return nullptr;
     }
+    // What the first letters wait for, where there are any.
+    Key first_key() const { return queues_.begin()->first; }
     // Takes these away.
     arrival take_first()
     {

@@ -47,7 +47,8 @@ struct settings {
     // A message between PEs is sent once it has so many bytes, 1 to 2^30, or nothing else is to do, or a handler took long.
     std::size_t batch = 64 * 1024;
     std::uint32_t window = 4; // so many messages, 1 to 2^20, a PE sends to another before that one has used one up
-    // Where a PE cannot get rid of so many bytes, 0 to 2^40, elements that go on adding to those for a slow PE are held back.
+    // Where a PE cannot get rid of so many bytes, 0 to 2^40, elements that go on adding to those for a slow PE are held back: with one such PE.
+    // With several all together wait for at most twice as much.
     std::size_t backlog = 16 * 1024 * 1024;
     std::uint32_t quiet = 20; // after so many milliseconds without anything to do it is asked whether all PEs have nothing
     bool moves_all = false; // for tests: in each round every element goes to the next PE, and on one PE it is packed and unpacked anew

@@ -4,6 +4,7 @@
 
 #include "bodies.hpp"
 #include "events.hpp"
+#include "patience.hpp"
 #include "waiting.hpp"
 #include "work_clock.hpp"
 
@@ -16,7 +17,7 @@ class worker {
 public:
     worker(link &carrier, const settings &how, elements &objects)
         : link_(carrier), how_(how), objects_(objects), out_(objects.out), me_(out_.pe), pes_(out_.pes), n_(out_.n), room_(n_), outbound_(how, pes_),
-          held_own_(how.batch), held_others_(how.batch), bodiless_(how.batch), clock_(how.clock), bodies_(pes_), places_(n_)
+          held_own_(how.batch), held_others_(how.batch), bodiless_(how.batch), clock_(how.clock), patience_(pes_), bodies_(pes_), places_(n_)
     {
         own_.from = me_;
         out_.held = &bodies_.all();
@@ -120,6 +121,7 @@ private:
             busy = true;
         }
         turn_began_ = clock_.look();
+        if (idle_ != 0) oldest_ = turn_began_; // what could not leave before the PE rested
         busy = go_on() || busy;
         for (int i = 0; i < steps_a_turn && (i == 0 || !is_long()) && step(); i++) busy = true;
         empty_outbox();
@@ -129,7 +131,11 @@ private:
         if (busy) return wake();
         rest(has_nothing());
     }
-    bool is_long() const { return clock_.now() - turn_began_ >= long_turn; }
+    // Whether it ends now: it has taken so long, or what waits to leave has waited so long.
+    bool is_long() const
+    {
+        return clock_.now() - turn_began_ >= long_turn || (outbound_.total() != 0 && clock_.now() - oldest_ >= long_turn);
+    }
     // Whether all that this PE could do takes a message that comes. What it sends to itself it has taken in before it looks.
     bool has_nothing() const
     {
@@ -140,30 +146,16 @@ private:
     bool flush(bool all)
     {
         if (outbound_.total() == 0) return false;
-        all = all || is_long() || clock_.now() - oldest_ >= long_turn;
-        if (!outbound_.flush(link_, round_, all)) return false;
-        if (all) oldest_ = clock_.now();
-        return true;
+        all = all || is_long();
+        if (all) oldest_ = clock_.now(); // what may not leave now waits anew
+        return outbound_.flush(link_, round_, all);
     }
-    // PEs that hold back letters for each other would wait for ever. So after a while a PE that does nothing, and holds back letters of
-    // others, runs some of these; and one that goes on with its own runs one now and then.
+    // Runs some of the letters of others that it holds back, where these have waited for long.
     void give_way(bool busy)
     {
-        if (busy) is_stalled_ = false;
-        if (held_others_.is_empty()) is_kept_ = false;
-        if (held_others_.is_empty()) return;
-        const auto now = clock_.look();
-        if (!is_kept_) kept_since_ = now;
-        is_kept_ = true;
-        if (busy) {
-            if (now - kept_since_ <= std::chrono::milliseconds(100)) return;
-            grace_ = 1;
-            is_kept_ = false;
-            return;
-        }
-        if (is_stalled_ && now - stalled_since_ > std::chrono::milliseconds(1)) grace_ = steps_a_turn;
-        if (!is_stalled_) stalled_since_ = now;
-        is_stalled_ = grace_ == 0;
+        if (held_others_.is_empty()) return patience_.rest();
+        const std::uint32_t on = held_others_.first_key();
+        grace_ = std::max(grace_, patience_.after(busy, clock_.look(), on, outbound_.sent(on)));
     }
 
     // One parcel further. Whether anything was done.
@@ -187,6 +179,10 @@ private:
     }
     bool fetch_waiting()
     {
+        if (revived_.empty() && held_others_.is_empty() && held_own_.is_empty()) {
+            grace_ = 0;
+            return false;
+        }
         while (!revived_.empty()) {
             const bool is_taken = take_front(revived_.front(), 2);
             if (!revived_.front().parcels.has_next()) {
@@ -200,7 +196,7 @@ private:
             if (fetch_held(held_others_, 0)) return true;
         }
         if (fetch_held(held_others_, 2)) {
-            is_kept_ = false;
+            patience_.goes_on();
             return true;
         }
         return fetch_held(held_own_, 1);
@@ -268,7 +264,7 @@ private:
             later_.erase(at);
             return true;
         }
-        for (;;) {
+        while (link_.has_news(round_)) {
             later_.reserve(later_.size() + 1); // so that what was received is not lost
             inbox_ = arrival();
             if (!link_.receive(inbox_.from, inbox_.parcels)) return false;
@@ -276,6 +272,7 @@ private:
             if (inbox_.parcels.round() <= round_) return true;
             later_.push_back(std::move(inbox_));
         }
+        return false;
     }
 
     // Takes the parcel in front of these into the hand, or puts it where it waits. Whether it is in the hand.
@@ -301,7 +298,7 @@ private:
             return true;
         }
         if (!next.is_letter()) return false;
-        if (next.has_ticket() && next.its_ticket().is_shared() && !next.has_extra() && !bodies_.has(next.its_ticket())) {
+        if (next.body_len() == ticket_bytes && next.has_ticket() && next.its_ticket().is_shared() && !next.has_extra() && !bodies_.has(next.its_ticket())) {
             arrival alone;
             alone.from = of.from;
             bodiless_.add(next.its_ticket(), alone, next);
@@ -666,9 +663,9 @@ private:
                 owed.bytes = at.bytes;
                 std::swap(owed.given, at.given);
             }
-            notes_.push_back(owed);
+            notes_.push_back(std::move(owed));
             pe_->note_done();
-            if (log_) log_->report(owed);
+            if (log_) log_->report(notes_.back());
         }
         if (notes_.empty()) return false;
         link_.report(notes_);
@@ -760,9 +757,9 @@ private:
     std::deque<arrival> revived_;
     arrival spent_;
     work_clock clock_;
-    work_clock::point turn_began_{}, oldest_{}, stalled_since_{}, kept_since_{};
-    bool is_stalled_ = false, is_kept_ = false;
+    work_clock::point turn_began_{}, oldest_{};
     int grace_ = 0;
+    patience patience_; // with PEs for which it holds back letters of others
     // What goes beside parcels: the objects of elements that leave, and long bodies.
     std::map<std::uint32_t, beside> leaving_;
     body_room bodies_;
