@@ -44,6 +44,7 @@ struct settings {
     std::uint32_t tolerance = 0; // in thousandths of the least greatest load
     std::string dumps; // where it is not empty: each round that is balanced is dumped to this name, a dot and the round
     std::string events; // where it is not empty: each PE writes its events to this name, a dot and its number
+    std::string trace; // where it is not empty: each PE writes the times of its handlers to this name, a dot and its number
     // A message between PEs is sent once it has so many bytes, 1 to 2^30, or nothing else is to do, or a handler took long.
     std::size_t batch = 64 * 1024;
     std::uint32_t window = 4; // so many messages, 1 to 2^20, a PE sends to another before that one has used one up
@@ -68,7 +69,7 @@ enum class fault_kind : std::uint32_t {
     handler = 5, // a handler, or a pup, ended by an exception
     quiet = 6, // nothing was left to do, and an element had not finished
     mismatch = 7, // what was carried is not what was sent: an error in the driver or below
-    dump = 8, // a dump was not written, or the events
+    dump = 8, // a dump was not written, or the events or the trace
     input = 9 // the settings, the planner or the PE refused something
 };
 

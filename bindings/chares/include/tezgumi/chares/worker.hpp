@@ -5,6 +5,7 @@
 #include "bodies.hpp"
 #include "events.hpp"
 #include "patience.hpp"
+#include "trace.hpp"
 #include "waiting.hpp"
 #include "work_clock.hpp"
 
@@ -42,6 +43,7 @@ public:
                     tell(how_.on_turn, me_);
                     turn();
                     if (log_) log_->check();
+                    if (trace_) trace_->check();
                 }
             } catch (...) {
                 fail();
@@ -57,6 +59,7 @@ public:
         std::exception_ptr lost;
         try {
             if (log_) log_->close();
+            if (trace_) trace_->close();
         } catch (...) {
             lost = std::current_exception();
         }
@@ -99,6 +102,7 @@ private:
             log_ = std::make_unique<event_log>(how_, me_, pes_, n_);
             link_.log = log_.get();
         }
+        if (!how_.trace.empty()) trace_ = std::make_unique<time_trace>(how_, me_);
         pe_ = std::make_unique<pe_handle>(me_, pes_, n_);
         for (std::uint32_t i = 0; i < n_; i++) {
             if (opening_place(i) != me_) continue;
@@ -472,6 +476,7 @@ private:
             guarded(index, [&] { objects_.pack(index, p); });
         }
         out_.begin(index);
+        if (trace_) trace_->begin();
         clock_.start(kind);
         try {
             guarded(index, handler);
@@ -486,6 +491,7 @@ private:
         said &so = objects_.said_by(index);
         so.end(at.waits);
         const std::uint64_t measured = clock_.end(so.named), units = so.named ? so.units : measured;
+        if (trace_) trace_->handler(index, kind);
         if (so.at_sync && !at.waits) guarded(index, [&] { at.bytes = objects_.size(index); });
         out_.end(units, so.at_sync, so.finished, at.bytes);
     }
@@ -568,6 +574,7 @@ private:
             for (std::uint32_t i = next.cuts[b]; i < next.cuts[b + 1]; i++) places_[i] = next.names[b];
         }
         round_ = next.round;
+        if (trace_) trace_->round(round_);
         results_ = next.results;
         std::sort(waiting_.begin(), waiting_.end());
         // Those that leave go first, and letters of the others then follow them.
@@ -619,6 +626,7 @@ private:
     }
     void depart(std::uint32_t index, slot &at)
     {
+        if (trace_) trace_->begin();
         const auto packed = std::make_shared<pup::bytes>();
         pup::er p(*packed);
         p(index, at.finished, at.waits_for);
@@ -630,6 +638,7 @@ private:
         leaving_.emplace(index, packed);
         room_[index].reset();
         objects_.remove(index);
+        if (trace_) trace_->left(index, round_);
     }
     // An element that came is unpacked.
     slot &keep(std::uint32_t index, const std::uint8_t *from, std::size_t len)
@@ -649,7 +658,9 @@ private:
     }
     void install(std::uint32_t index, const std::uint8_t *from, std::size_t len)
     {
+        if (trace_) trace_->begin();
         const slot &at = keep(index, from, len);
+        if (trace_) trace_->came(index, round_);
         if (at.waits_for != round_) throw run_fault(fault_kind::mismatch, "an element came for another round", index);
         due_.push_back(index);
     }
@@ -683,6 +694,7 @@ private:
     void rest(bool is_at_rest)
     {
         if (is_at_rest) link_.rest(round_, late_.tell());
+        if (trace_) trace_->rests();
         // The longer nothing comes the longer it sleeps, so that waiting takes little of the processor.
         idle_++;
         if (idle_ > 256) {
@@ -694,6 +706,7 @@ private:
     void wake()
     {
         if (idle_ != 0) link_.wake();
+        if (trace_) trace_->wakes();
         idle_ = 0;
     }
 
@@ -747,6 +760,7 @@ private:
     const std::uint32_t me_, pes_, n_;
     std::unique_ptr<pe_handle> pe_;
     std::unique_ptr<event_log> log_; // where events are to be written down
+    std::unique_ptr<time_trace> trace_; // and where times are
     std::vector<std::unique_ptr<slot>> room_; // of each element that is here
     // Parcels: those of this PE to itself, the batch that is being used up, those that came too early, and those that leave.
     arrival own_;
