@@ -37,9 +37,10 @@ using tezgumi::detail::decision;
 using tezgumi::detail::note;
 using tezgumi::detail::quiet_question;
 using tezgumi::detail::run_fault;
+using tezgumi::detail::share_of_fold;
 
 // What a message is.
-enum tag : int { parcels = 1, used = 2, notes = 3, round_decided = 4, failed = 5, the_end = 6, question = 7, answer = 8, attached = 9, ended_by = 10, quiet = 11 };
+enum tag : int { parcels = 1, used = 2, notes = 3, round_decided = 4, failed = 5, the_end = 6, question = 7, answer = 8, attached = 9, ended_by = 10, quiet = 11, shares = 12, whole = 13 };
 
 // A fault as bytes of a size that is known before, so that telling of it takes no memory.
 struct told_fault {
@@ -122,7 +123,7 @@ public:
         for (int i = 0; i < 32 && take_one(); i++) came = true;
         return read_what_came() || came;
     }
-    bool has_news(std::uint32_t round) override { return !inbox_.empty() || (latest_ && latest_->round > round); }
+    bool has_news(std::uint32_t round) override { return !inbox_.empty() || !folded_.empty() || (latest_ && latest_->round > round); }
     bool may_send(std::uint32_t to) override { return outstanding_[to] < how_.window; }
     // What is shared with a batch follows it, each by itself. The number of these stands behind its bytes.
     void send(std::uint32_t to, batch &of) override
@@ -163,6 +164,21 @@ public:
         pup::bytes bytes;
         pup::pack(owed, bytes);
         post(0, notes, std::move(bytes));
+    }
+    void contribute(std::vector<share_of_fold> &given) override
+    {
+        if (me_ == 0) return take_shares(given);
+        pup::bytes bytes;
+        pup::pack(given, bytes);
+        post(0, shares, std::move(bytes));
+    }
+    bool folded(std::uint64_t &key, beside &of) override
+    {
+        if (folded_.empty()) return false;
+        key = folded_.front().first;
+        of = std::move(folded_.front().second);
+        folded_.pop_front();
+        return true;
     }
     std::shared_ptr<const decision> decided(std::uint32_t after) override
     {
@@ -283,6 +299,7 @@ private:
             end_requests_.assign(ranks_, MPI_REQUEST_NULL);
             if (me_ == 0) {
                 board_ = std::make_unique<board>(how_, ranks_, n_);
+                folds_ = std::make_unique<tezgumi::detail::folds>(n_);
                 question_ = std::make_unique<quiet_question>(ranks_);
             }
             more();
@@ -494,6 +511,14 @@ private:
             hear_answer(static_cast<std::uint32_t>(of[0]), of[1], of[2], of[3]);
         } else if (what == quiet) {
             quiets_++;
+        } else if (what == shares) {
+            std::vector<share_of_fold> given;
+            pup::unpack(given, bytes.data(), bytes.size());
+            take_shares(given);
+        } else if (what == whole) {
+            std::pair<std::uint64_t, pup::bytes> of;
+            pup::unpack(of, bytes.data(), bytes.size());
+            folded_.emplace_back(of.first, std::make_shared<const pup::bytes>(std::move(of.second)));
         } else if (what == ended_by) {
             std::pair<std::uint32_t, pup::bytes> of;
             pup::unpack(of, bytes.data(), bytes.size());
@@ -519,6 +544,21 @@ private:
             tezgumi::detail::tell(how_.on_round, rounds_.back());
         }
         if (board_->all_finished()) end();
+    }
+    void take_shares(std::vector<share_of_fold> &given)
+    {
+        for (share_of_fold &one : given) {
+            share_of_fold all;
+            if (!folds_->take(one, all)) continue;
+            pup::bytes packed, bytes;
+            pup::pack(all.of, packed);
+            if (all.pe == 0) {
+                folded_.emplace_back(all.of.key, std::make_shared<const pup::bytes>(std::move(packed)));
+                continue;
+            }
+            pup::pack(std::make_pair(all.of.key, packed), bytes);
+            post(all.pe, whole, std::move(bytes));
+        }
     }
     // An element ends the run. The first one that is heard of does.
     void hear_exit(std::uint32_t element, const pup::bytes &value)
@@ -601,10 +641,12 @@ private:
     int refusals_ = 0; // of memory for the message in front, in a row
     std::chrono::steady_clock::time_point since_{};
     std::uint32_t asked_ = 0, answered_ = 0, quiets_ = 0;
+    std::deque<std::pair<std::uint64_t, beside>> folded_; // what folds came to
     exited exit_; // on rank 0, and on all of them at the end
     // On rank 0.
     std::unique_ptr<board> board_;
     std::unique_ptr<quiet_question> question_;
+    std::unique_ptr<tezgumi::detail::folds> folds_;
     std::vector<round_report> rounds_;
 };
 

@@ -11,6 +11,7 @@
 
 #include <algorithm>
 #include <cstdio>
+#include <map>
 #include <new>
 
 namespace tezgumi {
@@ -274,6 +275,46 @@ private:
     decision present_;
     round_report report_;
     pup::bytes dump_; // of the round that was decided last, until it is written
+};
+
+// Folds that wait for no round: of each what its elements have contributed so far.
+class folds {
+public:
+    explicit folds(std::uint32_t n) : n_(n) {}
+
+    // Takes what an element contributes. Whether it was the last; then this is what they came to, for the PE of the first element.
+    bool take(share_of_fold &of, share_of_fold &whole)
+    {
+        shares &all = open_[of.of.key];
+        if (all.given.empty()) all.given.resize(n_);
+        if (of.index >= n_) throw run_fault(fault_kind::mismatch, "what no element contributes came");
+        if (all.given[of.index].is_there()) {
+            throw run_fault(fault_kind::input, "the element contributes twice to fold " + std::to_string(of.of.key), of.index);
+        }
+        all.given[of.index] = std::move(of.of.value);
+        if (of.index == 0) all.pe = of.pe;
+        if (++all.count != n_) return false;
+        whole.pe = all.pe;
+        whole.of.key = of.of.key;
+        whole.of.value = contribution();
+        for (std::uint32_t i = 0; i < n_; i++) {
+            try {
+                whole.of.value.join(all.given[i]);
+            } catch (const std::invalid_argument &) {
+                throw run_fault(fault_kind::input, "contributions to fold " + std::to_string(of.of.key) + " differ in kind or in length", i);
+            }
+        }
+        open_.erase(of.of.key);
+        return true;
+    }
+
+private:
+    struct shares {
+        std::vector<contribution> given;
+        std::uint32_t count = 0, pe = 0;
+    };
+    const std::uint32_t n_;
+    std::map<std::uint64_t, shares> open_;
 };
 
 // Whether all PEs have nothing to do: each is asked by a number, and answers once it has nothing to do, with how many messages it has

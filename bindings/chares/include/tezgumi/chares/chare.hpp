@@ -123,6 +123,8 @@ public:
         letters = 0;
         receivers.clear();
         late.clear();
+        shares.clear();
+        awaited.clear();
         for (const ticket &made : tickets) held->erase(made);
         tickets.clear();
         check(tezgumi_answer_begin(&answer, 0, false, false));
@@ -174,25 +176,45 @@ public:
     }
     // Sends it to so many elements, whose indices are to(0), to(1) and so on; or to none where that throws. A body that is long, for all together, is
     // there once, and all these letters name it.
-    template <class F> void post_to_each(std::size_t count, F &&to)
+    template <class F> void post_to_each(std::size_t count, F &&to, bool is_awaited = false)
     {
         if (count == 0) return;
         const std::size_t len = answer.len;
         const std::uint64_t before = letters;
-        if (!shared && body.size() > copied_body && body.size() > copied_bodies / count) {
+        const bool is_short = !shared && !is_awaited;
+        if (is_short && body.size() > copied_body && body.size() > copied_bodies / count) {
             put_beside(std::make_shared<const pup::bytes>(body.begin() + 1, body.end()));
         }
-        const ticket made = shared ? keep(shared_bit, count) : ticket();
+        const bool is_beside = shared || is_awaited;
+        const ticket made = is_beside ? keep(shared_bit, count) : ticket();
         try {
             for (std::size_t i = 0; i < count; i++) add(to(i));
         } catch (...) {
-            if (shared) let_go(made);
+            if (is_beside) let_go(made);
             receivers.resize(static_cast<std::size_t>(before));
             letters = before;
             answer.len = len;
             tezgumi_answer_put(answer.bytes + letters_at, letters, 4);
             throw;
         }
+    }
+    // Contributes to a fold. The first element posts the letters with what that comes to, as a message of this type: their body comes later.
+    template <class F> void contribute(std::uint64_t key, const contribution &value, std::size_t place, std::size_t count, F &&to)
+    {
+        share_of_fold mine;
+        mine.index = me;
+        mine.pe = pe;
+        mine.of.key = key;
+        mine.of.value = value;
+        reserve_one(shares);
+        reserve_one(awaited);
+        if (me == 0) {
+            body.assign(1, static_cast<std::uint8_t>(place));
+            put_beside(nullptr);
+            post_to_each(count, to, true);
+            awaited.emplace_back(key, tickets.back());
+        }
+        shares.push_back(std::move(mine));
     }
     void post_to_all()
     {
@@ -214,6 +236,8 @@ public:
     std::uint32_t me = 0;
     std::uint64_t letters = 0;
     std::vector<std::uint32_t> receivers; // of these letters, in order
+    std::vector<share_of_fold> shares; // what it contributes to folds
+    std::vector<std::pair<std::uint64_t, ticket>> awaited; // of the first element: the folds to which it contributes, and the bodies with what these come to
     std::vector<std::pair<std::uint64_t, std::uint64_t>> late; // those that leave once nothing else is to be done: from which to before which
     tezgumi_answer answer = {nullptr, 0, 0};
     besides *held = nullptr;
@@ -281,7 +305,7 @@ private:
 //     using messages = tezgumi::messages<..>;                    the types that it receives
 //     void pup(tezgumi::pup::er &p);
 //     void resume(tezgumi::round r, tezgumi::array<C> &all);     as it starts, r being 0, and after each round
-//     void receive(const M &message, tezgumi::array<C> &all);    for each type of its messages
+//     void receive(const M &message, tezgumi::array<C> &all);    for each type of its messages, tezgumi::folded among them if it has folds
 //
 // and can be made without arguments. The last argument of a handler may be left out. What a handler says by the functions
 // below holds as it returns.
@@ -309,6 +333,9 @@ protected:
     // A value of this element, for a fold over those of all. It counts for the round that the element is at sync for next, and the result
     // comes with that round. Several are kept in their order.
     void contribute(const contribution &value) { said_.given.push_back(value); }
+    // A value of this element for a fold that waits for no round: once all elements have contributed to the one with this key, an element or all
+    // get what it came to, as a message tezgumi::folded. All name the same receiver.
+    template <class To> void contribute(std::uint64_t key, const contribution &value, const To &to) { to.contribute(key, value); }
 
 private:
     friend struct detail::said_of;
@@ -356,6 +383,12 @@ public:
 
     private:
         friend class array;
+        friend class chare;
+        void contribute(std::uint64_t key, const contribution &value) const
+        {
+            out_->must_be_there(index_);
+            out_->contribute(key, value, place_of_folds(), 1, [this](std::size_t) { return index_; });
+        }
         element(detail::outgoing *out, std::uint32_t index) : out_(out), index_(index) {}
         detail::outgoing *out_;
         std::uint32_t index_;
@@ -416,6 +449,17 @@ public:
     }
 
 private:
+    friend class chare;
+    static constexpr std::size_t place_of_folds()
+    {
+        using place = detail::place_of<folded, typename C::messages>;
+        static_assert(place::is_there, "what contributions come to is a message, so tezgumi::folded stands among the messages of the chare");
+        return place::value;
+    }
+    void contribute(std::uint64_t key, const contribution &value) const
+    {
+        out_->contribute(key, value, place_of_folds(), out_->n, [](std::size_t i) { return static_cast<std::uint32_t>(i); });
+    }
     template <class I> static constexpr void must_be_indices()
     {
         static_assert(std::is_integral<I>::value && !std::is_same<I, bool>::value, "the index of an element is a whole number");

@@ -14,7 +14,7 @@ namespace detail {
 // What the threads of a run share.
 class field {
 public:
-    field(const settings &how, std::uint32_t pes, std::uint32_t n) : how_(how), board_(how, pes, n), boxes_(pes), question_(pes)
+    field(const settings &how, std::uint32_t pes, std::uint32_t n) : how_(how), folds_(n), board_(how, pes, n), boxes_(pes), question_(pes)
     {
         for (std::uint32_t pe = 0; pe < pes; pe++) boxes_[pe] = std::make_unique<box>(pes);
         ended_ = board_.all_finished();
@@ -45,8 +45,34 @@ public:
         at.count--;
         return true;
     }
-    bool has_news(std::uint32_t me, std::uint32_t round) const { return boxes_[me]->count.load() != 0 || decided_.load() > round; }
+    bool has_news(std::uint32_t me, std::uint32_t round) const { return boxes_[me]->count.load() != 0 || boxes_[me]->folds_there.load() != 0 || decided_.load() > round; }
     void took(std::uint32_t me, std::uint32_t from) { boxes_[me]->outstanding[from]--; }
+
+    // ---- Folds ----
+
+    void contribute(std::vector<share_of_fold> &shares)
+    {
+        for (share_of_fold &one : shares) {
+            share_of_fold whole;
+            const std::lock_guard<std::mutex> lock(folds_mutex_);
+            if (!folds_.take(one, whole)) continue;
+            auto packed = std::make_shared<pup::bytes>();
+            pup::pack(whole.of, *packed);
+            boxes_[whole.pe]->folded.emplace_back(whole.of.key, std::move(packed));
+            boxes_[whole.pe]->folds_there++;
+        }
+    }
+    bool folded(std::uint32_t me, std::uint64_t &key, beside &whole)
+    {
+        box &at = *boxes_[me];
+        if (at.folds_there.load() == 0) return false;
+        const std::lock_guard<std::mutex> lock(folds_mutex_);
+        key = at.folded.front().first;
+        whole = std::move(at.folded.front().second);
+        at.folded.pop_front();
+        at.folds_there--;
+        return true;
+    }
 
     // ---- The board ----
 
@@ -168,11 +194,14 @@ private:
         explicit box(std::uint32_t pes) : outstanding(pes) {}
         std::mutex mutex;
         std::deque<std::pair<std::uint32_t, batch>> batches;
-        std::atomic<std::size_t> count{0};
+        std::atomic<std::size_t> count{0}, folds_there{0};
+        std::deque<std::pair<std::uint64_t, beside>> folded; // what folds came to, under the lock of all
         std::vector<std::atomic<std::uint32_t>> outstanding; // of each PE that sends here
     };
 
     const settings &how_;
+    std::mutex folds_mutex_; // of the folds, and what they came to
+    folds folds_;
     std::mutex mutex_; // of all that follows but the queues, and the board, which one thread has at a time
     std::vector<note> notes_; // that the board has not taken
     bool is_deciding_ = false; // whether a thread has the board
@@ -209,6 +238,8 @@ public:
     }
     void took(std::uint32_t from) override { field_.took(me_, from); }
     void report(std::vector<note> &notes) override { field_.report(notes, log); }
+    void contribute(std::vector<share_of_fold> &shares) override { field_.contribute(shares); }
+    bool folded(std::uint64_t &key, beside &whole) override { return field_.folded(me_, key, whole); }
     std::shared_ptr<const decision> decided(std::uint32_t after) override { return field_.decided(after); }
     bool ended() override { return field_.ended(); }
     void fail(const fault &met) override { field_.fail(met); }

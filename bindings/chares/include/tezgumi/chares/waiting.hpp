@@ -10,6 +10,17 @@
 namespace tezgumi {
 namespace detail {
 
+inline constexpr std::uint32_t nobody = UINT32_MAX;
+
+// An element of a PE: whether it waits for a round, and the size and the contribution that it told for that.
+struct slot {
+    bool waits = false, finished = false;
+    std::uint32_t round = 0, waits_for = 0;
+    std::uint32_t adds_to = nobody; // the PE to which it went on adding letters, where those were over the limit
+    std::uint64_t bytes = 0;
+    contributions given;
+};
+
 // A batch whose letters wait in several parts. Once all these are used up its sender is told that the batch is.
 struct credit {
     std::size_t parts = 1;

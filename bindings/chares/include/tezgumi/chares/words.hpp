@@ -230,6 +230,21 @@ private:
 // What an element contributes to a round, in order.
 using contributions = std::vector<contribution>;
 
+// What all elements contributed to one fold came to, as a message: it stands among the messages of a chare that contributes to such.
+struct folded {
+    std::uint64_t key = 0; // which fold
+    contribution value;
+
+    void pup(pup::er &p) { p(key, value); }
+    template <class T> std::vector<T> results() const { return value.template values<T>(); }
+    template <class T> T result() const
+    {
+        const std::vector<T> found = results<T>();
+        if (found.size() != 1) throw std::logic_error("more values than one were contributed");
+        return found[0];
+    }
+};
+
 template <class T> contribution sum(T value) { return contribution(contribution::fold::sum, &value, 1); }
 template <class T> contribution least(T value) { return contribution(contribution::fold::least, &value, 1); }
 template <class T> contribution greatest(T value) { return contribution(contribution::fold::greatest, &value, 1); }
@@ -274,6 +289,14 @@ struct note {
     contributions given;
 
     void pup(pup::er &p) { p(finished, index, round, pe, load, bytes, given); }
+};
+
+// What an element on a PE contributes to a fold that waits for no round.
+struct share_of_fold {
+    std::uint32_t index = 0, pe = 0;
+    folded of;
+
+    void pup(pup::er &p) { p(index, pe, of); }
 };
 
 // The decision of a round: block b is the elements cuts[b] .. cuts[b + 1] - 1, and goes to PE names[b].

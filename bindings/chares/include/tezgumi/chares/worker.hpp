@@ -73,17 +73,7 @@ public:
     }
 
 private:
-    // An element of this PE: whether it waits for a round, and the size and the contribution that it told for that.
-    struct slot {
-        bool waits = false, finished = false;
-        std::uint32_t round = 0, waits_for = 0;
-        std::uint32_t adds_to = nobody; // the PE to which it went on adding letters, where those were over the limit
-        std::uint64_t bytes = 0;
-        contributions given;
-    };
-
     static constexpr int steps_a_turn = 64;
-    static constexpr std::uint32_t nobody = UINT32_MAX;
     static constexpr std::uint64_t unknown = UINT64_MAX;
     static constexpr std::size_t copied_extra = 16 * 1024; // shorter bytes beside parcels are copied into batches
     static constexpr std::chrono::microseconds long_turn{200};
@@ -120,11 +110,10 @@ private:
         bool busy = link_.poll();
         // A PE that had nothing to do a moment ago only looks whether something came.
         if (idle_ != 0 && has_nothing() && !busy && !link_.has_news(round_) && link_.quiets() == quiets_) return rest(true);
-        if (auto next = link_.decided(round_)) {
-            adopt(*next);
-            busy = true;
-        }
-        busy = send_late() || busy;
+        const auto next = link_.decided(round_);
+        if (next) adopt(*next);
+        const bool has_sent = send_late(), has_folds = take_folds();
+        busy = busy || next || has_sent || has_folds;
         turn_began_ = clock_.look();
         if (idle_ != 0) oldest_ = turn_began_; // what could not leave before the PE rested
         busy = go_on() || busy;
@@ -137,10 +126,8 @@ private:
         rest(has_nothing());
     }
     // Whether it ends now: it has taken so long, or what waits to leave has waited so long.
-    bool is_long() const
-    {
-        return clock_.now() - turn_began_ >= long_turn || (outbound_.total() != 0 && clock_.now() - oldest_ >= long_turn);
-    }
+    bool is_long() const { return is_past(turn_began_) || (outbound_.total() != 0 && is_past(oldest_)); }
+    bool is_past(work_clock::point since) const { return clock_.now() - since >= long_turn; }
     // Whether all that this PE could do takes a message that comes. What it sends to itself it has taken in before it looks.
     bool has_nothing() const { return outbound_.total() == 0 && due_.empty() && later_.empty() && !has_hand_ && none_waits(); }
     bool none_waits() const { return revived_.empty() && held_own_.is_empty() && held_others_.is_empty(); }
@@ -415,6 +402,18 @@ private:
         if (to >= pes_) throw run_fault(fault_kind::mismatch, "a parcel goes to no PE");
         if (!late_.keeps(me_, to, next)) send(to, next);
     }
+    // What folds came to goes into the letters that wait for it. Whether there was any.
+    bool take_folds()
+    {
+        std::uint64_t key = 0;
+        beside whole;
+        bool did = false;
+        for (; link_.folded(key, whole); did = true) {
+            for (arrival &one : bodiless_.take(bodies_.fill(key, whole))) revived_.push_back(std::move(one));
+        }
+        if (did) empty_outbox();
+        return did;
+    }
     // Letters leave that do so once nothing else is to be done. Whether there were any.
     bool send_late()
     {
@@ -505,6 +504,8 @@ private:
         posted_ += out_.letters;
         inside_ += out_.letters;
         if (so.exits) link_.exit(index, so.exits);
+        for (const auto &one : out_.awaited) bodies_.await(one.first, one.second);
+        if (!out_.shares.empty()) link_.contribute(out_.shares);
         add_to_outbox(out_.letters, true);
         mark(at);
         if (so.finished) {
