@@ -162,7 +162,7 @@ struct phased : tezgumi::chare {
     {
         // All letters of the phase have been handled: those of the first element, and then of all.
         const std::uint64_t expected = std::uint64_t(hops) * (1 + std::uint64_t(phase) * all.size());
-        if (++word(10 + phase) == 1 && word(0) != expected) word(1) = 1;
+        if (++word(static_cast<std::size_t>(10 + phase)) == 1 && word(0) != expected) word(1) = 1;
         phase++;
         if (phase == phases) return finish();
         begin(all);
