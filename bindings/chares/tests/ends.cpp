@@ -7,6 +7,7 @@ using tests::word;
 namespace {
 
 std::uint32_t pes = 1; // of the runs that come
+std::string prefix; // of the files of events, if there are to be any
 
 tezgumi::settings usual()
 {
@@ -14,6 +15,7 @@ tezgumi::settings usual()
     how.pes = pes;
     how.clock = tezgumi::clock_kind::none;
     how.quiet = 2;
+    how.events = prefix;
     return how;
 }
 
@@ -160,7 +162,7 @@ struct phased : tezgumi::chare {
     {
         // All letters of the phase have been handled: those of the first element, and then of all.
         const std::uint64_t expected = std::uint64_t(hops) * (1 + std::uint64_t(phase) * all.size());
-        if (++word(10 + phase) == 1 && word(0) != expected) word(1) = 1;
+        if (++word(static_cast<std::size_t>(10 + phase)) == 1 && word(0) != expected) word(1) = 1;
         phase++;
         if (phase == phases) return finish();
         begin(all);
@@ -210,9 +212,11 @@ void all()
 
 } // namespace
 
+// With a word: the prefix of files of events, which each run writes anew.
 int main(int argc, char **argv)
 {
     launch::program program(argc, argv);
+    if (argc > 1) prefix = argv[1];
     tests::clear_page();
 #ifdef WITH_MPI
     pes = program.pes(1);

@@ -7,6 +7,7 @@ using tests::expect;
 namespace {
 
 std::uint32_t pes = 1; // of the runs that come
+std::string prefix; // of the files of events, if there are to be any
 
 tezgumi::settings usual()
 {
@@ -14,6 +15,7 @@ tezgumi::settings usual()
     how.pes = pes;
     how.clock = tezgumi::clock_kind::none;
     how.quiet = 2;
+    how.events = prefix;
     return how;
 }
 
@@ -149,9 +151,11 @@ void all()
 
 } // namespace
 
+// With a word: the prefix of files of events, which each run writes anew.
 int main(int argc, char **argv)
 {
     launch::program program(argc, argv);
+    if (argc > 1) prefix = argv[1];
 #ifdef WITH_MPI
     pes = program.pes(1);
     all();

@@ -641,7 +641,7 @@ private:
     int refusals_ = 0; // of memory for the message in front, in a row
     std::chrono::steady_clock::time_point since_{};
     std::uint32_t asked_ = 0, answered_ = 0, quiets_ = 0;
-    std::deque<std::pair<std::uint64_t, beside>> folded_; // what folds came to
+    std::list<std::pair<std::uint64_t, beside>> folded_; // what folds came to: a list, which takes no memory while it is empty
     exited exit_; // on rank 0, and on all of them at the end
     // On rank 0.
     std::unique_ptr<board> board_;

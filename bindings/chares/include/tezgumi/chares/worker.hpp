@@ -432,11 +432,11 @@ private:
             leaving_.erase(at);
             return;
         }
-        // The body of a letter to this PE stays where it is. Where events are written down each letter takes its own along, so that none waits
-        // for one and is overtaken.
+        // The body of a letter to this PE stays where it is. Where events are written down each letter takes its own along, if that is here, so that
+        // none waits for one and is overtaken.
         if (to == me_ || !next.has_ticket()) return put(to, next, nullptr);
         const ticket its = next.its_ticket();
-        if (its.is_shared() && !log_) {
+        if (its.is_shared() && (!log_ || !bodies_.has(its))) {
             bodies_.leaves(its, to);
             return put(to, next, nullptr);
         }
