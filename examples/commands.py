@@ -24,7 +24,7 @@ LEFT = {
     r"cd crates/lb_sim && rt run|rt ci|rt check": "it proves crates, which the gate does",
     r"tar |tezgumi-VERSION|\./install|pip |bindings/(build|install|dist)|bindings/mpi/build|apt-get ": "packaging/test installs what is built",
     r"export |cc |mpicc |mpirun |\./plan$|\./p4est|\./beside": "bindings/test compiles and runs these",
-    r"\./workload |python3 merge_events.py |charm_run --replay run.list ": "bindings/test runs the chares in C++",
+    r"\./workload |python3 merge_(events|traces).py |charm_run --replay run.list ": "bindings/test runs the chares in C++",
 }
 NUMBERS = re.compile(r"[a-z_]+ +[\d.]+( |$)")
 

@@ -106,12 +106,13 @@ int main(int argc, char **argv)
     how.within = words.has("--tolerance");
     how.tolerance = words.number("--tolerance", 0, 0, 1000);
     how.dumps = words.text("--dump");
+    how.trace = words.text("--trace");
     if (words.flag("--static")) how.every = 0;
     const bool measured = words.flag("--measured"), quiet = words.flag("--quiet");
     launch::delays(words, how);
     launch::bounds(words, how);
     if (!words.is_good() || !words.rest().empty()) {
-        if (program.prints()) std::fputs("hot_spot [--elements N] [--pes P] [--rounds R] [--work W] [--cells C] [--tolerance T] [--static] [--measured] [--quiet] [--dump PREFIX]\n", stderr);
+        if (program.prints()) std::fputs("hot_spot [--elements N] [--pes P] [--rounds R] [--work W] [--cells C] [--tolerance T] [--static] [--measured] [--quiet] [--dump PREFIX] [--trace PREFIX]\n", stderr);
         return 2;
     }
     const std::uint32_t pes = how.pes;

@@ -279,6 +279,48 @@ void strangers()
     }
 }
 
+// ---- Messages to some elements ----
+
+// To each as often as its index is in the list: short and long ones, and such as wait until nothing else is to be done. Where one of them is no
+// element none gets the message.
+struct caller : tezgumi::chare {
+    using messages = tezgumi::messages<int, std::string, char>;
+    int kind = 0, numbers = 0;
+    std::size_t bytes = 0;
+    std::string late;
+    void pup(pup::er &p) { p(kind, numbers, bytes, late); }
+    void resume(tezgumi::round, tezgumi::array<caller> &all)
+    {
+        if (all.me() != 1) return;
+        all.send(1, std::vector<int>{0, 3, 3, 6});
+        all.send(10, std::vector<std::uint64_t>());
+        all.send(std::string(3000, 'l'), std::vector<std::uint32_t>{6, 0, 6, 2});
+        for (std::int64_t none : {std::int64_t(-1), std::int64_t(7), std::int64_t(1) << 32}) {
+            try {
+                all.send(100, std::vector<std::int64_t>{0, none, 3});
+                numbers = -1000;
+            } catch (const tezgumi::stranger &) {
+            }
+        }
+        all.when_quiet('e', std::vector<int>{0, 1, 2, 3, 4, 5, 6});
+    }
+    void receive(int number) { numbers += number; }
+    void receive(const std::string &text) { bytes += text.size(); }
+    void receive(char)
+    {
+        late = std::to_string(numbers) + " " + std::to_string(bytes);
+        finish();
+    }
+};
+
+void some()
+{
+    const auto end = run_all<caller>(usual(), 7);
+    const auto found = end.collect([](const caller &of) { return of.late; });
+    const std::vector<std::string> expected = {"1 3000", "0 0", "0 3000", "2 0", "0 0", "0 0", "1 6000"};
+    expect(at("messages to some elements"), end.is_good() && end.letters.posted == 15 && end.letters.executed == 15 && (!tests::prints() || found == expected));
+}
+
 // ---- Elements that are restored ----
 
 struct restorer : tezgumi::chare {
@@ -409,6 +451,7 @@ void all()
     early_contributions();
     numbers();
     strangers();
+    some();
     restored();
     missing();
     forgotten();

@@ -1,63 +1,12 @@
 // Memory: each of many requests refused in turn, on one rank or in the whole process; and how much a flood takes. The requests of
 // MPI are its own.
+#include "counted.hpp"
 #include "page.hpp"
 
-#include <atomic>
-#include <malloc.h>
-
-extern "C" {
-void *__real_malloc(std::size_t size);
-void *__real_calloc(std::size_t count, std::size_t size);
-void *__real_realloc(void *at, std::size_t size);
-void __real_free(void *at);
-void *__wrap_malloc(std::size_t size);
-void *__wrap_calloc(std::size_t count, std::size_t size);
-void *__wrap_realloc(void *at, std::size_t size);
-void __wrap_free(void *at);
-}
-
-namespace {
-
-std::atomic<long> requests{0}, refused_at{0}; // the request with this number is refused, where it is not 0
-std::atomic<long> live{0}, most{0};
-
-bool refuses() { return ++requests == refused_at.load(); }
-void *counted(void *at)
-{
-    if (at) {
-        const long now = live += static_cast<long>(malloc_usable_size(at));
-        if (now > most.load()) most = now;
-    }
-    return at;
-}
-void gone(void *at)
-{
-    if (at) live -= static_cast<long>(malloc_usable_size(at));
-}
-
-} // namespace
-
-void *__wrap_malloc(std::size_t size) { return refuses() ? nullptr : counted(__real_malloc(size)); }
-void *__wrap_calloc(std::size_t count, std::size_t size) { return refuses() ? nullptr : counted(__real_calloc(count, size)); }
-void *__wrap_realloc(void *at, std::size_t size)
-{
-    if (refuses()) return nullptr;
-    gone(at);
-    return counted(__real_realloc(at, size));
-}
-void __wrap_free(void *at)
-{
-    gone(at);
-    __real_free(at);
-}
-void *operator new(std::size_t size)
-{
-    void *at = __wrap_malloc(size ? size : 1);
-    if (!at) throw std::bad_alloc();
-    return at;
-}
-void operator delete(void *at) noexcept { __wrap_free(at); }
-void operator delete(void *at, std::size_t) noexcept { __wrap_free(at); }
+using tests::live;
+using tests::most;
+using tests::refused_at;
+using tests::requests;
 
 namespace {
 
@@ -330,10 +279,10 @@ void caught()
     tests::expect("a handler that is refused memory as it sends, and goes on", good && failures > 8);
 }
 
-// A message of many bytes from an element to another one on its PE.
+// A message of 256 MB from an element to another one on its PE.
 struct long_sender : tezgumi::chare {
     using messages = tezgumi::messages<std::vector<double>>;
-    static constexpr std::size_t count = 4 << 20;
+    static constexpr std::size_t count = 32 << 20;
     double sum = 0;
     void pup(pup::er &p) { p(sum); }
     void resume(tezgumi::round, tezgumi::array<long_sender> &all)

@@ -287,6 +287,42 @@ void quiet()
     }
 }
 
+// Elements that finish while they wait take part in the round that they wait for, be it balanced or not. In the next one the run is quiet.
+struct finisher : tezgumi::chare {
+    using messages = tezgumi::messages<int>;
+    tezgumi::round last = 0;
+    void pup(pup::er &p) { p(last); }
+    void resume(tezgumi::round r, tezgumi::array<finisher> &all)
+    {
+        last = r;
+        if (all.me() == 1 && r == 0) return;
+        at_sync();
+        if (all.me() == 0 && r == 0) all.self().send(1);
+    }
+    void receive(int which, tezgumi::array<finisher> &all)
+    {
+        if (which == 1) {
+            finish();
+            all[1].send(2);
+        } else {
+            at_sync();
+        }
+    }
+};
+
+void finished()
+{
+    for (std::uint32_t every : {0u, 1u}) {
+        tezgumi::settings how = usual();
+        how.every = every;
+        const auto end = launch::run<finisher>(how, 4, [](std::uint32_t) { return finisher(); });
+        bool good = end.met.kind == tezgumi::fault_kind::quiet && end.met.element == 1 && end.letters.executed == 2;
+        for (tezgumi::round last : end.collect([](const finisher &of) { return of.last; })) good = good && last == 1;
+        good = good && end.met.what.find("3 of 4 elements have not finished: element 1 waits for round 2") == 0;
+        expect(at(every == 0 ? "an element finishes while it waits, and nothing is balanced" : "an element finishes while it waits"), good);
+    }
+}
+
 // ---- What is measured ----
 
 struct worked : tezgumi::chare {
@@ -342,15 +378,19 @@ struct runner : tezgumi::chare {
 
 void long_runs()
 {
-    if (pes != 1) return;
+    if (pes > 2) return;
     std::vector<tezgumi::round> past;
     tezgumi::settings how = usual();
     how.on_round = [&](const tezgumi::round_report &of) {
-        if (of.past_limit) past.push_back(of.round);
+        if (of.past_limit && !of.balanced) past.push_back(of.round);
     };
-    const auto end = launch::run<runner>(how, 1, [](std::uint32_t) { return runner(); });
+    const auto end = launch::run<runner>(how, pes, [](std::uint32_t) { return runner(); });
     const tezgumi::round last = tezgumi::detail::last_balanced_round;
-    expect(at("rounds in which nothing moves any more are told of"), end.is_good() && end.past_limit && past == std::vector<tezgumi::round>{last, last + 1});
+    // On all ranks the outcome says so, and the first is told of each such round.
+    const bool are_told = !tests::prints() || past == std::vector<tezgumi::round>{last, last + 1};
+    expect(at("rounds in which nothing moves any more are told of"), end.is_good() && end.past_limit && are_told);
+    const auto few = launch::run<follower>(usual(), pes, [](std::uint32_t) { return follower(); });
+    expect(at("a run with fewer rounds"), few.is_good() && !few.past_limit);
 }
 
 void settings()
@@ -378,6 +418,7 @@ void all()
 {
     settings();
     quiet();
+    finished();
     clocks();
     long_runs();
     neighbors();

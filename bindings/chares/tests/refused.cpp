@@ -2,6 +2,8 @@
 #include <tezgumi/chares.hpp>
 
 #include <functional>
+#include <random>
+#include <valarray>
 
 namespace pup = tezgumi::pup;
 
@@ -131,6 +133,14 @@ struct releaser {
 #if CASE == 23 // contributions are numbers of up to 64 bits
 #undef SEND
 #define SEND all.result<std::string>();
+#endif
+#if CASE == 24 // pup: this type has no public member pup(tezgumi::pup::er &)
+#undef FIELD
+#define FIELD std::valarray<double> field
+#endif
+#if CASE == 25 // pup: this type has no public member pup(tezgumi::pup::er &)
+#undef FIELD
+#define FIELD std::mt19937 field
 #endif
 
 struct one BASE {

@@ -228,6 +228,15 @@ class Timelines(TimedTest):
             self.assertRaisesRegex(tezgumi.TraceError, "^trace: " + text, self.draw, events)
         self.assertRaisesRegex(tezgumi.InputError, "medium is 'wall'", self.draw, CHASED, medium="wall")
 
+    def test_no_more_is_read_than_the_longest_trace(self):
+        path, before = self.file(CHASED), tezgumi.traces.MOST_BYTES
+        self.addCleanup(setattr, tezgumi.traces, "MOST_BYTES", before)
+        tezgumi.traces.MOST_BYTES = os.path.getsize(path)
+        self.assertEqual(tezgumi.traces.read_trace(path), CHASED)
+        tezgumi.traces.MOST_BYTES -= 1
+        self.assertRaisesRegex(tezgumi.TraceError, f"^trace: more than {tezgumi.traces.MOST_BYTES} bytes$", tezgumi.traces.read_trace, path)
+        self.assertRaisesRegex(tezgumi.TraceError, "^trace: more than", tezgumi.traces.read_trace, "/dev/zero")
+
     def test_the_program(self):
         for name, start in (("a.png", b"\x89PNG"), ("a.pdf", b"%PDF"), ("a.svg", b"<?xml")):
             path = os.path.join(self.folder, name)

@@ -42,7 +42,18 @@ public:
     std::map<std::uint32_t, std::unique_ptr<C>> elements; // under MPI, those of this rank
     bool past_limit = false; // whether the run has had as many rounds as elements may move in, and none moved after these
 
+    exited exit; // by which element the run ended, and with which value, where one said so
+
     bool is_good() const { return met.kind == fault_kind::none; }
+    // Whether an element ended the run by `exit`, and with which value, which is of this type.
+    bool has_exited() const { return exit.element != fault::no_element; }
+    template <class T> T exit_value() const
+    {
+        if (!has_exited()) throw std::logic_error("no element has ended the run by a value");
+        T value{};
+        pup::unpack(value, exit.value.data(), exit.value.size());
+        return value;
+    }
     // 0, or what a program of this project exits with after such a fault.
     int status() const
     {
@@ -144,6 +155,7 @@ private:
             guarded(pe, [&] { objects_[pe]->leave(end.elements); });
         }
         end.met = field_.met();
+        end.exit = field_.exit();
         end.rounds = std::move(field_.rounds());
         end.past_limit = !end.rounds.empty() && end.rounds.back().past_limit;
         must_balance(end);

@@ -37,9 +37,10 @@ using tezgumi::detail::decision;
 using tezgumi::detail::note;
 using tezgumi::detail::quiet_question;
 using tezgumi::detail::run_fault;
+using tezgumi::detail::share_of_fold;
 
 // What a message is.
-enum tag : int { parcels = 1, used = 2, notes = 3, round_decided = 4, failed = 5, the_end = 6, question = 7, answer = 8, attached = 9 };
+enum tag : int { parcels = 1, used = 2, notes = 3, round_decided = 4, failed = 5, the_end = 6, question = 7, answer = 8, attached = 9, ended_by = 10, quiet = 11, shares = 12, whole = 13 };
 
 // A fault as bytes of a size that is known before, so that telling of it takes no memory.
 struct told_fault {
@@ -122,7 +123,7 @@ public:
         for (int i = 0; i < 32 && take_one(); i++) came = true;
         return read_what_came() || came;
     }
-    bool has_news(std::uint32_t round) override { return !inbox_.empty() || (latest_ && latest_->round > round); }
+    bool has_news(std::uint32_t round) override { return !inbox_.empty() || !folded_.empty() || (latest_ && latest_->round > round); }
     bool may_send(std::uint32_t to) override { return outstanding_[to] < how_.window; }
     // What is shared with a batch follows it, each by itself. The number of these stands behind its bytes.
     void send(std::uint32_t to, batch &of) override
@@ -164,6 +165,21 @@ public:
         pup::pack(owed, bytes);
         post(0, notes, std::move(bytes));
     }
+    void contribute(std::vector<share_of_fold> &given) override
+    {
+        if (me_ == 0) return take_shares(given);
+        pup::bytes bytes;
+        pup::pack(given, bytes);
+        post(0, shares, std::move(bytes));
+    }
+    bool folded(std::uint64_t &key, beside &of) override
+    {
+        if (folded_.empty()) return false;
+        key = folded_.front().first;
+        of = std::move(folded_.front().second);
+        folded_.pop_front();
+        return true;
+    }
     std::shared_ptr<const decision> decided(std::uint32_t after) override
     {
         return latest_ && latest_->round > after ? latest_ : nullptr;
@@ -181,7 +197,14 @@ public:
         }
     }
 
-    void rest(std::uint32_t round) override
+    void exit(std::uint32_t element, const beside &value) override
+    {
+        if (me_ == 0) return hear_exit(element, *value);
+        pup::bytes bytes;
+        pup::pack(std::make_pair(element, *value), bytes);
+        post(0, ended_by, std::move(bytes));
+    }
+    void rest(std::uint32_t round, std::uint64_t late) override
     {
         const auto now = std::chrono::steady_clock::now();
         if (!rests_) since_ = now;
@@ -192,9 +215,10 @@ public:
         }
         if (asked_ == answered_ || (latest_ && latest_->round != round)) return;
         answered_ = asked_;
-        answer_question();
+        answer_question(late);
     }
     void wake() override { rests_ = false; }
+    std::uint32_t quiets() override { return quiets_; }
 
     // Once all are to end: takes what is still on its way to this rank. All ranks call it.
     void drain()
@@ -228,6 +252,27 @@ public:
         }
     }
 
+    // How an element ended the run, told to all. Where a rank has no memory for that it is a fault of all. All ranks call it.
+    exited agreed_exit(fault &met)
+    {
+        std::uint64_t told[2] = {exit_.element, exit_.value.size()};
+        MPI_Bcast(told, 2, MPI_UINT64_T, 0, comm_);
+        int good = 1;
+        try {
+            exit_.value.resize(static_cast<std::size_t>(told[1]));
+        } catch (const std::bad_alloc &) {
+            good = 0;
+        }
+        MPI_Allreduce(MPI_IN_PLACE, &good, 1, MPI_INT, MPI_MIN, comm_);
+        if (good == 0) {
+            if (!met) met.kind = fault_kind::memory;
+            return exited();
+        }
+        exit_.element = static_cast<std::uint32_t>(told[0]);
+        MPI_Bcast(exit_.value.data(), static_cast<int>(exit_.value.size()), MPI_BYTE, 0, comm_);
+        return std::move(exit_);
+    }
+
     // The fault of the lowest rank that met one, or else that of the end. All ranks call it.
     fault agreed()
     {
@@ -254,6 +299,7 @@ private:
             end_requests_.assign(ranks_, MPI_REQUEST_NULL);
             if (me_ == 0) {
                 board_ = std::make_unique<board>(how_, ranks_, n_);
+                folds_ = std::make_unique<tezgumi::detail::folds>(n_);
                 question_ = std::make_unique<quiet_question>(ranks_);
             }
             more();
@@ -460,17 +506,31 @@ private:
         } else if (what == question) {
             pup::unpack(asked_, bytes.data(), bytes.size());
         } else if (what == answer) {
-            std::array<std::uint64_t, 3> of{};
+            std::array<std::uint64_t, 4> of{};
             pup::unpack(of, bytes.data(), bytes.size());
-            hear_answer(static_cast<std::uint32_t>(of[0]), of[1], of[2]);
+            hear_answer(static_cast<std::uint32_t>(of[0]), of[1], of[2], of[3]);
+        } else if (what == quiet) {
+            quiets_++;
+        } else if (what == shares) {
+            std::vector<share_of_fold> given;
+            pup::unpack(given, bytes.data(), bytes.size());
+            take_shares(given);
+        } else if (what == whole) {
+            std::pair<std::uint64_t, pup::bytes> of;
+            pup::unpack(of, bytes.data(), bytes.size());
+            folded_.emplace_back(of.first, std::make_shared<const pup::bytes>(std::move(of.second)));
+        } else if (what == ended_by) {
+            std::pair<std::uint32_t, pup::bytes> of;
+            pup::unpack(of, bytes.data(), bytes.size());
+            hear_exit(of.first, of.second);
         }
     }
 
     // ---- Rank 0 ----
 
-    void take_notes(const std::vector<note> &owed)
+    void take_notes(std::vector<note> &owed)
     {
-        for (const note &one : owed) board_->take(one);
+        for (note &one : owed) board_->take(one);
         if (board_->is_complete()) {
             latest_ = std::make_shared<const decision>(board_->decide());
             if (log) log->decide(latest_->round);
@@ -484,6 +544,29 @@ private:
             tezgumi::detail::tell(how_.on_round, rounds_.back());
         }
         if (board_->all_finished()) end();
+    }
+    void take_shares(std::vector<share_of_fold> &given)
+    {
+        for (share_of_fold &one : given) {
+            share_of_fold all;
+            if (!folds_->take(one, all)) continue;
+            pup::bytes packed, bytes;
+            pup::pack(all.of, packed);
+            if (all.pe == 0) {
+                folded_.emplace_back(all.of.key, std::make_shared<const pup::bytes>(std::move(packed)));
+                continue;
+            }
+            pup::pack(std::make_pair(all.of.key, packed), bytes);
+            post(all.pe, whole, std::move(bytes));
+        }
+    }
+    // An element ends the run. The first one that is heard of does.
+    void hear_exit(std::uint32_t element, const pup::bytes &value)
+    {
+        if (ended_) return;
+        exit_.value = value;
+        exit_.element = element;
+        end();
     }
     // A rank has met a fault, for which all end.
     void hear(const told_fault &told) noexcept
@@ -510,17 +593,23 @@ private:
             post(to, question, std::move(bytes));
         }
     }
-    void answer_question()
+    void answer_question(std::uint64_t late)
     {
-        if (me_ == 0) return hear_answer(asked_, counted_sent_, counted_received_);
-        const std::array<std::uint64_t, 3> of = {asked_, counted_sent_, counted_received_};
+        if (me_ == 0) return hear_answer(asked_, counted_sent_, counted_received_, late);
+        const std::array<std::uint64_t, 4> of = {asked_, counted_sent_, counted_received_, late};
         pup::bytes bytes;
         pup::pack(of, bytes);
         post(0, answer, std::move(bytes));
     }
-    void hear_answer(std::uint32_t number, std::uint64_t sent, std::uint64_t received)
+    void hear_answer(std::uint32_t number, std::uint64_t sent, std::uint64_t received, std::uint64_t late)
     {
-        if (!question_->answer(number, sent, received) || ended_) return;
+        if (!question_->answer(number, sent, received, late) || ended_) return;
+        if (question_->late() != 0) {
+            make_room(ranks_);
+            for (std::uint32_t to = 1; to < ranks_; to++) start(to, quiet, sending{});
+            quiets_++;
+            return;
+        }
         fault met;
         board_->tell_quiet(met);
         end_ = told_fault::of(met);
@@ -551,10 +640,13 @@ private:
     bool ended_ = false, closing_ = false, rests_ = false;
     int refusals_ = 0; // of memory for the message in front, in a row
     std::chrono::steady_clock::time_point since_{};
-    std::uint32_t asked_ = 0, answered_ = 0;
+    std::uint32_t asked_ = 0, answered_ = 0, quiets_ = 0;
+    std::list<std::pair<std::uint64_t, beside>> folded_; // what folds came to: a list, which takes no memory while it is empty
+    exited exit_; // on rank 0, and on all of them at the end
     // On rank 0.
     std::unique_ptr<board> board_;
     std::unique_ptr<quiet_question> question_;
+    std::unique_ptr<tezgumi::detail::folds> folds_;
     std::vector<round_report> rounds_;
 };
 
@@ -672,6 +764,7 @@ template <class C, class Make> outcome<C> run(MPI_Comm comm, const settings &how
     link.guarded([&] { one->leave(end.letters); });
     link.guarded([&] { objects->leave(end.elements); });
     end.met = link.agreed();
+    end.exit = link.agreed_exit(end.met);
     std::array<std::uint64_t, 4> sums = {end.letters.posted, end.letters.executed, end.letters.held, end.letters.failed};
     MPI_Allreduce(MPI_IN_PLACE, sums.data(), 4, MPI_UINT64_T, MPI_SUM, link.comm());
     end.letters = account{sums[0], sums[1], sums[2], sums[3]};

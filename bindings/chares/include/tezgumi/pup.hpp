@@ -260,18 +260,23 @@ private:
 
     std::uint8_t *take_room(std::size_t count)
     {
-        if (count <= room()) {
-            std::uint8_t *at = to_;
-            to_ += count;
-            return at;
-        }
+        if (count > room()) make_room(count);
+        std::uint8_t *at = to_;
+        to_ += count;
+        return at;
+    }
+    // It is called seldom, and is a function of its own, so that what packs a number is short.
+#if defined(__GNUC__)
+    __attribute__((noinline, cold))
+#endif
+    void make_room(std::size_t count)
+    {
         if (!out_) throw error("pup: a value packs into more bytes than it counted");
         const std::size_t used = out_->size() - room(), left_there = out_->capacity() - used;
         const std::size_t more = std::max(count, std::min(ahead_, left_there));
         out_->resize(used + more);
-        to_ = out_->data() + used + count;
-        to_end_ = out_->data() + used + more;
-        return to_ - count;
+        to_ = out_->data() + used;
+        to_end_ = to_ + more;
     }
 
     // Packs many numbers by blocks that stay near the processor, so that memory is written once.

@@ -11,6 +11,7 @@
 
 #include <algorithm>
 #include <cstdio>
+#include <map>
 #include <new>
 
 namespace tezgumi {
@@ -101,8 +102,8 @@ public:
         for (std::uint64_t b = 0; b <= pes; b++) present_.cuts[b] = static_cast<std::uint32_t>((b * n + pes - 1) / pes);
     }
 
-    // Takes a note: the first of an element in the round that is under way, or that it has finished.
-    void take(const note &of)
+    // Takes a note, and what was contributed by it: the first of an element in the round that is under way, or that it has finished.
+    void take(note &of)
     {
         if (of.index >= n_ || of.pe >= pes_) throw run_fault(fault_kind::mismatch, "a note of no element or no PE");
         if (of.finished) {
@@ -119,7 +120,7 @@ public:
         loads_[of.index] = std::min(of.load, TEZGUMI_BOARD_LOAD);
         places_[of.index] = of.pe;
         bytes_[of.index] = of.bytes;
-        given_[of.index] = of.given;
+        given_[of.index] = std::move(of.given);
     }
 
     bool all_finished() { return handle_.all_finished(); }
@@ -276,8 +277,49 @@ private:
     pup::bytes dump_; // of the round that was decided last, until it is written
 };
 
+// Folds that wait for no round: of each what its elements have contributed so far.
+class folds {
+public:
+    explicit folds(std::uint32_t n) : n_(n) {}
+
+    // Takes what an element contributes. Whether it was the last; then this is what they came to, for the PE of the first element.
+    bool take(share_of_fold &of, share_of_fold &whole)
+    {
+        shares &all = open_[of.of.key];
+        if (all.given.empty()) all.given.resize(n_);
+        if (of.index >= n_) throw run_fault(fault_kind::mismatch, "what no element contributes came");
+        if (all.given[of.index].is_there()) {
+            throw run_fault(fault_kind::input, "the element contributes twice to fold " + std::to_string(of.of.key), of.index);
+        }
+        all.given[of.index] = std::move(of.of.value);
+        if (of.index == 0) all.pe = of.pe;
+        if (++all.count != n_) return false;
+        whole.pe = all.pe;
+        whole.of.key = of.of.key;
+        whole.of.value = contribution();
+        for (std::uint32_t i = 0; i < n_; i++) {
+            try {
+                whole.of.value.join(all.given[i]);
+            } catch (const std::invalid_argument &) {
+                throw run_fault(fault_kind::input, "contributions to fold " + std::to_string(of.of.key) + " differ in kind or in length", i);
+            }
+        }
+        open_.erase(of.of.key);
+        return true;
+    }
+
+private:
+    struct shares {
+        std::vector<contribution> given;
+        std::uint32_t count = 0, pe = 0;
+    };
+    const std::uint32_t n_;
+    std::map<std::uint64_t, shares> open_;
+};
+
 // Whether all PEs have nothing to do: each is asked by a number, and answers once it has nothing to do, with how many messages it has
-// sent and received. Nothing is left where two questions in a row are answered by the same numbers, as many sent as received.
+// sent and received. Nothing is left where two questions in a row are answered by the same numbers, as many sent as received. Letters may be
+// there that leave only then.
 class quiet_question {
 public:
     explicit quiet_question(std::uint32_t pes) : pes_(pes) {}
@@ -287,14 +329,15 @@ public:
     std::uint32_t ask()
     {
         answers_ = 0;
-        sent_ = received_ = 0;
+        sent_ = received_ = late_ = 0;
         return ++number_;
     }
     // Takes an answer, and says whether nothing is left to do.
-    bool answer(std::uint32_t number, std::uint64_t sent, std::uint64_t received)
+    bool answer(std::uint32_t number, std::uint64_t sent, std::uint64_t received, std::uint64_t late)
     {
         if (number != number_) return false;
         answers_++;
+        late_ += late;
         sent_ += sent;
         received_ += received;
         if (answers_ != pes_) return false;
@@ -303,11 +346,13 @@ public:
         received_before_ = received_;
         return same;
     }
+    // How many letters leave now, as nothing is left to do.
+    std::uint64_t late() const { return late_; }
 
 private:
     const std::uint32_t pes_;
     std::uint32_t number_ = 0, answers_ = 0;
-    std::uint64_t sent_ = 0, received_ = 0;
+    std::uint64_t sent_ = 0, received_ = 0, late_ = 0;
     std::uint64_t sent_before_ = UINT64_MAX, received_before_ = UINT64_MAX;
 };
 

@@ -4,6 +4,7 @@
 
 #include "parcels.hpp"
 
+#include <deque>
 #include <map>
 
 namespace tezgumi {
@@ -21,7 +22,36 @@ public:
     explicit body_room(std::uint32_t pes) : pes_(pes) {}
     besides &all() { return all_; }
 
-    bool has(const ticket &of) const { return all_.count(of) != 0; }
+    // Whether it is here. One of a fold is named by letters before it is.
+    bool has(const ticket &of) const
+    {
+        const auto at = all_.find(of);
+        return at != all_.end() && at->second.bytes;
+    }
+    // Letters were posted that name a body with what this fold comes to.
+    void await(std::uint64_t fold, const ticket &of) { folds_[fold].push_back(of); }
+    // Such a body has come, for the first of these letters. Which one.
+    ticket fill(std::uint64_t fold, const beside &bytes)
+    {
+        const auto found = folds_.find(fold);
+        if (found == folds_.end()) throw run_fault(fault_kind::mismatch, "what a fold came to is for no letter");
+        const ticket of = found->second.front();
+        found->second.pop_front();
+        if (found->second.empty()) folds_.erase(found);
+        fill(of, bytes);
+        return of;
+    }
+    // The body of letters that were posted without it.
+    void fill(const ticket &of, const beside &bytes)
+    {
+        const auto at = all_.find(of);
+        if (at == all_.end() || at->second.bytes) throw run_fault(fault_kind::mismatch, "the body of a fold came twice");
+        at->second.bytes = bytes;
+        const auto waits = std::find_if(awaiting_.begin(), awaiting_.end(), [&](const spread &one) { return one.of == of; });
+        if (waits == awaiting_.end()) return;
+        leaving_.push_back(std::move(*waits));
+        awaiting_.erase(waits);
+    }
     // A body for so many letters more.
     void put(const ticket &of, const beside &bytes, std::uint64_t letters)
     {
@@ -31,7 +61,7 @@ public:
     const beside &look(const ticket &of) const
     {
         const auto at = all_.find(of);
-        if (at == all_.end()) throw run_fault(fault_kind::mismatch, "the body of a letter is not there");
+        if (at == all_.end() || !at->second.bytes) throw run_fault(fault_kind::mismatch, "the body of a letter is not there");
         return at->second.bytes;
     }
     // So many letters that named it are no longer here.
@@ -46,10 +76,11 @@ public:
     // A letter that names a body with others leaves for this PE.
     void leaves(const ticket &of, std::uint32_t to)
     {
-        auto at = std::find_if(leaving_.rbegin(), leaving_.rend(), [&](const spread &one) { return one.of == of; });
-        if (at == leaving_.rend()) {
-            leaving_.push_back(spread{of, std::vector<std::uint32_t>(pes_)});
-            at = leaving_.rbegin();
+        std::vector<spread> &onto = has(of) ? leaving_ : awaiting_;
+        auto at = std::find_if(onto.rbegin(), onto.rend(), [&](const spread &one) { return one.of == of; });
+        if (at == onto.rend()) {
+            onto.push_back(spread{of, std::vector<std::uint32_t>(pes_)});
+            at = onto.rbegin();
         }
         at->letters[to]++;
     }
@@ -123,7 +154,8 @@ private:
 
     const std::uint32_t pes_;
     besides all_;
-    std::vector<spread> leaving_;
+    std::map<std::uint64_t, std::deque<ticket>> folds_;
+    std::vector<spread> leaving_, awaiting_; // whose bodies are here, and whose bodies are to come
 };
 
 } // namespace detail

@@ -36,6 +36,7 @@ namespace detail {
 struct said {
     bool at_sync = false, finished = false, named = false;
     std::uint64_t units = 0;
+    std::shared_ptr<const pup::bytes> exits; // the value with which all end
     contributions given;
     std::size_t given_before = 0;
 
@@ -43,6 +44,7 @@ struct said {
     {
         at_sync = finished = named = false;
         units = 0;
+        exits.reset();
         given_before = given.size();
     }
     // At the end of a handler. Where the element waits already it cannot be at sync anew: that is passed over, with what came beside it.
@@ -120,6 +122,9 @@ public:
         me = index;
         letters = 0;
         receivers.clear();
+        late.clear();
+        shares.clear();
+        awaited.clear();
         for (const ticket &made : tickets) held->erase(made);
         tickets.clear();
         check(tezgumi_answer_begin(&answer, 0, false, false));
@@ -161,25 +166,64 @@ public:
             throw;
         }
     }
-    // Sends it to all, or to none where that throws. A body that is long, for all together, is there once, and all these letters name it.
-    void post_to_all()
+    // What posts letters posts such as leave only once nothing else is to be done.
+    template <class F> void when_quiet(F &&posts)
     {
+        reserve_one(late);
+        const std::uint64_t before = letters;
+        posts();
+        late.emplace_back(before, letters);
+    }
+    // Sends it to so many elements, whose indices are to(0), to(1) and so on; or to none where that throws. A body that is long, for all together, is
+    // there once, and all these letters name it.
+    template <class F> void post_to_each(std::size_t count, F &&to, bool is_awaited = false)
+    {
+        if (count == 0) return;
         const std::size_t len = answer.len;
         const std::uint64_t before = letters;
-        if (!shared && body.size() > copied_body && body.size() * n > copied_bodies) {
+        const bool is_short = !shared && !is_awaited;
+        if (is_short && body.size() > copied_body && body.size() > copied_bodies / count) {
             put_beside(std::make_shared<const pup::bytes>(body.begin() + 1, body.end()));
         }
-        const ticket made = shared ? keep(shared_bit, n) : ticket();
+        const bool is_beside = shared || is_awaited;
+        const ticket made = is_beside ? keep(shared_bit, count) : ticket();
         try {
-            for (std::uint32_t i = 0; i < n; i++) add(i);
+            for (std::size_t i = 0; i < count; i++) add(to(i));
         } catch (...) {
-            if (shared) let_go(made);
+            if (is_beside) let_go(made);
             receivers.resize(static_cast<std::size_t>(before));
             letters = before;
             answer.len = len;
             tezgumi_answer_put(answer.bytes + letters_at, letters, 4);
             throw;
         }
+    }
+    // Contributes to a fold. The first element posts the letters with what that comes to, as a message of this type: their body comes later.
+    template <class F> void contribute(std::uint64_t key, const contribution &value, std::size_t place, std::size_t count, F &&to)
+    {
+        share_of_fold mine;
+        mine.index = me;
+        mine.pe = pe;
+        mine.of.key = key;
+        mine.of.value = value;
+        reserve_one(shares);
+        reserve_one(awaited);
+        if (me == 0) {
+            body.assign(1, static_cast<std::uint8_t>(place));
+            put_beside(nullptr);
+            post_to_each(count, to, true);
+            awaited.emplace_back(key, tickets.back());
+        }
+        shares.push_back(std::move(mine));
+    }
+    void post_to_all()
+    {
+        post_to_each(n, [](std::size_t i) { return static_cast<std::uint32_t>(i); });
+    }
+    template <class I> void post_to_some(const std::vector<I> &indices)
+    {
+        for (const I &to : indices) must_be_there(to);
+        post_to_each(indices.size(), [&indices](std::size_t i) { return static_cast<std::uint32_t>(indices[i]); });
     }
     template <class I> void must_be_there(I to) const
     {
@@ -192,6 +236,9 @@ public:
     std::uint32_t me = 0;
     std::uint64_t letters = 0;
     std::vector<std::uint32_t> receivers; // of these letters, in order
+    std::vector<share_of_fold> shares; // what it contributes to folds
+    std::vector<std::pair<std::uint64_t, ticket>> awaited; // of the first element: the folds to which it contributes, and the bodies with what these come to
+    std::vector<std::pair<std::uint64_t, std::uint64_t>> late; // those that leave once nothing else is to be done: from which to before which
     tezgumi_answer answer = {nullptr, 0, 0};
     besides *held = nullptr;
     const contributions *results = nullptr;
@@ -258,7 +305,7 @@ private:
 //     using messages = tezgumi::messages<..>;                    the types that it receives
 //     void pup(tezgumi::pup::er &p);
 //     void resume(tezgumi::round r, tezgumi::array<C> &all);     as it starts, r being 0, and after each round
-//     void receive(const M &message, tezgumi::array<C> &all);    for each type of its messages
+//     void receive(const M &message, tezgumi::array<C> &all);    for each type of its messages, tezgumi::folded among them if it has folds
 //
 // and can be made without arguments. The last argument of a handler may be left out. What a handler says by the functions
 // below holds as it returns.
@@ -268,6 +315,15 @@ protected:
     void at_sync() { said_.at_sync = true; }
     // The element has finished. It goes on receiving. Once all have finished the run ends.
     void finish() { said_.finished = true; }
+    // The run ends for all elements, finished or not. The value is there in the outcome.
+    template <class T> void exit(const T &value)
+    {
+        auto packed = std::make_shared<pup::bytes>();
+        pup::pack(value, *packed);
+        if (packed->size() > detail::longest_beside) throw detail::run_fault(fault_kind::toolong, "the value of an exit has more than 2^30 bytes");
+        said_.exits = std::move(packed);
+    }
+    void exit() { said_.exits = std::make_shared<const pup::bytes>(); }
     // So much was the work of this handler, in place of what the clock says.
     void work(std::uint64_t units)
     {
@@ -277,6 +333,9 @@ protected:
     // A value of this element, for a fold over those of all. It counts for the round that the element is at sync for next, and the result
     // comes with that round. Several are kept in their order.
     void contribute(const contribution &value) { said_.given.push_back(value); }
+    // A value of this element for a fold that waits for no round: once all elements have contributed to the one with this key, an element or all
+    // get what it came to, as a message tezgumi::folded. All name the same receiver.
+    template <class To> void contribute(std::uint64_t key, const contribution &value, const To &to) { to.contribute(key, value); }
 
 private:
     friend struct detail::said_of;
@@ -315,10 +374,21 @@ public:
         {
             if (detail::pack<C>(*out_, message)) out_->post(index_);
         }
+        // Sends it once nothing is under way and no PE has anything to do.
+        template <class M> void when_quiet(const M &message) const
+        {
+            if (detail::pack<C>(*out_, message)) out_->when_quiet([this] { out_->post(index_); });
+        }
         std::uint32_t index() const { return index_; }
 
     private:
         friend class array;
+        friend class chare;
+        void contribute(std::uint64_t key, const contribution &value) const
+        {
+            out_->must_be_there(index_);
+            out_->contribute(key, value, place_of_folds(), 1, [this](std::size_t) { return index_; });
+        }
         element(detail::outgoing *out, std::uint32_t index) : out_(out), index_(index) {}
         detail::outgoing *out_;
         std::uint32_t index_;
@@ -342,6 +412,22 @@ public:
     {
         if (detail::pack<C>(*out_, message)) out_->post_to_all();
     }
+    // Sends a message to the elements with these indices, to one as often as its index is there. Where one is no index, it is sent to none.
+    template <class M, class I> void send(const M &message, const std::vector<I> &to) const
+    {
+        must_be_indices<I>();
+        if (detail::pack<C>(*out_, message)) out_->post_to_some(to);
+    }
+    // Sends it once nothing is under way and no PE has anything to do.
+    template <class M> void when_quiet(const M &message) const
+    {
+        if (detail::pack<C>(*out_, message)) out_->when_quiet([this] { out_->post_to_all(); });
+    }
+    template <class M, class I> void when_quiet(const M &message, const std::vector<I> &to) const
+    {
+        must_be_indices<I>();
+        if (detail::pack<C>(*out_, message)) out_->when_quiet([this, &to] { out_->post_to_some(to); });
+    }
 
     std::uint32_t me() const { return out_->me; } // the index of the element whose handler this is
     std::uint32_t size() const { return out_->n; } // how many elements there are
@@ -363,6 +449,21 @@ public:
     }
 
 private:
+    friend class chare;
+    static constexpr std::size_t place_of_folds()
+    {
+        using place = detail::place_of<folded, typename C::messages>;
+        static_assert(place::is_there, "what contributions come to is a message, so tezgumi::folded stands among the messages of the chare");
+        return place::value;
+    }
+    void contribute(std::uint64_t key, const contribution &value) const
+    {
+        out_->contribute(key, value, place_of_folds(), out_->n, [](std::size_t i) { return static_cast<std::uint32_t>(i); });
+    }
+    template <class I> static constexpr void must_be_indices()
+    {
+        static_assert(std::is_integral<I>::value && !std::is_same<I, bool>::value, "the index of an element is a whole number");
+    }
     detail::outgoing *out_;
 };
 

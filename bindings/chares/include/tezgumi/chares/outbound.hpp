@@ -38,6 +38,7 @@ public:
                 front.stamp(round);
                 carrier.send(to, front);
                 from.ready.pop_front();
+                from.sent++;
                 count(from, from.bytes - size);
                 did = true;
             }
@@ -47,11 +48,14 @@ public:
 
     // All bytes that wait here.
     std::size_t total() const { return total_; }
-    // Whether they are more than so many times the limit, and this PE has more than its share of these.
+    // How many batches were sent to this PE.
+    std::uint64_t sent(std::uint32_t to) const { return ways_[to].sent; }
+    // Whether more bytes wait for this PE than are left of twice so many times the limit. So none is over while all together are within the
+    // limit, and PEs that become slow one after another, each with less room than the one before, never have more than twice the limit.
     bool is_over(std::uint32_t to, std::size_t times) const
     {
-        const std::size_t limit = times * how_.backlog;
-        return total_ > limit && ways_[to].bytes > limit / filled_;
+        const std::size_t most = 2 * times * how_.backlog;
+        return ways_[to].bytes > most - std::min(total_, most);
     }
 
     // All batches, at the end.
@@ -69,6 +73,7 @@ private:
         batch open;
         std::deque<batch> ready;
         std::size_t bytes = 0;
+        std::uint64_t sent = 0; // batches
     };
 
     void close(way &of)
@@ -78,14 +83,13 @@ private:
     }
     void count(way &of, std::size_t bytes)
     {
-        if ((of.bytes == 0) != (bytes == 0)) filled_ += bytes == 0 ? std::size_t(-1) : 1;
         total_ += bytes - of.bytes;
         of.bytes = bytes;
     }
 
     const settings &how_;
     std::vector<way> ways_;
-    std::size_t total_ = 0, filled_ = 0; // bytes, and PEs for which there are any
+    std::size_t total_ = 0; // bytes for all PEs
 };
 
 } // namespace detail

@@ -122,7 +122,7 @@ public:
     event_log *log = nullptr;
     // Lets messages come in and go out. Whether something came.
     virtual bool poll() = 0;
-    // Whether a batch is here, or a decision of a round after this one.
+    // Whether a batch is here, or what a fold came to, or a decision of a round after this one.
     virtual bool has_news(std::uint32_t round) = 0;
     // Whether a batch may be sent to this PE now; and sends it. Where that throws the batch is as it was.
     virtual bool may_send(std::uint32_t to) = 0;
@@ -130,16 +130,23 @@ public:
     // The next batch that came; and that it is used up.
     virtual bool receive(std::uint32_t &from, batch &of) = 0;
     virtual void took(std::uint32_t from) = 0;
-    // Gives notes to the board.
+    // Gives notes to the board, with what was contributed by them.
     virtual void report(std::vector<note> &notes) = 0;
+    // Gives what elements contribute to folds; and what one came to, for letters that this PE has posted.
+    virtual void contribute(std::vector<share_of_fold> &shares) = 0;
+    virtual bool folded(std::uint64_t &key, beside &whole) = 0;
     // The last decision, where it is of a round after this one.
     virtual std::shared_ptr<const decision> decided(std::uint32_t after) = 0;
     // Whether all are to end, and that this PE has met a fault, for which all end.
     virtual bool ended() = 0;
     virtual void fail(const fault &met) = 0;
-    // This PE had nothing to do in a turn, as of this round; or had something.
-    virtual void rest(std::uint32_t round) = 0;
+    // An element ends the run. The first one that does counts.
+    virtual void exit(std::uint32_t element, const beside &value) = 0;
+    // This PE had nothing to do in a turn, as of this round, and has so many letters that leave once nothing is to be done; or it had something.
+    virtual void rest(std::uint32_t round, std::uint64_t late) = 0;
     virtual void wake() = 0;
+    // How often nothing was to be done, and such letters were to leave.
+    virtual std::uint32_t quiets() = 0;
 };
 
 } // namespace detail

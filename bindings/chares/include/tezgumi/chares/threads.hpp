@@ -14,7 +14,7 @@ namespace detail {
 // What the threads of a run share.
 class field {
 public:
-    field(const settings &how, std::uint32_t pes, std::uint32_t n) : how_(how), board_(how, pes, n), boxes_(pes), question_(pes)
+    field(const settings &how, std::uint32_t pes, std::uint32_t n) : how_(how), folds_(n), board_(how, pes, n), boxes_(pes), question_(pes)
     {
         for (std::uint32_t pe = 0; pe < pes; pe++) boxes_[pe] = std::make_unique<box>(pes);
         ended_ = board_.all_finished();
@@ -45,19 +45,45 @@ public:
         at.count--;
         return true;
     }
-    bool has_news(std::uint32_t me, std::uint32_t round) const { return boxes_[me]->count.load() != 0 || decided_.load() > round; }
+    bool has_news(std::uint32_t me, std::uint32_t round) const { return boxes_[me]->count.load() != 0 || boxes_[me]->folds_there.load() != 0 || decided_.load() > round; }
     void took(std::uint32_t me, std::uint32_t from) { boxes_[me]->outstanding[from]--; }
+
+    // ---- Folds ----
+
+    void contribute(std::vector<share_of_fold> &shares)
+    {
+        for (share_of_fold &one : shares) {
+            share_of_fold whole;
+            const std::lock_guard<std::mutex> lock(folds_mutex_);
+            if (!folds_.take(one, whole)) continue;
+            auto packed = std::make_shared<pup::bytes>();
+            pup::pack(whole.of, *packed);
+            boxes_[whole.pe]->folded.emplace_back(whole.of.key, std::move(packed));
+            boxes_[whole.pe]->folds_there++;
+        }
+    }
+    bool folded(std::uint32_t me, std::uint64_t &key, beside &whole)
+    {
+        box &at = *boxes_[me];
+        if (at.folds_there.load() == 0) return false;
+        const std::lock_guard<std::mutex> lock(folds_mutex_);
+        key = at.folded.front().first;
+        whole = std::move(at.folded.front().second);
+        at.folded.pop_front();
+        at.folds_there--;
+        return true;
+    }
 
     // ---- The board ----
 
-    // Hands in notes. One thread at a time takes them to the board, and decides; the others leave theirs to it, and go on. What takes long
-    // is done outside of the lock: a round is decided, then all are told of it, and then the program is.
-    void report(const std::vector<note> &notes, event_log *log)
+    // Hands in notes, and takes what was contributed by them. One thread at a time brings them to the board, and decides; the others leave theirs
+    // to it, and go on. What takes long is done outside of the lock: a round is decided, then all are told of it, and then the program is.
+    void report(std::vector<note> &notes, event_log *log)
     {
         std::vector<note> mine;
         {
             const std::lock_guard<std::mutex> lock(mutex_);
-            notes_.insert(notes_.end(), notes.begin(), notes.end());
+            notes_.insert(notes_.end(), std::make_move_iterator(notes.begin()), std::make_move_iterator(notes.end()));
             if (is_deciding_) return;
             is_deciding_ = true;
         }
@@ -95,25 +121,45 @@ public:
         ended_ = true;
     }
 
-    // PE me has nothing to do, as of this round, and has sent and received so many batches. PE 0 asks, once it has had nothing for a
-    // while.
-    void rest(std::uint32_t me, std::uint32_t round, std::uint64_t sent, std::uint64_t received, std::uint32_t &answered, bool asks)
+    void exit(std::uint32_t element, const beside &value)
     {
+        const std::lock_guard<std::mutex> lock(mutex_);
+        if (ended_.load()) return;
+        exit_.value = *value;
+        exit_.element = element;
+        ended_ = true;
+    }
+
+    // What a PE tells as it rests: as of which round, how many batches it has sent and received, and how many letters wait until nothing is to do.
+    struct resting {
+        std::uint32_t me = 0, round = 0;
+        std::uint64_t sent = 0, received = 0, late = 0;
+    };
+    // A PE has nothing to do. PE 0 asks, once it has had nothing for a while.
+    void rest(const resting &of, std::uint32_t &answered, bool asks)
+    {
+        const std::uint32_t me = of.me;
         if (asks && me == 0) {
             const std::lock_guard<std::mutex> lock(mutex_);
             if (!question_.is_open()) asked_ = question_.ask();
         }
         if (asked_.load() == answered) return;
         const std::lock_guard<std::mutex> lock(mutex_);
-        if (is_deciding_ || decided_.load() != round || asked_.load() == answered) return;
+        if (is_deciding_ || decided_.load() != of.round || asked_.load() == answered) return;
         answered = asked_.load();
-        if (!question_.answer(answered, sent, received) || ended_.load()) return;
+        if (!question_.answer(answered, of.sent, of.received, of.late) || ended_.load()) return;
+        if (question_.late() != 0) {
+            quiets_++;
+            return;
+        }
         board_.tell_quiet(fault_);
         ended_ = true;
     }
+    std::uint32_t quiets() const { return quiets_.load(); }
 
     // Once no thread uses it any more.
     const fault &met() const { return fault_; }
+    const exited &exit() const { return exit_; }
     std::vector<round_report> &rounds() { return rounds_; }
 
 private:
@@ -126,9 +172,9 @@ private:
         if (mine.empty()) is_deciding_ = false;
         return !mine.empty();
     }
-    void post(const std::vector<note> &notes, event_log *log)
+    void post(std::vector<note> &notes, event_log *log)
     {
-        for (const note &one : notes) board_.take(one);
+        for (note &one : notes) board_.take(one);
         if (board_.is_complete()) {
             auto next = std::make_shared<const decision>(board_.decide());
             if (log) log->decide(next->round);
@@ -148,11 +194,14 @@ private:
         explicit box(std::uint32_t pes) : outstanding(pes) {}
         std::mutex mutex;
         std::deque<std::pair<std::uint32_t, batch>> batches;
-        std::atomic<std::size_t> count{0};
+        std::atomic<std::size_t> count{0}, folds_there{0};
+        std::deque<std::pair<std::uint64_t, beside>> folded; // what folds came to, under the lock of all
         std::vector<std::atomic<std::uint32_t>> outstanding; // of each PE that sends here
     };
 
     const settings &how_;
+    std::mutex folds_mutex_; // of the folds, and what they came to
+    folds folds_;
     std::mutex mutex_; // of all that follows but the queues, and the board, which one thread has at a time
     std::vector<note> notes_; // that the board has not taken
     bool is_deciding_ = false; // whether a thread has the board
@@ -162,8 +211,9 @@ private:
     std::atomic<std::uint32_t> decided_{0};
     std::atomic<bool> ended_{false};
     quiet_question question_;
-    std::atomic<std::uint32_t> asked_{0};
+    std::atomic<std::uint32_t> asked_{0}, quiets_{0};
     fault fault_;
+    exited exit_;
     std::vector<round_report> rounds_;
 };
 
@@ -188,19 +238,23 @@ public:
     }
     void took(std::uint32_t from) override { field_.took(me_, from); }
     void report(std::vector<note> &notes) override { field_.report(notes, log); }
+    void contribute(std::vector<share_of_fold> &shares) override { field_.contribute(shares); }
+    bool folded(std::uint64_t &key, beside &whole) override { return field_.folded(me_, key, whole); }
     std::shared_ptr<const decision> decided(std::uint32_t after) override { return field_.decided(after); }
     bool ended() override { return field_.ended(); }
     void fail(const fault &met) override { field_.fail(met); }
-    void rest(std::uint32_t round) override
+    void exit(std::uint32_t element, const beside &value) override { field_.exit(element, value); }
+    void rest(std::uint32_t round, std::uint64_t late) override
     {
         const auto now = std::chrono::steady_clock::now();
         if (!rests_) since_ = now;
         rests_ = true;
         const bool asks = me_ == 0 && now - since_ > std::chrono::milliseconds(how_.quiet);
         if (asks) since_ = now;
-        field_.rest(me_, round, sent_, received_, answered_, asks);
+        field_.rest(field::resting{me_, round, sent_, received_, late}, answered_, asks);
     }
     void wake() override { rests_ = false; }
+    std::uint32_t quiets() override { return field_.quiets(); }
 
 private:
     field &field_;

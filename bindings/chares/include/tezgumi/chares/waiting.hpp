@@ -5,9 +5,21 @@
 #include "outbound.hpp"
 
 #include <map>
+#include <unordered_set>
 
 namespace tezgumi {
 namespace detail {
+
+inline constexpr std::uint32_t nobody = UINT32_MAX;
+
+// An element of a PE: whether it waits for a round, and the size and the contribution that it told for that.
+struct slot {
+    bool waits = false, finished = false;
+    std::uint32_t round = 0, waits_for = 0;
+    std::uint32_t adds_to = nobody; // the PE to which it went on adding letters, where those were over the limit
+    std::uint64_t bytes = 0;
+    contributions given;
+};
 
 // A batch whose letters wait in several parts. Once all these are used up its sender is told that the batch is.
 struct credit {
@@ -50,6 +62,8 @@ public:
         }
         return nullptr;
     }
+    // What the first letters wait for, where there are any.
+    Key first_key() const { return queues_.begin()->first; }
     // Takes these away.
     arrival take_first()
     {
@@ -81,6 +95,47 @@ private:
     const std::size_t batch_;
     Map queues_;
     Key key_{};
+};
+
+// Letters of a PE that leave only once nothing else is to be done. They are known by their numbers, until the PE gives them up.
+class late_letters {
+public:
+    // How many there are, as the PE tells. Only these leave the next time, and none that comes to be before the PE hears of that.
+    std::uint64_t tell()
+    {
+        told_ = letters_.size();
+        return told_;
+    }
+    // Letters with the numbers from first to before end are such.
+    void expect(std::uint64_t first, std::uint64_t end)
+    {
+        for (; first != end; first++) numbers_.insert(static_cast<std::uint32_t>(first));
+    }
+    // Whether this one, which leaves PE me, is such. Then it stays here.
+    bool keeps(std::uint32_t me, std::uint32_t to, const parcel &of)
+    {
+        if (numbers_.empty() || !of.is_letter() || of.poster() != me || numbers_.count(of.number()) == 0) return false;
+        letters_.emplace_back(to, pup::bytes(of.message, of.message + of.len));
+        numbers_.erase(of.number());
+        return true;
+    }
+    // Those that were told leave, by send(to, parcel). Whether there were any.
+    template <class F> bool leave(F &&send)
+    {
+        const bool did = told_ != 0;
+        for (; told_ != 0; told_--, letters_.pop_front()) {
+            parcel next;
+            next.message = letters_.front().second.data();
+            next.len = letters_.front().second.size();
+            send(letters_.front().first, next);
+        }
+        return did;
+    }
+
+private:
+    std::unordered_set<std::uint32_t> numbers_;
+    std::deque<std::pair<std::uint32_t, pup::bytes>> letters_; // where each goes, and its message
+    std::uint64_t told_ = 0;
 };
 
 // By the PE to which their elements go on adding; and by the body that they name.

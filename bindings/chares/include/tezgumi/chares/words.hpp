@@ -44,10 +44,12 @@ struct settings {
     std::uint32_t tolerance = 0; // in thousandths of the least greatest load
     std::string dumps; // where it is not empty: each round that is balanced is dumped to this name, a dot and the round
     std::string events; // where it is not empty: each PE writes its events to this name, a dot and its number
+    std::string trace; // where it is not empty: each PE writes the times of its handlers to this name, a dot and its number
     // A message between PEs is sent once it has so many bytes, 1 to 2^30, or nothing else is to do, or a handler took long.
     std::size_t batch = 64 * 1024;
     std::uint32_t window = 4; // so many messages, 1 to 2^20, a PE sends to another before that one has used one up
-    // Where a PE cannot get rid of so many bytes, 0 to 2^40, elements that go on adding to those for a slow PE are held back.
+    // Where a PE cannot get rid of so many bytes, 0 to 2^40, elements that go on adding to those for a slow PE are held back: with one such PE.
+    // With several all together wait for at most twice as much.
     std::size_t backlog = 16 * 1024 * 1024;
     std::uint32_t quiet = 20; // after so many milliseconds without anything to do it is asked whether all PEs have nothing
     bool moves_all = false; // for tests: in each round every element goes to the next PE, and on one PE it is packed and unpacked anew
@@ -67,7 +69,7 @@ enum class fault_kind : std::uint32_t {
     handler = 5, // a handler, or a pup, ended by an exception
     quiet = 6, // nothing was left to do, and an element had not finished
     mismatch = 7, // what was carried is not what was sent: an error in the driver or below
-    dump = 8, // a dump was not written, or the events
+    dump = 8, // a dump was not written, or the events or the trace
     input = 9 // the settings, the planner or the PE refused something
 };
 
@@ -96,6 +98,12 @@ struct fault {
         if (!what.empty()) line += ": " + what;
         return line;
     }
+};
+
+// How an element ended the run, by `exit`.
+struct exited {
+    std::uint32_t element = fault::no_element; // which one, if there was one
+    pup::bytes value; // as it packs
 };
 
 // A letter to an element that is not there.
@@ -222,6 +230,21 @@ private:
 // What an element contributes to a round, in order.
 using contributions = std::vector<contribution>;
 
+// What all elements contributed to one fold came to, as a message: it stands among the messages of a chare that contributes to such.
+struct folded {
+    std::uint64_t key = 0; // which fold
+    contribution value;
+
+    void pup(pup::er &p) { p(key, value); }
+    template <class T> std::vector<T> results() const { return value.template values<T>(); }
+    template <class T> T result() const
+    {
+        const std::vector<T> found = results<T>();
+        if (found.size() != 1) throw std::logic_error("more values than one were contributed");
+        return found[0];
+    }
+};
+
 template <class T> contribution sum(T value) { return contribution(contribution::fold::sum, &value, 1); }
 template <class T> contribution least(T value) { return contribution(contribution::fold::least, &value, 1); }
 template <class T> contribution greatest(T value) { return contribution(contribution::fold::greatest, &value, 1); }
@@ -266,6 +289,14 @@ struct note {
     contributions given;
 
     void pup(pup::er &p) { p(finished, index, round, pe, load, bytes, given); }
+};
+
+// What an element on a PE contributes to a fold that waits for no round.
+struct share_of_fold {
+    std::uint32_t index = 0, pe = 0;
+    folded of;
+
+    void pup(pup::er &p) { p(index, pe, of); }
 };
 
 // The decision of a round: block b is the elements cuts[b] .. cuts[b + 1] - 1, and goes to PE names[b].

@@ -4,6 +4,8 @@
 
 #include "bodies.hpp"
 #include "events.hpp"
+#include "patience.hpp"
+#include "trace.hpp"
 #include "waiting.hpp"
 #include "work_clock.hpp"
 
@@ -16,7 +18,7 @@ class worker {
 public:
     worker(link &carrier, const settings &how, elements &objects)
         : link_(carrier), how_(how), objects_(objects), out_(objects.out), me_(out_.pe), pes_(out_.pes), n_(out_.n), room_(n_), outbound_(how, pes_),
-          held_own_(how.batch), held_others_(how.batch), bodiless_(how.batch), clock_(how.clock), bodies_(pes_), places_(n_)
+          held_own_(how.batch), held_others_(how.batch), bodiless_(how.batch), clock_(how.clock), patience_(pes_), bodies_(pes_), places_(n_)
     {
         own_.from = me_;
         out_.held = &bodies_.all();
@@ -41,6 +43,7 @@ public:
                     tell(how_.on_turn, me_);
                     turn();
                     if (log_) log_->check();
+                    if (trace_) trace_->check();
                 }
             } catch (...) {
                 fail();
@@ -56,6 +59,7 @@ public:
         std::exception_ptr lost;
         try {
             if (log_) log_->close();
+            if (trace_) trace_->close();
         } catch (...) {
             lost = std::current_exception();
         }
@@ -69,17 +73,7 @@ public:
     }
 
 private:
-    // An element of this PE: whether it waits for a round, and the size and the contribution that it told for that.
-    struct slot {
-        bool waits = false, finished = false;
-        std::uint32_t round = 0, waits_for = 0;
-        std::uint32_t adds_to = nobody; // the PE to which it went on adding letters, where those were over the limit
-        std::uint64_t bytes = 0;
-        contributions given;
-    };
-
     static constexpr int steps_a_turn = 64;
-    static constexpr std::uint32_t nobody = UINT32_MAX;
     static constexpr std::uint64_t unknown = UINT64_MAX;
     static constexpr std::size_t copied_extra = 16 * 1024; // shorter bytes beside parcels are copied into batches
     static constexpr std::chrono::microseconds long_turn{200};
@@ -98,6 +92,7 @@ private:
             log_ = std::make_unique<event_log>(how_, me_, pes_, n_);
             link_.log = log_.get();
         }
+        if (!how_.trace.empty()) trace_ = std::make_unique<time_trace>(how_, me_);
         pe_ = std::make_unique<pe_handle>(me_, pes_, n_);
         for (std::uint32_t i = 0; i < n_; i++) {
             if (opening_place(i) != me_) continue;
@@ -114,12 +109,13 @@ private:
     {
         bool busy = link_.poll();
         // A PE that had nothing to do a moment ago only looks whether something came.
-        if (idle_ != 0 && has_nothing() && !busy && !link_.has_news(round_)) return rest(true);
-        if (auto next = link_.decided(round_)) {
-            adopt(*next);
-            busy = true;
-        }
+        if (idle_ != 0 && has_nothing() && !busy && !link_.has_news(round_) && link_.quiets() == quiets_) return rest(true);
+        const auto next = link_.decided(round_);
+        if (next) adopt(*next);
+        const bool has_sent = send_late(), has_folds = take_folds();
+        busy = busy || next || has_sent || has_folds;
         turn_began_ = clock_.look();
+        if (idle_ != 0) oldest_ = turn_began_; // what could not leave before the PE rested
         busy = go_on() || busy;
         for (int i = 0; i < steps_a_turn && (i == 0 || !is_long()) && step(); i++) busy = true;
         empty_outbox();
@@ -129,41 +125,26 @@ private:
         if (busy) return wake();
         rest(has_nothing());
     }
-    bool is_long() const { return clock_.now() - turn_began_ >= long_turn; }
+    // Whether it ends now: it has taken so long, or what waits to leave has waited so long.
+    bool is_long() const { return is_past(turn_began_) || (outbound_.total() != 0 && is_past(oldest_)); }
+    bool is_past(work_clock::point since) const { return clock_.now() - since >= long_turn; }
     // Whether all that this PE could do takes a message that comes. What it sends to itself it has taken in before it looks.
-    bool has_nothing() const
-    {
-        const bool none_waits = revived_.empty() && held_own_.is_empty() && held_others_.is_empty();
-        return outbound_.total() == 0 && due_.empty() && later_.empty() && !has_hand_ && none_waits;
-    }
+    bool has_nothing() const { return outbound_.total() == 0 && due_.empty() && later_.empty() && !has_hand_ && none_waits(); }
+    bool none_waits() const { return revived_.empty() && held_own_.is_empty() && held_others_.is_empty(); }
     // Sends what is ready, or all, where nothing else is to do, the turn was long, or some has waited for long.
     bool flush(bool all)
     {
         if (outbound_.total() == 0) return false;
-        all = all || is_long() || clock_.now() - oldest_ >= long_turn;
-        if (!outbound_.flush(link_, round_, all)) return false;
-        if (all) oldest_ = clock_.now();
-        return true;
+        all = all || is_long();
+        if (all) oldest_ = clock_.now(); // what may not leave now waits anew
+        return outbound_.flush(link_, round_, all);
     }
-    // PEs that hold back letters for each other would wait for ever. So after a while a PE that does nothing, and holds back letters of
-    // others, runs some of these; and one that goes on with its own runs one now and then.
+    // Runs some of the letters of others that it holds back, where these have waited for long.
     void give_way(bool busy)
     {
-        if (busy) is_stalled_ = false;
-        if (held_others_.is_empty()) is_kept_ = false;
-        if (held_others_.is_empty()) return;
-        const auto now = clock_.look();
-        if (!is_kept_) kept_since_ = now;
-        is_kept_ = true;
-        if (busy) {
-            if (now - kept_since_ <= std::chrono::milliseconds(100)) return;
-            grace_ = 1;
-            is_kept_ = false;
-            return;
-        }
-        if (is_stalled_ && now - stalled_since_ > std::chrono::milliseconds(1)) grace_ = steps_a_turn;
-        if (!is_stalled_) stalled_since_ = now;
-        is_stalled_ = grace_ == 0;
+        if (held_others_.is_empty()) return patience_.rest();
+        const std::uint32_t on = held_others_.first_key();
+        grace_ = std::max(grace_, patience_.after(busy, clock_.look(), on, outbound_.sent(on)));
     }
 
     // One parcel further. Whether anything was done.
@@ -187,6 +168,10 @@ private:
     }
     bool fetch_waiting()
     {
+        if (none_waits()) {
+            grace_ = 0;
+            return false;
+        }
         while (!revived_.empty()) {
             const bool is_taken = take_front(revived_.front(), 2);
             if (!revived_.front().parcels.has_next()) {
@@ -200,7 +185,7 @@ private:
             if (fetch_held(held_others_, 0)) return true;
         }
         if (fetch_held(held_others_, 2)) {
-            is_kept_ = false;
+            patience_.goes_on();
             return true;
         }
         return fetch_held(held_own_, 1);
@@ -268,7 +253,7 @@ private:
             later_.erase(at);
             return true;
         }
-        for (;;) {
+        while (link_.has_news(round_)) {
             later_.reserve(later_.size() + 1); // so that what was received is not lost
             inbox_ = arrival();
             if (!link_.receive(inbox_.from, inbox_.parcels)) return false;
@@ -276,6 +261,7 @@ private:
             if (inbox_.parcels.round() <= round_) return true;
             later_.push_back(std::move(inbox_));
         }
+        return false;
     }
 
     // Takes the parcel in front of these into the hand, or puts it where it waits. Whether it is in the hand.
@@ -301,7 +287,7 @@ private:
             return true;
         }
         if (!next.is_letter()) return false;
-        if (next.has_ticket() && next.its_ticket().is_shared() && !next.has_extra() && !bodies_.has(next.its_ticket())) {
+        if (next.body_len() == ticket_bytes && next.has_ticket() && next.its_ticket().is_shared() && !next.has_extra() && !bodies_.has(next.its_ticket())) {
             arrival alone;
             alone.from = of.from;
             bodiless_.add(next.its_ticket(), alone, next);
@@ -370,15 +356,8 @@ private:
     {
         if (index >= n_) throw run_fault(fault_kind::mismatch, "an element is looked for that is not there");
         pe_->look(room_[index] ? me_ : places_[index]);
-        if (log_) tell_look(index);
-    }
-    void tell_look(std::uint32_t index)
-    {
-        if (room_[index]) {
-            log_->look_here(index);
-        } else {
-            log_->look(index, places_[index], round_);
-        }
+        if (log_ && room_[index]) log_->look_here(index);
+        if (log_ && !room_[index]) log_->look(index, places_[index], round_);
     }
 
     // Gives up what may leave the outbox, in which are so many parcels, or nobody knows how many. Bodies that several letters name follow.
@@ -421,6 +400,31 @@ private:
     {
         if (log_) log_->flush(to, next);
         if (to >= pes_) throw run_fault(fault_kind::mismatch, "a parcel goes to no PE");
+        if (!late_.keeps(me_, to, next)) send(to, next);
+    }
+    // What folds came to goes into the letters that wait for it. Whether there was any.
+    bool take_folds()
+    {
+        std::uint64_t key = 0;
+        beside whole;
+        bool did = false;
+        for (; link_.folded(key, whole); did = true) {
+            for (arrival &one : bodiless_.take(bodies_.fill(key, whole))) revived_.push_back(std::move(one));
+        }
+        if (did) empty_outbox();
+        return did;
+    }
+    // Letters leave that do so once nothing else is to be done. Whether there were any.
+    bool send_late()
+    {
+        if (link_.quiets() == quiets_) return false;
+        quiets_ = link_.quiets();
+        const bool did = late_.leave([this](std::uint32_t to, const parcel &next) { send(to, next); });
+        empty_outbox();
+        return did;
+    }
+    void send(std::uint32_t to, parcel next)
+    {
         if (next.is_element()) {
             const auto at = leaving_.find(next.element());
             if (at == leaving_.end()) throw run_fault(fault_kind::mismatch, "an element leaves that did not depart");
@@ -428,11 +432,11 @@ private:
             leaving_.erase(at);
             return;
         }
-        // The body of a letter to this PE stays where it is. Where events are written down each letter takes its own along, so that none waits
-        // for one and is overtaken.
+        // The body of a letter to this PE stays where it is. Where events are written down each letter takes its own along, if that is here, so that
+        // none waits for one and is overtaken.
         if (to == me_ || !next.has_ticket()) return put(to, next, nullptr);
         const ticket its = next.its_ticket();
-        if (its.is_shared() && !log_) {
+        if (its.is_shared() && (!log_ || !bodies_.has(its))) {
             bodies_.leaves(its, to);
             return put(to, next, nullptr);
         }
@@ -471,6 +475,7 @@ private:
             guarded(index, [&] { objects_.pack(index, p); });
         }
         out_.begin(index);
+        if (trace_) trace_->begin();
         clock_.start(kind);
         try {
             guarded(index, handler);
@@ -485,6 +490,7 @@ private:
         said &so = objects_.said_by(index);
         so.end(at.waits);
         const std::uint64_t measured = clock_.end(so.named), units = so.named ? so.units : measured;
+        if (trace_) trace_->handler(index, kind);
         if (so.at_sync && !at.waits) guarded(index, [&] { at.bytes = objects_.size(index); });
         out_.end(units, so.at_sync, so.finished, at.bytes);
     }
@@ -494,8 +500,12 @@ private:
     {
         said &so = objects_.said_by(index);
         out_.taken();
+        for (const auto &some : out_.late) late_.expect(posted_ + some.first, posted_ + some.second);
         posted_ += out_.letters;
         inside_ += out_.letters;
+        if (so.exits) link_.exit(index, so.exits);
+        for (const auto &one : out_.awaited) bodies_.await(one.first, one.second);
+        if (!out_.shares.empty()) link_.contribute(out_.shares);
         add_to_outbox(out_.letters, true);
         mark(at);
         if (so.finished) {
@@ -565,6 +575,7 @@ private:
             for (std::uint32_t i = next.cuts[b]; i < next.cuts[b + 1]; i++) places_[i] = next.names[b];
         }
         round_ = next.round;
+        if (trace_) trace_->round(round_);
         results_ = next.results;
         std::sort(waiting_.begin(), waiting_.end());
         // Those that leave go first, and letters of the others then follow them.
@@ -616,6 +627,7 @@ private:
     }
     void depart(std::uint32_t index, slot &at)
     {
+        if (trace_) trace_->begin();
         const auto packed = std::make_shared<pup::bytes>();
         pup::er p(*packed);
         p(index, at.finished, at.waits_for);
@@ -627,6 +639,7 @@ private:
         leaving_.emplace(index, packed);
         room_[index].reset();
         objects_.remove(index);
+        if (trace_) trace_->left(index, round_);
     }
     // An element that came is unpacked.
     slot &keep(std::uint32_t index, const std::uint8_t *from, std::size_t len)
@@ -646,7 +659,9 @@ private:
     }
     void install(std::uint32_t index, const std::uint8_t *from, std::size_t len)
     {
+        if (trace_) trace_->begin();
         const slot &at = keep(index, from, len);
+        if (trace_) trace_->came(index, round_);
         if (at.waits_for != round_) throw run_fault(fault_kind::mismatch, "an element came for another round", index);
         due_.push_back(index);
     }
@@ -666,9 +681,9 @@ private:
                 owed.bytes = at.bytes;
                 std::swap(owed.given, at.given);
             }
-            notes_.push_back(owed);
+            notes_.push_back(std::move(owed));
             pe_->note_done();
-            if (log_) log_->report(owed);
+            if (log_) log_->report(notes_.back());
         }
         if (notes_.empty()) return false;
         link_.report(notes_);
@@ -679,7 +694,8 @@ private:
 
     void rest(bool is_at_rest)
     {
-        if (is_at_rest) link_.rest(round_);
+        if (is_at_rest) link_.rest(round_, late_.tell());
+        if (trace_) trace_->rests();
         // The longer nothing comes the longer it sleeps, so that waiting takes little of the processor.
         idle_++;
         if (idle_ > 256) {
@@ -691,6 +707,7 @@ private:
     void wake()
     {
         if (idle_ != 0) link_.wake();
+        if (trace_) trace_->wakes();
         idle_ = 0;
     }
 
@@ -744,6 +761,7 @@ private:
     const std::uint32_t me_, pes_, n_;
     std::unique_ptr<pe_handle> pe_;
     std::unique_ptr<event_log> log_; // where events are to be written down
+    std::unique_ptr<time_trace> trace_; // and where times are
     std::vector<std::unique_ptr<slot>> room_; // of each element that is here
     // Parcels: those of this PE to itself, the batch that is being used up, those that came too early, and those that leave.
     arrival own_;
@@ -760,9 +778,11 @@ private:
     std::deque<arrival> revived_;
     arrival spent_;
     work_clock clock_;
-    work_clock::point turn_began_{}, oldest_{}, stalled_since_{}, kept_since_{};
-    bool is_stalled_ = false, is_kept_ = false;
+    work_clock::point turn_began_{}, oldest_{};
     int grace_ = 0;
+    patience patience_; // with PEs for which it holds back letters of others
+    late_letters late_;
+    std::uint32_t quiets_ = 0; // how often such letters have left
     // What goes beside parcels: the objects of elements that leave, and long bodies.
     std::map<std::uint32_t, beside> leaving_;
     body_room bodies_;
