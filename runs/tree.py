@@ -8,6 +8,7 @@ The files of such a crate end with .txt, since the toolchain refuses .rt and .an
 Its file `crate` is its line there. The tree has it with the plain endings, beside a copy of the crates that it stands on.
 """
 
+import functools
 import glob
 import os
 import re
@@ -42,18 +43,24 @@ def with_below(names, lines):
     return found
 
 
-def tests_of(crate):
-    """The crates with tests that call a library themselves, and the library where it has tests of its own."""
+@functools.lru_cache(maxsize=None)
+def with_tests():
+    """The crates that have tests, each with the crates whose names its files use. It reads all crates, so once is enough."""
     folders = {name: f"{TOP}/crates/{name}/src/**/*.rt" for name in lines_of(os.path.join(TOP, "crates.txt"))}
-    found = []
+    found = {}
     for name, pattern in (folders | {name: f"{HERE}/{name}/src/**/*.rt.txt" for name in names_in()}).items():
         text = ""
         for path in glob.glob(pattern, recursive=True):
             with open(path, encoding="utf-8") as file:
                 text += file.read()
-        if "#[test]" in text and (name == crate or re.search(rf"^use {crate}(::|;)", text, re.M)):
-            found.append(name)
+        if "#[test]" in text:
+            found[name] = set(re.findall(r"^use (\w+)(?:::|;)", text, re.M))
     return found
+
+
+def tests_of(crate):
+    """The crates with tests that call a library themselves, and the library where it has tests of its own."""
+    return [name for name, uses in with_tests().items() if name == crate or crate in uses]
 
 
 def text_files(source):
