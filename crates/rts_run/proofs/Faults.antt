@@ -1,6 +1,6 @@
 -- The fault of the first worker that met one, as the workers are gathered.
 use Rattle.std.proofs.Common.{◌≡◌, ◌≢◌, ◌∙◌, ◌⊎◌, inl, inr, ℕ, ap, sym, refl, map, List, [], ◌∷◌, Option, None, Some}
-use Rattle.std.specs.Prelude.{IfSome}
+use Rattle.std.specs.Prelude.{IfSome, IsTrue, not, Bool, true, false}
 use Rattle.std.specs.Option.{option_or}
 use Rattle.chares.specs.Elements.{Refuses}
 use Rattle.chares.specs.Steps.{Step}
@@ -115,3 +115,12 @@ module _ {C : Type 0} (step : Step C) (fits : C → Type 0) (pack : C → List �
 pub ends_idle : {C A : Type 0} (idle : Idle) (o : OutcomeView C A) → (o.fault ≡ Some Quiet → idle ≡ Idle.Quiet) → EndsIdle idle o
 ends_idle Turns o asked = λ is. absurd (let other : Turns ≡ Idle.Quiet = asked is in cc)
 ends_idle Idle.Quiet o asked = tt
+
+-- an answer is not both
+pub never_both : (b : Bool) → IsTrue (not b) → IsTrue b → ⊥
+never_both true t u = cc
+never_both false t u = cc
+
+pub not_true : (b : Bool) → (IsTrue b → ⊥) → IsTrue (not b)
+not_true true f = absurd (f refl)
+not_true false f = refl
