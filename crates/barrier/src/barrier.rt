@@ -4,6 +4,7 @@ ghost use Rattle.std.specs.Prelude.{◌≡◌, ◌<◌, ◌≤◌, IfErr, IfSome
 ghost use Rattle.lb_database.specs.Measuring.{elements};
 ghost use Rattle.sync_board.specs.Boards.{IsBoard};
 ghost use Rattle.barrier.specs.Refusals.{IsRefusedDecision};
+ghost use Rattle.barrier.specs.Rounds.{BeginWith};
 
 use crate::board_size::BoardSize;
 use crate::run_board::RunBoard;
@@ -19,16 +20,17 @@ use sync_board::{Board, BoardError};
 /// `RunBoard` returns in the state that other threads have left it in, so that contracts know only what holds of each
 /// board of this size.
 #[derive(Drop)]
-pub struct Barrier<J: BoardSize, A: Allocator = Global> {
+pub struct Barrier<J: BoardSize<A>, A: Allocator = Global> {
     board: Mutex<RunBoard<J, A>>,
 }
 
-impl<J: BoardSize, A: Allocator> Barrier<J, A> {
+impl<J: BoardSize<A>, A: Allocator> Barrier<J, A> {
     /// Puts a board of this size under a lock.
     pub fn new(board: Board<A>) -> Self
         requires counted { elements board.database ≡ J.elements }
         requires on_pes { board.pes ≡ J.pes }
         requires by_strategy { board.strategy ≡ J.strategy }
+        requires earlier { BeginWith J.earlier board.rounds }
     {
         Barrier {
             board: Mutex::new(RunBoard::new(board)),
@@ -112,6 +114,7 @@ impl<J: BoardSize, A: Allocator> Barrier<J, A> {
         ensures counted { elements result.database ≡ J.elements }
         ensures on_pes { result.pes ≡ J.pes }
         ensures by_strategy { result.strategy ≡ J.strategy }
+        ensures earlier { BeginWith J.earlier result.rounds }
         ensures board { IsBoard result }
     {
         let Barrier { board } = self;

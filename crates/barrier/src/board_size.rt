@@ -1,26 +1,34 @@
-//! A type that names the size of a run's board and its strategy, so that each thread knows both.
+//! A type that names what the board of a run is, so that each thread knows it: its size, its strategy, and the rounds it began with.
 
-ghost use Rattle.std.specs.Prelude.{ℕ};
+ghost use Rattle.std.specs.Prelude.{ℕ, List};
+ghost use Rattle.sync_board.specs.Boards.{Kept};
 ghost use Rattle.sync_board.specs.declared.strategy.Strategy.{Strategy};
 
 use std::marker::Brand;
 
-/// The strategy by which the rounds of a run are decided.
-pub trait RunStrategy {
+/// What the board of a run begins with: the strategy by which it decides, and the rounds that were decided before, where the run
+/// is carried on.
+pub trait BoardStart<A> {
     /// The strategy.
     ghost strategy: { Strategy };
+
+    /// What was kept of the rounds that were decided before.
+    ghost earlier: { List (Kept A) };
 }
 
-impl RunStrategy for Brand {
+impl<A> BoardStart<A> for Brand {
+    ghost use Rattle.std.specs.Prelude.{[]};
     ghost use Rattle.sync_board.specs.declared.strategy.Strategy.TheVariants.{Least};
 
     ghost strategy = { Least };
+
+    ghost earlier = { [] };
 }
 
-/// How many elements the board of a run has, on how many PEs, and by which strategy it decides. A thread that takes the
-/// lock knows what is under it only by its type, so a type names these numbers; the code that makes a
+/// How many elements the board of a run has, on how many PEs, by which strategy it decides, and which rounds it begins with. A
+/// thread that takes the lock knows what is under it only by its type, so a type names these; the code that makes a
 /// [`Barrier`](crate::Barrier) chooses them.
-pub trait BoardSize {
+pub trait BoardSize<A> {
     /// How many elements there are.
     ghost elements: { ℕ };
 
@@ -29,9 +37,13 @@ pub trait BoardSize {
 
     /// The strategy by which rounds are decided.
     ghost strategy: { Strategy };
+
+    /// What was kept of the rounds that were decided before. They stay the first ones.
+    ghost earlier: { List (Kept A) };
 }
 
-impl BoardSize for Brand {
+impl<A> BoardSize<A> for Brand {
+    ghost use Rattle.std.specs.Prelude.{[]};
     ghost use Rattle.sync_board.specs.declared.strategy.Strategy.TheVariants.{Least};
 
     ghost elements = { 0 };
@@ -39,4 +51,6 @@ impl BoardSize for Brand {
     ghost pes = { 1 };
 
     ghost strategy = { Least };
+
+    ghost earlier = { [] };
 }

@@ -3,7 +3,8 @@
 //!
 //! - [`Barrier`]: the lock with the board under it. Each call takes the lock for itself.
 //! - [`RunBoard`]: what is under the lock, with the calls of a [`Board`](sync_board::Board).
-//! - [`BoardSize`]: how many elements and PEs that board has, and by which strategy it decides ([`RunStrategy`]), as a type.
+//! - [`BoardSize`]: how many elements and PEs that board has, by which strategy it decides, and which rounds it begins with
+//!   ([`BoardStart`]), as a type.
 //! - [`RoundPlaces`]: the places of one round, copied under the lock and read without it.
 #![tactic(auto)]
 
@@ -13,6 +14,6 @@ mod round_places;
 mod run_board;
 
 pub use barrier::Barrier;
-pub use board_size::{BoardSize, RunStrategy};
+pub use board_size::{BoardSize, BoardStart};
 pub use round_places::RoundPlaces;
 pub use run_board::RunBoard;

@@ -13,7 +13,7 @@ use std::marker::{Model, PhantomData};
 /// read without the lock: the decision of a round never changes. Its capacity is reserved when it is made, so no copy
 /// takes memory. Contracts see it as the record `PlacesView`.
 #[derive(Drop)]
-pub struct RoundPlaces<J: BoardSize, A: Allocator = Global> {
+pub struct RoundPlaces<J: BoardSize<A>, A: Allocator = Global> {
     // Which round's places these are, or 0 before the first copy.
     round: Round,
     // Where the elements are cut into blocks. There are none before the first copy.
@@ -23,7 +23,7 @@ pub struct RoundPlaces<J: BoardSize, A: Allocator = Global> {
     size: PhantomData<J>,
 }
 
-impl<J: BoardSize, A: Allocator> Model for RoundPlaces<J, A> {
+impl<J: BoardSize<A>, A: Allocator> Model for RoundPlaces<J, A> {
     ghost use Rattle.std.specs.Prelude.{◌+◌, ◌≤◌, ◌<◌, vec_capacity};
     ghost use Rattle.chare_index.specs.declared.limits.TheConstants.Limits.{ROUND};
     ghost use Rattle.barrier.specs.Places.{ArePlaces, PlacesView};
@@ -37,7 +37,7 @@ impl<J: BoardSize, A: Allocator> Model for RoundPlaces<J, A> {
         × (J.pes + 1 ≤ vec_capacity p.cuts) × (J.pes ≤ vec_capacity p.names) };
 }
 
-impl<J: BoardSize, A: Allocator> RoundPlaces<J, A> {
+impl<J: BoardSize<A>, A: Allocator> RoundPlaces<J, A> {
     /// Capacity for the places of a round, and no places yet. The only error is that memory was refused.
     pub fn new(alloc: A, pes: u32) -> Result<Self, AllocError>
     where

@@ -8,6 +8,7 @@ ghost use Rattle.sync_board.specs.Boards.{Decides, HaveFinished, IsBoard, after_
 ghost use Rattle.sync_board.specs.Refusals.{RefusesDecision, RefusesFinish, database_error_of};
 ghost use Rattle.barrier.specs.Places.{place_among, places_by};
 ghost use Rattle.barrier.specs.Refusals.{IsRefusedDecision};
+ghost use Rattle.barrier.specs.Rounds.{BeginWith};
 
 use crate::board_size::BoardSize;
 use crate::round_places::RoundPlaces;
@@ -22,29 +23,32 @@ use sync_board::{Board, BoardError};
 /// The [`Board`] of a run, of the size that the type `J` names. Contracts see it as the record of that board. Its calls
 /// are those of the board, and so are their errors. A call that is refused leaves it unchanged.
 #[derive(Drop)]
-pub struct RunBoard<J: BoardSize, A: Allocator = Global> {
+pub struct RunBoard<J: BoardSize<A>, A: Allocator = Global> {
     board: Board<A>,
     size: PhantomData<J>,
 }
 
-impl<J: BoardSize, A: Allocator> Model for RunBoard<J, A> {
+impl<J: BoardSize<A>, A: Allocator> Model for RunBoard<J, A> {
     ghost use Rattle.std.specs.Prelude.{◌≡◌};
     ghost use Rattle.sync_board.specs.Boards.{BoardState};
     ghost use Rattle.lb_database.specs.Measuring.{elements};
+    ghost use Rattle.barrier.specs.Rounds.{BeginWith};
 
     ghost Value = { BoardState A };
 
     ghost view = { λ b. b.board };
 
-    ghost invariant = { λ b. (elements b.board.database ≡ J.elements) × (b.board.pes ≡ J.pes) × (b.board.strategy ≡ J.strategy) };
+    ghost invariant = { λ b. (elements b.board.database ≡ J.elements) × (b.board.pes ≡ J.pes) × (b.board.strategy ≡ J.strategy)
+        × BeginWith J.earlier b.board.rounds };
 }
 
-impl<J: BoardSize, A: Allocator> RunBoard<J, A> {
+impl<J: BoardSize<A>, A: Allocator> RunBoard<J, A> {
     /// Makes a board of this size that of a run.
     pub(crate) fn new(board: Board<A>) -> Self
         requires counted { elements board.database ≡ J.elements }
         requires on_pes { board.pes ≡ J.pes }
         requires by_strategy { board.strategy ≡ J.strategy }
+        requires earlier { BeginWith J.earlier board.rounds }
         ensures value { result ≡ board }
     {
         RunBoard {
@@ -91,6 +95,7 @@ impl<J: BoardSize, A: Allocator> RunBoard<J, A> {
 
     /// Decides the present round, as [`Board::decide`] does. The errors are [`Incomplete`](BoardError::Incomplete),
     /// [`Worn`](BoardError::Worn) and [`OutOfMemory`](BoardError::OutOfMemory), the first that applies.
+    #[tactic(auto, using(crate::proofs::Rounds::grown))]
     pub fn decide(&mut self) -> Result<Round, BoardError>
     where
         A: Copy,
@@ -105,6 +110,7 @@ impl<J: BoardSize, A: Allocator> RunBoard<J, A> {
 
     /// Decides the present round by 1 to [`Limits::PROBE_WORKERS`] workers, as [`Board::decide_with`] does. The errors
     /// are those of [`decide`](RunBoard::decide).
+    #[tactic(auto, using(crate::proofs::Rounds::grown))]
     pub fn decide_with<R: Threads + Sync, G: Gate + Sync>(
         &mut self,
         rt: &R,
@@ -181,12 +187,13 @@ impl<J: BoardSize, A: Allocator> RunBoard<J, A> {
     }
 
     /// The board itself. Whatever threads have done to it, each decision that it keeps is the best for what was
-    /// reported.
+    /// reported, and the rounds that it began with are its first ones.
     pub fn into_board(self) -> Board<A>
         ensures value { result ≡ self }
         ensures counted { elements result.database ≡ J.elements }
         ensures on_pes { result.pes ≡ J.pes }
         ensures by_strategy { result.strategy ≡ J.strategy }
+        ensures earlier { BeginWith J.earlier result.rounds }
         ensures board { IsBoard result }
     {
         let RunBoard { board, size: _ } = self;

@@ -14,7 +14,7 @@ use std::test::Fail;
 use std::thread::Threads;
 
 // Decides the round, alone or by two workers.
-fn decide<J: BoardSize, R: Threads + Wait + Sync, A: Allocator + Copy>(
+fn decide<J: BoardSize<A>, R: Threads + Wait + Sync, A: Allocator + Copy>(
     rt: &R,
     barrier: &Barrier<J, A>,
     alone: bool,
@@ -26,14 +26,14 @@ fn decide<J: BoardSize, R: Threads + Wait + Sync, A: Allocator + Copy>(
 }
 
 // Whether an element reports 3 units and 5 bytes in round 1, on the PE of its number.
-fn reports<J: BoardSize, R: Wait, A: Allocator>(rt: &R, barrier: &Barrier<J, A>, i: u32) -> bool
+fn reports<J: BoardSize<A>, R: Wait, A: Allocator>(rt: &R, barrier: &Barrier<J, A>, i: u32) -> bool
     requires { J.pes ≡ 2 }
 {
     barrier.report(rt, i, round(1), 3, 5, pe(i % 2)).is_ok()
 }
 
 // Whether the round waits for the second element, and is complete from its report to the decision.
-fn is_decided<J: BoardSize, R: Threads + Wait + Sync, A: Allocator + Copy>(
+fn is_decided<J: BoardSize<A>, R: Threads + Wait + Sync, A: Allocator + Copy>(
     rt: &R,
     barrier: &Barrier<J, A>,
     alone: bool,
@@ -49,7 +49,7 @@ fn is_decided<J: BoardSize, R: Threads + Wait + Sync, A: Allocator + Copy>(
 }
 
 // The place of an element in a round, by its number.
-fn place<J: BoardSize, R: Wait, A: Allocator>(
+fn place<J: BoardSize<A>, R: Wait, A: Allocator>(
     rt: &R,
     barrier: &Barrier<J, A>,
     number: u32,
@@ -60,14 +60,14 @@ fn place<J: BoardSize, R: Wait, A: Allocator>(
 }
 
 // Whether both elements keep their places in round 1, and round 2 has none.
-fn have_places<J: BoardSize, R: Wait, A: Allocator>(rt: &R, barrier: &Barrier<J, A>) -> bool {
+fn have_places<J: BoardSize<A>, R: Wait, A: Allocator>(rt: &R, barrier: &Barrier<J, A>) -> bool {
     place(rt, barrier, 1, 0) == Some(0)
         && place(rt, barrier, 1, 1) == Some(1)
         && place(rt, barrier, 2, 0).is_none()
 }
 
 // Whether all have finished once both elements have, and there is no third one.
-fn finish<J: BoardSize, R: Wait, A: Allocator>(rt: &R, barrier: &Barrier<J, A>) -> bool {
+fn finish<J: BoardSize<A>, R: Wait, A: Allocator>(rt: &R, barrier: &Barrier<J, A>) -> bool {
     let first = barrier.finish(rt, 0).is_ok() && !barrier.all_finished(rt);
     let second = barrier.finish(rt, 1).is_ok() && barrier.all_finished(rt);
     first && second && barrier.finish(rt, 2) == Err(BoardError::Stranger)
@@ -82,7 +82,7 @@ fn keeps<A: Allocator>(board: &Board<A>) -> bool {
 }
 
 // Whether all of this holds of one lock.
-fn passes<J: BoardSize, R: Threads + Wait + Sync, A: Allocator + Copy>(
+fn passes<J: BoardSize<A>, R: Threads + Wait + Sync, A: Allocator + Copy>(
     rt: &R,
     alloc: A,
     alone: bool,

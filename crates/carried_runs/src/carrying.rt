@@ -2,11 +2,12 @@
 
 ghost use Rattle.std.specs.Prelude.{◌≡◌, ◌≤◌, IfOk, MatchResult, length};
 ghost use Rattle.rts_run.specs.Configs.{IsWithin, MayBegin, RefusesRun};
-ghost use Rattle.rts_run.specs.Outcomes.{EndsIdle, IsOutcome};
+ghost use Rattle.rts_run.specs.Outcomes.{EndsIdle, IsOutcome, StopsEarly};
+ghost use Rattle.carried_runs.specs.GoingOn.{GoesOnFrom};
 
 use crate::counting::CountingOn;
 use crate::opening::opened_again;
-use barrier::RunStrategy;
+use barrier::BoardStart;
 use chare_index::{Gate, Limits};
 use chares::{Chare, Openings};
 use pe_worker::Watch;
@@ -23,7 +24,8 @@ use std::thread::Threads;
 /// have executed. `opening` is a snapshot of the chares that the first run opened with, which has no bytes: only the contract reads it.
 ///
 /// The outcome is one of both runs together, as if they were one: the clause `outcome` says of it what [`rts_run::run`] promises. So what was
-/// posted in the first run is executed in one of the two, or held at the end, and it may be carried on in turn. Where every element
+/// posted in the first run is executed in one of the two, or held at the end, and it may be carried on in turn. By the clause `goes_on` no
+/// number of a letter comes again, and the rounds of the first run are the first rounds of the outcome. Where every element
 /// has finished the run ends at once. After a [`Mismatch`](pe_worker::Fault::Mismatch) it ends in one.
 ///
 /// # Errors
@@ -49,7 +51,9 @@ pub fn carry_on<
     ensures answer { MatchResult result (λ _. MayBegin config.now (length opening.now.value.items))
         (RefusesRun config.now (length opening.now.value.items)) }
     ensures outcome { IfOk result (IsOutcome C.step C.fits C.pack C.refuses opening.now.value.items config.now.pes options.now.strategy) }
+    ensures goes_on { IfOk result (GoesOnFrom outcome) }
     ensures idle { IfOk result (EndsIdle options.now.idle) }
+    ensures stopped { IfOk result StopsEarly }
     ensures homes { IfOk result (λ o. o.homes ≡ outcome.homes) }
 {
     if let Some(_setting) = config.first_outside(outcome.board().len()) {
@@ -66,7 +70,7 @@ pub fn carry_on<
 // Carries a run on. `H` is the type that names the chares with which the run opened.
 fn carry_on_as<
     C: Chare<A> + Send,
-    H: Openings<C> + RunStrategy + Send + Sync,
+    H: Openings<C> + BoardStart<A> + Send + Sync,
     G: Gate + Sync,
     V: Watch + Sync,
     R: Threads + Wait + Sync,
@@ -86,8 +90,11 @@ fn carry_on_as<
     requires few { length H.opened ≤ Limits.ELEMENTS }
     requires run { config.now.pes ≡ H.pes }
     requires earlier { IsOutcome C.step C.fits C.pack C.refuses H.opened H.pes H.strategy outcome }
+    requires earlier_rounds { outcome.board.rounds ≡ H.earlier }
     ensures outcome { IfOk result (IsOutcome C.step C.fits C.pack C.refuses H.opened H.pes H.strategy) }
+    ensures goes_on { IfOk result (GoesOnFrom outcome) }
     ensures idle { IfOk result (EndsIdle options.now.idle) }
+    ensures stopped { IfOk result StopsEarly }
     ensures homes { IfOk result (λ o. o.homes ≡ outcome.homes) }
 {
     let counting = CountingOn::after(outcome.account().executed, watch);

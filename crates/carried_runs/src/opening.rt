@@ -4,6 +4,7 @@ ghost use Rattle.std.specs.Prelude.{◌≡◌, ◌≤◌, IfOk, length, map, sum
 ghost use Rattle.chare_index.specs.declared.limits.TheConstants.Limits.{SEATS};
 ghost use Rattle.lb_database.specs.Measuring.{elements};
 ghost use Rattle.pe_queues.specs.Seats.{pes};
+ghost use Rattle.run_account.specs.Reopenings.{all_reopened};
 ghost use Rattle.run_account.specs.RunAccounts.{IsRunAccount, left_world};
 ghost use Rattle.std.specs.List.{range_with_len};
 ghost use Rattle.rts_core.specs.Histories.{AreHistories};
@@ -12,7 +13,7 @@ ghost use Rattle.rts_run.specs.Openings.{AreNewSeats};
 ghost use Rattle.rts_run.specs.Outcomes.{IsOutcome};
 
 use crate::reopening::{places_of, reopen_all};
-use barrier::RunStrategy;
+use barrier::BoardStart;
 use chare_index::{Limits, Pe, Pes};
 use chares::{Chare, Openings};
 use pe_queues::{Locations, Post, Seat};
@@ -24,7 +25,7 @@ use sync_board::Board;
 
 /// What goes on from what an earlier run of the chares that `H` names has left, and where its elements opened. The only error is that
 /// memory was refused.
-pub(crate) fn opened_again<C: Chare<A>, H: Openings<C> + RunStrategy, A: Allocator + Copy>(
+pub(crate) fn opened_again<C: Chare<A>, H: Openings<C> + BoardStart<A>, A: Allocator + Copy>(
     alloc: A,
     config: &Config,
     outcome: Outcome<C, A>,
@@ -33,7 +34,9 @@ pub(crate) fn opened_again<C: Chare<A>, H: Openings<C> + RunStrategy, A: Allocat
     requires few { length H.opened ≤ Limits.ELEMENTS }
     requires run { config.now.pes ≡ H.pes }
     requires earlier { IsOutcome C.step C.fits C.pack C.refuses H.opened H.pes H.strategy outcome }
+    requires earlier_rounds { outcome.board.rounds ≡ H.earlier }
     ensures capacity { IfOk result (λ made. made.0.post.capacity ≡ config.now.capacity) }
+    ensures starts { IfOk result (λ made. made.0.starts ≡ all_reopened config.now.pes outcome.ends outcome.left) }
     ensures homes { IfOk result (λ made. made.1.items ≡ outcome.homes) }
 {
     let (homes, ends, left, board, _) = outcome.into_parts();
@@ -42,7 +45,7 @@ pub(crate) fn opened_again<C: Chare<A>, H: Openings<C> + RunStrategy, A: Allocat
 }
 
 // What the next run begins with, made from the parts of an outcome.
-fn opened_from<C: Chare<A>, H: Openings<C> + RunStrategy, A: Allocator + Copy>(
+fn opened_from<C: Chare<A>, H: Openings<C> + BoardStart<A>, A: Allocator + Copy>(
     alloc: A,
     config: &Config,
     ends: Vec<PeEnd<C, A>, A>,
@@ -59,7 +62,9 @@ fn opened_from<C: Chare<A>, H: Openings<C> + RunStrategy, A: Allocator + Copy>(
     requires elements { elements board.database ≡ length H.opened }
     requires on_pes { board.pes ≡ H.pes }
     requires by_strategy { board.strategy ≡ H.strategy }
+    requires earlier_rounds { board.rounds ≡ H.earlier }
     ensures capacity { IfOk result (λ o. o.post.capacity ≡ config.now.capacity) }
+    ensures starts { IfOk result (λ o. o.starts ≡ all_reopened config.now.pes ends.items (map (λ q. q.items) left.items)) }
 {
     let n = board_len(&board);
     let states = reopen_all(alloc, config.pes, ends, left)?;
@@ -77,7 +82,7 @@ fn board_len<A: Allocator>(board: &Board<A>) -> u32
 }
 
 // The location words of elements on PEs that open again.
-fn words_of<C: Chare<A>, H: Openings<C> + RunStrategy, A: Allocator + Copy>(
+fn words_of<C: Chare<A>, H: Openings<C> + BoardStart<A>, A: Allocator + Copy>(
     alloc: A,
     config: &Config,
     n: u32,
@@ -96,7 +101,7 @@ fn words_of<C: Chare<A>, H: Openings<C> + RunStrategy, A: Allocator + Copy>(
 }
 
 // The queues of the run, with a seat for each PE.
-fn post_of<C: Chare<A>, H: Openings<C> + RunStrategy, A: Allocator + Copy>(
+fn post_of<C: Chare<A>, H: Openings<C> + BoardStart<A>, A: Allocator + Copy>(
     alloc: A,
     config: &Config,
 ) -> Result<(Post<Parcel<C, H, A>, A>, Vec<Seat<Parcel<C, H, A>, A>, A>), AllocError>

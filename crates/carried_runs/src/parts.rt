@@ -3,7 +3,8 @@
 ghost use Rattle.std.specs.Prelude.{◌≡◌, IfOk, MatchResult, length};
 ghost use Rattle.rts_core.specs.Worlds.{opening_words};
 ghost use Rattle.rts_run.specs.Configs.{MayBegin, RefusesRun};
-ghost use Rattle.rts_run.specs.Outcomes.{EndsIdle, IsOutcome};
+ghost use Rattle.rts_run.specs.Outcomes.{EndsIdle, IsOutcome, StopsEarly};
+ghost use Rattle.carried_runs.specs.GoingOn.{AreParts, GoesOnFrom};
 
 use crate::carrying::carry_on;
 use crate::pausing::Pausing;
@@ -67,6 +68,7 @@ pub fn run_in_parts<
     ensures answer { MatchResult result (λ _. MayBegin config.now (length chares.items)) (RefusesRun config.now (length chares.items)) }
     ensures outcome { IfOk result (IsOutcome C.step C.fits C.pack C.refuses chares.items config.now.pes options.now.strategy) }
     ensures idle { IfOk result (EndsIdle options.now.idle) }
+    ensures stopped { IfOk result StopsEarly }
     ensures homes { IfOk result (λ o. o.homes ≡ opening_words (length chares.items) config.now.pes) }
 {
     if !pauses.are_wanted() {
@@ -107,7 +109,9 @@ pub fn carry_on_in_parts<
     ensures answer { MatchResult result (λ _. MayBegin config.now (length opening.now.value.items))
         (RefusesRun config.now (length opening.now.value.items)) }
     ensures outcome { IfOk result (IsOutcome C.step C.fits C.pack C.refuses opening.now.value.items config.now.pes options.now.strategy) }
+    ensures goes_on { IfOk result (GoesOnFrom outcome) }
     ensures idle { IfOk result (EndsIdle options.now.idle) }
+    ensures stopped { IfOk result StopsEarly }
     ensures homes { IfOk result (λ o. o.homes ≡ outcome.homes) }
 {
     if !pauses.are_wanted() {
@@ -121,6 +125,7 @@ pub fn carry_on_in_parts<
 }
 
 // Carries a run on after each pause, to its end.
+#[tactic(auto, using(crate::proofs::GoingOn::goes_on_here, crate::proofs::GoingOn::goes_on_after, crate::proofs::GoingOn::whole_yet, crate::proofs::GoingOn::one_more_part))]
 fn go_on<
     C: Chare<A> + Send,
     G: Gate + Sync,
@@ -142,10 +147,14 @@ fn go_on<
     requires may_begin { MayBegin config.now (length opening.now.value.items) }
     requires earlier { IsOutcome C.step C.fits C.pack C.refuses opening.now.value.items config.now.pes options.now.strategy outcome }
     requires earlier_idle { EndsIdle options.now.idle outcome }
+    requires earlier_stopped { StopsEarly outcome }
     ensures answer { MatchResult result (λ _. MayBegin config.now (length opening.now.value.items))
         (RefusesRun config.now (length opening.now.value.items)) }
     ensures outcome { IfOk result (IsOutcome C.step C.fits C.pack C.refuses opening.now.value.items config.now.pes options.now.strategy) }
+    ensures parts { IfOk result (AreParts outcome) }
+    ensures goes_on { IfOk result (GoesOnFrom outcome) }
     ensures idle { IfOk result (EndsIdle options.now.idle) }
+    ensures stopped { IfOk result StopsEarly }
     ensures homes { IfOk result (λ o. o.homes ≡ outcome.homes) }
 {
     let mut outcome = outcome;

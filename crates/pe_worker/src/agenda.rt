@@ -14,7 +14,7 @@ use sync_board::Board;
 /// The elements of a PE by what they wait for, so that a worker need not search all of them. No clause depends on it: an
 /// element missing here would be resumed too late, but never wrongly.
 #[derive(Drop)]
-pub struct Agenda<J: BoardSize, A: Allocator = Global> {
+pub struct Agenda<J: BoardSize<A>, A: Allocator = Global> {
     // Those that have not started.
     starting: VecDeque<Index, A>,
     // Those that wait for the round whose places are copied here.
@@ -32,7 +32,7 @@ pub(crate) fn last_round<A: Allocator>(board: &Board<A>) -> Round {
     Round::new(present.get().saturating_sub(1)).unwrap()
 }
 
-impl<J: BoardSize, A: Allocator + Copy> Agenda<J, A> {
+impl<J: BoardSize<A>, A: Allocator + Copy> Agenda<J, A> {
     /// The agenda of a PE as a run begins: its elements that have not started, those that wait for a round that the board has
     /// decided already, and those whose reports of the present round the board has. An element that waits for a round of which its
     /// PE still owes the note comes to the agenda as that is reported. There are `pes` PEs in all.

@@ -3,11 +3,12 @@
 ghost use Rattle.std.specs.Prelude.{◌≡◌, ◌≤◌, IfOk, length};
 ghost use Rattle.sync_board.specs.Boards.{IsBoard};
 ghost use Rattle.lb_database.specs.Measuring.{elements};
+ghost use Rattle.barrier.specs.Rounds.{BeginWith};
 
 use crate::agenda::last_round;
 use crate::ballot::Ballot;
 use crate::seated::{OfRun, RunBeginning};
-use barrier::{Barrier, RunStrategy};
+use barrier::{Barrier, BoardStart};
 use chare_index::{Limits, Round};
 use chares::{Chare, History, Openings};
 use pe_queues::{Locations, Post};
@@ -29,7 +30,7 @@ const PES_WORTH_THREADS: u32 = 128;
 #[derive(Drop)]
 pub struct Field<
     C: Chare<A>,
-    H: Openings<C> + RunStrategy,
+    H: Openings<C> + BoardStart<A>,
     J: RunBeginning<C>,
     A: Allocator = Global,
 > {
@@ -52,7 +53,7 @@ pub struct Field<
     of: PhantomData<J>,
 }
 
-impl<C: Chare<A>, H: Openings<C> + RunStrategy, J: RunBeginning<C>, A: Allocator> Model
+impl<C: Chare<A>, H: Openings<C> + BoardStart<A>, J: RunBeginning<C>, A: Allocator> Model
     for Field<C, H, J, A> {
     ghost use Rattle.std.specs.Prelude.{◌≡◌, ◌≤◌, IfOk, length};
     ghost use Rattle.chare_index.specs.declared.limits.TheConstants.Limits.{PROBE_WORKERS};
@@ -67,7 +68,7 @@ impl<C: Chare<A>, H: Openings<C> + RunStrategy, J: RunBeginning<C>, A: Allocator
         × (1 ≤ f.probe_workers) × (f.probe_workers ≤ PROBE_WORKERS) };
 }
 
-impl<C: Chare<A>, H: Openings<C> + RunStrategy, J: RunBeginning<C>, A: Allocator> Field<
+impl<C: Chare<A>, H: Openings<C> + BoardStart<A>, J: RunBeginning<C>, A: Allocator> Field<
     C,
     H,
     J,
@@ -93,6 +94,7 @@ impl<C: Chare<A>, H: Openings<C> + RunStrategy, J: RunBeginning<C>, A: Allocator
         requires counted { elements board.database ≡ length H.opened }
         requires on_pes { board.pes ≡ H.pes }
         requires by_strategy { board.strategy ≡ H.strategy }
+        requires earlier { BeginWith H.earlier board.rounds }
         requires some_worker { 1 ≤ probe_workers }
         requires few_workers { probe_workers ≤ Limits.PROBE_WORKERS }
         ensures post { IfOk result (λ field. field ≡ post) }
@@ -182,13 +184,15 @@ impl<C: Chare<A>, H: Openings<C> + RunStrategy, J: RunBeginning<C>, A: Allocator
         self.finished.load(SeqCst) && self.barrier.all_finished(rt)
     }
 
-    /// The queues and the board again, once no thread uses them any more. Each decision that the board keeps is right.
+    /// The queues and the board again, once no thread uses them any more. Each decision that the board keeps is right, and the rounds
+    /// that were decided before are its first ones.
     pub fn into_parts(self) -> (Post<Parcel<C, H, A>, A>, Board<A>)
         ensures post { result.0 ≡ self }
         ensures own { result.0 ≡ J.beginning.post }
         ensures counted { elements result.1.database ≡ length H.opened }
         ensures on_pes { result.1.pes ≡ H.pes }
         ensures by_strategy { result.1.strategy ≡ H.strategy }
+        ensures earlier { BeginWith H.earlier result.1.rounds }
         ensures board { IsBoard result.1 }
     {
         let Field {

@@ -9,7 +9,7 @@ ghost use Rattle.pe_worker.specs.Causes.{MayRefuse};
 ghost use Rattle.pe_worker.specs.Steps.{ReportsNote, due_by, after_round};
 
 use crate::seated::{OfRun, RunBeginning, SeatedPe};
-use barrier::{BoardSize, RoundPlaces, RunBoard, RunStrategy};
+use barrier::{BoardSize, BoardStart, RoundPlaces, RunBoard};
 use chare_index::{Gate, Index, Limits, Pe, Round};
 use chares::{Chare, Note, Openings, StateBytes};
 use lb_snapshot::Units;
@@ -18,7 +18,7 @@ use pe_state::StepError;
 use std::alloc::Allocator;
 
 // Gives a note to the board, and returns whether the board takes it.
-fn report_note<J: BoardSize, A: Allocator>(board: &mut RunBoard<J, A>, note: &Note) -> bool
+fn report_note<J: BoardSize<A>, A: Allocator>(board: &mut RunBoard<J, A>, note: &Note) -> bool
     ensures taken { MatchBool result (board_after board.old note.now ≡ Some board.new) (board_after board.old note.now ≡ None) }
     ensures refused { MatchBool result (Unit {0}) (board.new ≡ board.old) }
 {
@@ -32,7 +32,7 @@ fn report_note<J: BoardSize, A: Allocator>(board: &mut RunBoard<J, A>, note: &No
 
 // Reports to the board that an element waits for the end of its round.
 #[tactic(auto, using(rts_core::proofs::Notes::sync_taken, rts_core::proofs::Notes::sync_refused, rts_core::proofs::Notes::sync_elsewhere))]
-fn report_sync<J: BoardSize, A: Allocator>(
+fn report_sync<J: BoardSize<A>, A: Allocator>(
     board: &mut RunBoard<J, A>,
     e: Index,
     round: Round,
@@ -52,14 +52,14 @@ fn report_sync<J: BoardSize, A: Allocator>(
 
 // Tells the board that an element has finished.
 #[tactic(auto, using(rts_core::proofs::Notes::finish_taken, rts_core::proofs::Notes::finish_refused))]
-fn report_finish<J: BoardSize, A: Allocator>(board: &mut RunBoard<J, A>, e: Index) -> bool
+fn report_finish<J: BoardSize<A>, A: Allocator>(board: &mut RunBoard<J, A>, e: Index) -> bool
     ensures taken { MatchBool result (board_after board.old (Note.Finish e) ≡ Some board.new) (board_after board.old (Note.Finish e) ≡ None) }
     ensures refused { MatchBool result (Unit {0}) (board.new ≡ board.old) }
 {
     board.finish(e.get()).is_ok()
 }
 
-impl<C: Chare<A>, H: Openings<C> + RunStrategy, J: RunBeginning<C>, A: Allocator + Copy> SeatedPe<
+impl<C: Chare<A>, H: Openings<C> + BoardStart<A>, J: RunBeginning<C>, A: Allocator + Copy> SeatedPe<
     C,
     H,
     J,

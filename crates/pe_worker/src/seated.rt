@@ -4,7 +4,7 @@ ghost use Rattle.std.specs.Prelude.{◌≡◌, slice_get, Some};
 ghost use Rattle.pe_queues.specs.Seats.{new_seat, pes};
 ghost use Rattle.pe_worker.specs.Seated.{Beginning, IsSeated};
 
-use barrier::{BoardSize, RunStrategy};
+use barrier::{BoardSize, BoardStart};
 use chare_index::Pe;
 use chares::{BodyLimit, Chare, Openings};
 use pe_queues::{PeCount, Seat};
@@ -25,15 +25,15 @@ impl<C> RunBeginning<C> for Brand {
     ghost beginning = { record { post = record { queues = []; capacity = 1 }; starts = []; shares = [] } };
 }
 
-/// The numbers of a run that opens with the chares and PEs that `H` names, for its words and its board, and the strategy by
-/// which its rounds are decided.
+/// The numbers of a run that opens with the chares and PEs that `H` names, for its words and its board, with the strategy by
+/// which its rounds are decided, and those that were decided before.
 pub struct OfRun<C, H>(PhantomData<(C, H)>);
 
 impl<C, H: Openings<C>> PeCount for OfRun<C, H> {
     ghost pes = { H.pes };
 }
 
-impl<C, H: Openings<C> + RunStrategy> BoardSize for OfRun<C, H> {
+impl<C, H: Openings<C> + BoardStart<A>, A> BoardSize<A> for OfRun<C, H> {
     ghost use Rattle.std.specs.Prelude.{length};
 
     ghost elements = { length H.opened };
@@ -41,6 +41,8 @@ impl<C, H: Openings<C> + RunStrategy> BoardSize for OfRun<C, H> {
     ghost pes = { H.pes };
 
     ghost strategy = { H.strategy };
+
+    ghost earlier = { H.earlier };
 }
 
 /// A PE and its seat. Contracts see it as the record `SeatedView`. What the PE has received was taken through the seat and

@@ -83,7 +83,7 @@ pub(crate) fn after<V: Watch, C: Chare<A>, H: Openings<C>, A: Allocator>(
 }
 
 /// Tells that an element of a PE went on after the round that these places are of: here, or to its place.
-pub(crate) fn after_going_on<V: Watch, C: Chare<A>, H: Openings<C>, J: BoardSize, A: Allocator>(
+pub(crate) fn after_going_on<V: Watch, C: Chare<A>, H: Openings<C>, J: BoardSize<A>, A: Allocator>(
     watch: &V,
     pe: &PeState<C, H, A>,
     places: &RoundPlaces<J, A>,

@@ -11,7 +11,7 @@ use crate::field::Field;
 use crate::seated::{OfRun, RunBeginning, SeatedPe};
 use crate::telling::{after, after_act, after_going_on, before_act, before_element};
 use crate::watch::{PeStep, Watch};
-use barrier::{RunBoard, RunStrategy};
+use barrier::{BoardStart, RunBoard};
 use chare_index::{Gate, Index, Pe, Round};
 use chares::{Carried, Chare, Openings};
 use pe_state::{Acted, PeState};
@@ -41,7 +41,7 @@ const SPINS: u64 = 64;
 #[derive(Drop)]
 pub struct Worker<
     C: Chare<A>,
-    H: Openings<C> + RunStrategy,
+    H: Openings<C> + BoardStart<A>,
     J: RunBeginning<C>,
     A: Allocator = Global,
 > {
@@ -56,7 +56,7 @@ pub struct Worker<
     fault: Option<Fault>,
 }
 
-impl<C: Chare<A>, H: Openings<C> + RunStrategy, J: RunBeginning<C>, A: Allocator> Model
+impl<C: Chare<A>, H: Openings<C> + BoardStart<A>, J: RunBeginning<C>, A: Allocator> Model
     for Worker<C, H, J, A> {
     ghost use Rattle.std.specs.Prelude.{IfSome};
     ghost use Rattle.pe_worker.specs.Causes.{HasCause};
@@ -69,7 +69,7 @@ impl<C: Chare<A>, H: Openings<C> + RunStrategy, J: RunBeginning<C>, A: Allocator
     ghost invariant = { λ w. IfSome w.fault (HasCause C.step C.pack C.refuses H.opened) };
 }
 
-impl<C: Chare<A>, H: Openings<C> + RunStrategy, J: RunBeginning<C>, A: Allocator> Worker<
+impl<C: Chare<A>, H: Openings<C> + BoardStart<A>, J: RunBeginning<C>, A: Allocator> Worker<
     C,
     H,
     J,
@@ -116,7 +116,7 @@ impl<C: Chare<A>, H: Openings<C> + RunStrategy, J: RunBeginning<C>, A: Allocator
     }
 }
 
-impl<C: Chare<A>, H: Openings<C> + RunStrategy, J: RunBeginning<C>, A: Allocator> Work
+impl<C: Chare<A>, H: Openings<C> + BoardStart<A>, J: RunBeginning<C>, A: Allocator> Work
     for Worker<C, H, J, A> {
     ghost number = { λ w. w.seated.pe.me };
 
@@ -125,7 +125,7 @@ impl<C: Chare<A>, H: Openings<C> + RunStrategy, J: RunBeginning<C>, A: Allocator
     }
 }
 
-impl<C: Chare<A>, H: Openings<C> + RunStrategy, J: RunBeginning<C>, A: Allocator> Ended
+impl<C: Chare<A>, H: Openings<C> + BoardStart<A>, J: RunBeginning<C>, A: Allocator> Ended
     for Worker<C, H, J, A> {
     ghost use Rattle.std.specs.Prelude.{Some};
     ghost use Rattle.std.specs.Option.{option_or};
@@ -144,7 +144,7 @@ impl<C: Chare<A>, H: Openings<C> + RunStrategy, J: RunBeginning<C>, A: Allocator
     }
 }
 
-impl<C: Chare<A>, H: Openings<C> + RunStrategy, J: RunBeginning<C>, A: Allocator + Copy> Worker<
+impl<C: Chare<A>, H: Openings<C> + BoardStart<A>, J: RunBeginning<C>, A: Allocator + Copy> Worker<
     C,
     H,
     J,
@@ -304,7 +304,7 @@ impl<C: Chare<A>, H: Openings<C> + RunStrategy, J: RunBeginning<C>, A: Allocator
     }
 }
 
-impl<C: Chare<A>, H: Openings<C> + RunStrategy, J: RunBeginning<C>, A: Allocator + Copy> Worker<
+impl<C: Chare<A>, H: Openings<C> + BoardStart<A>, J: RunBeginning<C>, A: Allocator + Copy> Worker<
     C,
     H,
     J,
@@ -471,7 +471,7 @@ impl<C: Chare<A>, H: Openings<C> + RunStrategy, J: RunBeginning<C>, A: Allocator
 // Shows a round that was decided to the watch, where that follows rounds.
 fn show_round<
     C: Chare<A>,
-    H: Openings<C> + RunStrategy,
+    H: Openings<C> + BoardStart<A>,
     J: RunBeginning<C>,
     V: Watch,
     R: Wait,
@@ -487,7 +487,7 @@ fn show_round<
 }
 
 // The element in the hand of a PE, if there is one.
-fn arriving<C: Chare<A>, H: Openings<C> + RunStrategy, A: Allocator>(
+fn arriving<C: Chare<A>, H: Openings<C> + BoardStart<A>, A: Allocator>(
     pe: &PeState<C, H, A>,
 ) -> Option<Index> {
     let item = pe.as_end().hand()?;
@@ -498,7 +498,7 @@ fn arriving<C: Chare<A>, H: Openings<C> + RunStrategy, A: Allocator>(
 }
 
 // Reports this many notes, or as many as the board takes, and returns whether it took one. The agenda has room for them.
-fn report_all<C: Chare<A>, H: Openings<C> + RunStrategy, J: RunBeginning<C>, A: Allocator + Copy>(
+fn report_all<C: Chare<A>, H: Openings<C> + BoardStart<A>, J: RunBeginning<C>, A: Allocator + Copy>(
     seated: &mut SeatedPe<C, H, J, A>,
     agenda: &mut Agenda<OfRun<C, H>, A>,
     board: &mut RunBoard<OfRun<C, H>, A>,

@@ -1,33 +1,105 @@
 -- The fault of the first worker that met one, as the workers are gathered.
-use Rattle.std.proofs.Common.{◌≡◌, ◌≢◌, ◌∙◌, ℕ, ap, sym, List, [], ◌∷◌, Option, None, Some}
-use Rattle.std.specs.Prelude.{IfSome}
+use Rattle.std.proofs.Common.{◌≡◌, ◌≢◌, ◌∙◌, ◌⊎◌, inl, inr, ℕ, ap, sym, refl, map, List, [], ◌∷◌, Option, None, Some}
+use Rattle.std.specs.Prelude.{IfSome, IsTrue, not, Bool, true, false}
 use Rattle.std.specs.Option.{option_or}
 use Rattle.chares.specs.Elements.{Refuses}
 use Rattle.chares.specs.Steps.{Step}
 use Rattle.pe_worker.specs.Causes.{HasCause}
 use Rattle.pe_worker.specs.declared.fault.Fault.{Fault}
-use Rattle.pe_worker.specs.declared.fault.Fault.TheVariants.{Mismatch, Quiet, Unpack}
+use Rattle.pe_worker.specs.declared.fault.Fault.TheVariants.{Mismatch, Quiet, Stopped, Unpack}
+use Rattle.pe_worker.specs.declared.fault.Fault.TheVariants as Met
 use Rattle.pe_worker.proofs.Causes.{caused_unpacks, caused_agrees}
 use Rattle.rts_run.specs.declared.options.Idle.{Idle}
 use Rattle.rts_run.specs.declared.options.Idle.TheVariants.{Turns}
 use Rattle.rts_run.specs.declared.options.Idle.TheVariants as Idle
-use Rattle.rts_run.specs.Outcomes.{EndsIdle, OutcomeView, first_fault}
+use Rattle.rts_run.specs.Outcomes.{EndsIdle, OutcomeView, first_fault, lower_fault, lowest_fault, unless_stopped}
+
+-- what a fault is to one of a higher PE
+abbrev IsKind : Fault → Type 0
+IsKind f = (f ≡ Stopped) ⊎ ((unless_stopped (Some f) ≡ Some f) × ((o : Option Fault) → lower_fault (Some f) o ≡ Some f))
+
+kind : (f : Fault) → IsKind f
+kind Met.OutOfMemory = inr (refl, λ o. refl)
+kind Met.Idle = inr (refl, λ o. refl)
+kind Unpack = inr (refl, λ o. refl)
+kind Met.Stranger = inr (refl, λ o. refl)
+kind Met.TooLong = inr (refl, λ o. refl)
+kind Met.Worn = inr (refl, λ o. refl)
+kind Mismatch = inr (refl, λ o. refl)
+kind Stopped = inl refl
+kind Quiet = inr (refl, λ o. refl)
+
+-- of three PEs it does not matter which two come first
+stopped_twice : (c : Option Fault) → lower_fault (Some Stopped) c ≡ lower_fault (Some Stopped) (lower_fault (Some Stopped) c)
+stopped_twice None = refl
+stopped_twice (Some h) = refl
+
+above_stopped : (b c : Option Fault) → lower_fault (lower_fault (Some Stopped) b) c ≡ lower_fault (Some Stopped) (lower_fault b c)
+above_stopped None c = refl
+above_stopped (Some g) c = elim (kind g) [
+  | inl s ↦ rw s (stopped_twice c)
+  | inr k ↦ k.1 c ∙ sym (ap (lower_fault (Some Stopped)) (k.1 c))
+]
+
+joined : (a b c : Option Fault) → lower_fault (lower_fault a b) c ≡ lower_fault a (lower_fault b c)
+joined None b c = refl
+joined (Some f) b c = elim (kind f) [
+  | inl s ↦ rw s (above_stopped b c)
+  | inr k ↦ ap (λ v. lower_fault v c) (k.1 b) ∙ (k.1 c ∙ sym (k.1 (lower_fault b c)))
+]
+
+-- the first fault of all, and those of the others
+stays : (o : Option Fault) → lower_fault (Some Stopped) (option_or o (Some Stopped)) ≡ option_or o (Some Stopped)
+stays None = refl
+stays (Some f) = refl
+
+stopped_first : (faults : List (Option Fault)) → lower_fault (Some Stopped) (lowest_fault faults) ≡ option_or (first_fault (map unless_stopped faults)) (Some Stopped)
+stopped_first [] = refl
+stopped_first (None ∷ faults) = stopped_first faults
+stopped_first (Some f ∷ faults) = elim (kind f) [
+  | inl s ↦ rw s (stays (first_fault (map unless_stopped faults)))
+  | inr k ↦ rw (k.0) refl
+]
+
+pub lowest_of_all : (fault : Option Fault) (faults : List (Option Fault)) → lower_fault fault (lowest_fault faults) ≡ lowest_fault (fault ∷ faults)
+lowest_of_all None faults = refl
+lowest_of_all (Some f) faults = elim (kind f) [
+  | inl s ↦ rw s (stopped_first faults)
+  | inr k ↦ k.1 (lowest_fault faults) ∙ sym (ap (λ v. option_or (option_or v (first_fault (map unless_stopped faults))) (Some f)) (k.0))
+]
 
 -- one more is gathered
 pub next_fault : (fault met new : Option Fault) (others left : List (Option Fault)) (whole : Option Fault) → others ≡ met ∷ left
-    → new ≡ option_or fault met → option_or fault (first_fault others) ≡ whole → option_or new (first_fault left) ≡ whole
-next_fault None met new others left whole is made h = ap (λ (v : Option Fault). option_or v (first_fault left)) made ∙ (sym (ap first_fault is) ∙ h)
-next_fault (Some f) met new others left whole is made h = ap (λ (v : Option Fault). option_or v (first_fault left)) made ∙ h
+    → new ≡ lower_fault fault met → lower_fault fault (lowest_fault others) ≡ whole → lower_fault new (lowest_fault left) ≡ whole
+next_fault fault met new others left whole is made h =
+    ap (λ v. lower_fault v (lowest_fault left)) made
+    ∙ (joined fault met (lowest_fault left) ∙ (ap (lower_fault fault) (lowest_of_all met left ∙ sym (ap lowest_fault is)) ∙ h))
 
 -- all are gathered
-pub last_fault : (fault : Option Fault) (others : List (Option Fault)) (whole : Option Fault) → others ≡ [] → option_or fault (first_fault others) ≡ whole → fault ≡ whole
-last_fault None others whole none h = sym (ap first_fault none) ∙ h
-last_fault (Some f) others whole none h = h
+alone : (fault : Option Fault) → lower_fault fault None ≡ fault
+alone None = refl
+alone (Some f) = elim (kind f) [
+  | inl s ↦ rw s refl
+  | inr k ↦ k.1 None
+]
+
+pub last_fault : (fault : Option Fault) (others : List (Option Fault)) (whole : Option Fault) → others ≡ [] → lower_fault fault (lowest_fault others) ≡ whole → fault ≡ whole
+last_fault fault others whole none h = sym (alone fault) ∙ (sym (ap (λ v. lower_fault fault (lowest_fault v)) none) ∙ h)
 
 -- what holds of both faults holds of either
-pub either_fault : (P : Fault → Type 0) (fault met new : Option Fault) → new ≡ option_or fault met → IfSome fault P → IfSome met P → IfSome new P
-either_fault P None met new made h k = rw made k
-either_fault P (Some f) met new made h k = rw made h
+of_stopped : (P : Fault → Type 0) (met : Option Fault) → P Stopped → IfSome met P → IfSome (lower_fault (Some Stopped) met) P
+of_stopped P None h k = h
+of_stopped P (Some g) h k = k
+
+either_of : (P : Fault → Type 0) (fault met : Option Fault) → IfSome fault P → IfSome met P → IfSome (lower_fault fault met) P
+either_of P None met h k = k
+either_of P (Some f) met h k = elim (kind f) [
+  | inl s ↦ rw s (of_stopped P met (rw s at h) k)
+  | inr one ↦ rw (one.1 met) h
+]
+
+pub either_fault : (P : Fault → Type 0) (fault met new : Option Fault) → new ≡ lower_fault fault met → IfSome fault P → IfSome met P → IfSome new P
+either_fault P fault met new made h k = rw made (either_of P fault met h k)
 
 -- a fault with a cause is neither that of bytes that are no state nor that of marks that do not agree
 module _ {C : Type 0} (step : Step C) (fits : C → Type 0) (pack : C → List ℕ) (refuses : Refuses C) (opened : List C) where
@@ -43,3 +115,12 @@ module _ {C : Type 0} (step : Step C) (fits : C → Type 0) (pack : C → List �
 pub ends_idle : {C A : Type 0} (idle : Idle) (o : OutcomeView C A) → (o.fault ≡ Some Quiet → idle ≡ Idle.Quiet) → EndsIdle idle o
 ends_idle Turns o asked = λ is. absurd (let other : Turns ≡ Idle.Quiet = asked is in cc)
 ends_idle Idle.Quiet o asked = tt
+
+-- an answer is not both
+pub never_both : (b : Bool) → IsTrue (not b) → IsTrue b → ⊥
+never_both true t u = cc
+never_both false t u = cc
+
+pub not_true : (b : Bool) → (IsTrue b → ⊥) → IsTrue (not b)
+not_true true f = absurd (f refl)
+not_true false f = refl

@@ -1,7 +1,8 @@
 -- What a run begins with.
 use Rattle.std.specs.Prelude.{◌≡◌, ℕ, List, [], length, map, sum_by, All}
 use Rattle.std.specs.List.{range_with_len}
-use Rattle.sync_board.specs.Boards.{BoardState}
+use Rattle.sync_board.specs.Boards.{BoardState, Kept}
+use Rattle.barrier.specs.Rounds.{BeginWith}
 use Rattle.sync_board.specs.declared.strategy.Strategy.{Strategy}
 use Rattle.chare_index.specs.declared.limits.TheConstants.Limits.{SEATS}
 use Rattle.lb_database.specs.Measuring.{elements}
@@ -22,13 +23,15 @@ pub record IsBeginning {C : Type 0} (step : Step C) (count : ℕ) (chares : List
   pub shared : length run.shares ≡ count
   pub all_seats : sum_by (λ n. n) run.shares ≡ SEATS
 
--- The words are those of such a run, and the board is one of its chares and PEs, on which its strategy decides.
-pub record AreOfRun {A : Type 0} (count elements_count : ℕ) (strategy : Strategy) (words : Whereabouts) (board : BoardState A) : Type 0 where
+-- The words are those of such a run, and the board is one of its chares and PEs, on which its strategy decides, and whose first rounds
+-- are those that were decided earlier.
+pub record AreOfRun {A : Type 0} (count elements_count : ℕ) (strategy : Strategy) (earlier : List (Kept A)) (words : Whereabouts) (board : BoardState A) : Type 0 where
   pub word_pes : words.pes ≡ count
   pub word_elements : words.elements ≡ elements_count
   pub elements : elements board.database ≡ elements_count
   pub on_pes : board.pes ≡ count
   pub by_strategy : board.strategy ≡ strategy
+  pub earlier_first : BeginWith earlier board.rounds
 
 -- through each of these seats nothing has gone
 abbrev pub AreNewSeats : PostView → List (SeatView Parcel) → Type 0

@@ -11,7 +11,8 @@ pub use Rattle.pe_state.specs.InOrder.{element_on}
 use Rattle.pe_state.specs.Pes.{PeView, Parcel}
 use Rattle.pe_worker.specs.Causes.{HasCause}
 use Rattle.pe_worker.specs.declared.fault.Fault.{Fault}
-use Rattle.pe_worker.specs.declared.fault.Fault.TheVariants.{Mismatch, Quiet, Unpack}
+use Rattle.pe_worker.specs.declared.fault.Fault.TheVariants.{Mismatch, Quiet, Stopped, Unpack}
+use Rattle.round_marks.specs.Agreeing.{DoAllAgree}
 use Rattle.round_marks.specs.Finished.{HaveAllFinished}
 use Rattle.round_marks.specs.Quiet.{IsQuiet}
 use Rattle.round_marks.specs.Runs.{AreAllMarked}
@@ -35,11 +36,29 @@ abbrev pub first_fault : List (Option Fault) → Option Fault
 first_fault [] = None
 first_fault (fault ∷ faults) = option_or fault (first_fault faults)
 
+-- a worker that was asked to stop has met no other fault
+abbrev pub unless_stopped : Option Fault → Option Fault
+unless_stopped None = None
+unless_stopped (Some Stopped) = None
+unless_stopped (Some fault) = Some fault
+
+-- the fault of the lowest PE whose worker met one; that workers were asked to stop is told where none met another
+abbrev pub lowest_fault : List (Option Fault) → Option Fault
+lowest_fault faults = option_or (first_fault (map unless_stopped faults)) (first_fault faults)
+
+-- the fault to tell of that of some PEs and that of higher ones
+abbrev pub lower_fault : Option Fault → Option Fault → Option Fault
+lower_fault None higher = higher
+lower_fault (Some Stopped) None = Some Stopped
+lower_fault (Some Stopped) (Some fault) = Some fault
+lower_fault (Some fault) higher = Some fault
+
 -- The outcome of a run of these chares on this number of PEs. There is an end and a queue of each PE. The account holds, and
 -- every element is what its journal says, in which its rounds come in order. The board is one of these chares on these PEs: each
 -- round was decided for a snapshot of all of them, by the strategy. The marks of the elements agree with the rounds, and with where
--- the elements opened, unless the fault is a mismatch, and do not agree where it is one. Any other fault has a cause, and no element failed to unpack. Without a
--- fault every element has finished, and the board says so of each; and where the fault is that nothing was left to do, nothing was.
+-- the elements opened, unless the fault is a mismatch; where it is one, the elements do not agree with the rounds. Any other fault has a cause, and no element failed to unpack. Without a
+-- fault every element has finished, and the board says so of each; and where the fault is that nothing was left to do, nothing was, and
+-- some element has not finished.
 pub record IsOutcome {C A : Type 0} (step : Step C) (fits : C → Type 0) (pack : C → List ℕ) (refuses : Refuses C) (chares : List C)
     (pes : ℕ) (strategy : Strategy) (o : OutcomeView C A) : Type 0 where
   pub ends : map (λ pe. pe.me) o.ends ≡ range_with_len 0 pes
@@ -53,14 +72,19 @@ pub record IsOutcome {C A : Type 0} (step : Step C) (fits : C → Type 0) (pack 
   pub by_strategy : o.board.strategy ≡ strategy
   pub rounds : AreDecided (length chares) pes strategy o.board.rounds
   pub marks : o.fault ≢ Some Mismatch → AreAllMarked o.board o.homes o.ends o.left
-  pub mismatch : o.fault ≡ Some Mismatch → ¬ (AreAllMarked o.board o.homes o.ends o.left)
+  pub mismatch : o.fault ≡ Some Mismatch → ¬ (DoAllAgree o.board o.homes o.ends o.left)
   pub unpacks : o.fault ≢ Some Unpack
   pub cause : o.fault ≢ Some Mismatch → IfSome o.fault (HasCause step pack refuses chares)
   pub finished : o.fault ≡ None → HaveFinished o.board
   pub all_finished : o.fault ≡ None → HaveAllFinished o.ends o.left
   pub quiet : o.fault ≡ Some Quiet → IsQuiet o.board o.ends o.left
+  pub unfinished : o.fault ≡ Some Quiet → ¬ (HaveAllFinished o.ends o.left)
 
 -- where workers end idle by their turns alone, the fault is never that nothing was left to do
 abbrev pub EndsIdle : {C A : Type 0} → Idle → OutcomeView C A → Type 0
 EndsIdle Turns o = o.fault ≢ Some Quiet
 EndsIdle Idle.Quiet o = Unit {0}
+
+-- that workers were asked to stop is told only where not every element has finished, or the board was not told so of each
+abbrev pub StopsEarly : {C A : Type 0} → OutcomeView C A → Type 0
+StopsEarly o = o.fault ≡ Some Stopped → ¬ (HaveFinished o.board × HaveAllFinished o.ends o.left)

@@ -3,9 +3,9 @@
 ghost use Rattle.std.specs.Prelude.{◌≡◌, ◌+◌, ◌∷◌, ◌≤◌, [], IfSome, length, map, vec_capacity};
 ghost use Rattle.std.specs.List.{range_with_len};
 ghost use Rattle.pe_worker.specs.Causes.{HasCause};
-ghost use Rattle.rts_run.specs.Outcomes.{first_fault};
+ghost use Rattle.rts_run.specs.Outcomes.{lower_fault, lowest_fault};
 
-use barrier::RunStrategy;
+use barrier::BoardStart;
 use chares::{Chare, Openings};
 use pe_queues::Post;
 use pe_state::{Parcel, PeEnd};
@@ -15,8 +15,8 @@ use std::alloc::Allocator;
 use std::collections::VecDeque;
 
 /// The PEs of these workers, in order of PE, with their seats joined into one, and the fault of the first worker that met
-/// one. `room` has capacity for all PEs, so this takes no memory.
-pub(crate) fn gather<C: Chare<A>, H: Openings<C> + RunStrategy, J: RunBeginning<C>, A: Allocator>(
+/// one, where that others were asked to stop comes last. `room` has capacity for all PEs, so this takes no memory.
+pub(crate) fn gather<C: Chare<A>, H: Openings<C> + BoardStart<A>, J: RunBeginning<C>, A: Allocator>(
     post: &Post<Parcel<C, H, A>, A>,
     first: Worker<C, H, J, A>,
     mut others: VecDeque<Worker<C, H, J, A>, A>,
@@ -29,7 +29,7 @@ pub(crate) fn gather<C: Chare<A>, H: Openings<C> + RunStrategy, J: RunBeginning<
     requires empty { room.items ≡ [] }
     ensures all { length result.0.ends ≡ length others.items + 1 }
     ensures in_order { map (λ pe. pe.me) result.0.ends ≡ range_with_len 0 (length result.0.ends) }
-    ensures fault { result.1 ≡ first_fault (first.fault ∷ map (λ w. w.fault) others.items) }
+    ensures fault { result.1 ≡ lowest_fault (first.fault ∷ map (λ w. w.fault) others.items) }
     ensures cause { IfSome result.1 (HasCause C.step C.pack C.refuses H.opened) }
 {
     let (seated, mut fault) = first.into_parts();
@@ -37,7 +37,18 @@ pub(crate) fn gather<C: Chare<A>, H: Openings<C> + RunStrategy, J: RunBeginning<
     while let Some(next) = take_next(&mut others) {
         let (seated, met) = next.into_parts();
         gathered = gathered.with(post, seated);
-        fault = fault.or(met);
+        fault = lower_fault(fault, met);
     }
     (gathered, fault)
+}
+
+// The fault to tell of that of some PEs and that of a higher one. That a worker was asked to stop gives way to any other.
+fn lower_fault(lower: Option<Fault>, higher: Option<Fault>) -> Option<Fault>
+    ensures value { result ≡ lower_fault lower higher }
+{
+    match lower {
+        None => higher,
+        Some(Fault::Stopped) => higher.or(lower),
+        Some(_) => lower,
+    }
 }

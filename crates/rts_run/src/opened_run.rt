@@ -1,6 +1,6 @@
 //! What a run begins with.
 
-ghost use Rattle.std.specs.Prelude.{◌≡◌, ◌≤◌, IfOk, length, map, sum_by};
+ghost use Rattle.std.specs.Prelude.{◌≡◌, ◌≤◌, [], IfOk, length, map, sum_by};
 ghost use Rattle.std.specs.List.{range_with_len};
 ghost use Rattle.std.specs.VecDeque.{deque_len};
 ghost use Rattle.chare_index.specs.declared.limits.TheConstants.Limits.{SEATS};
@@ -12,7 +12,7 @@ ghost use Rattle.rts_run.specs.Openings.{AreNewSeats, AreOfRun, IsBeginning};
 use crate::config::Config;
 use crate::options::{Idle, Options};
 use crate::workers::open_workers;
-use barrier::RunStrategy;
+use barrier::BoardStart;
 use chare_index::{Limits, Pe, Pes};
 use chares::{Chare, Openings};
 use pe_queues::{Locations, Post, Seat};
@@ -27,7 +27,7 @@ use sync_board::{Board, Strategy};
 /// A run that has opened, or opened again, before its workers begin: its queues with a seat for each PE, its PEs, a location word for
 /// each element, and its board. Contracts see its beginning.
 #[derive(Drop)]
-pub struct OpenedRun<C: Chare<A>, H: Openings<C> + RunStrategy, A: Allocator> {
+pub struct OpenedRun<C: Chare<A>, H: Openings<C> + BoardStart<A>, A: Allocator> {
     post: Post<Parcel<C, H, A>, A>,
     seats: Vec<Seat<Parcel<C, H, A>, A>, A>,
     states: Vec<PeState<C, H, A>, A>,
@@ -35,7 +35,7 @@ pub struct OpenedRun<C: Chare<A>, H: Openings<C> + RunStrategy, A: Allocator> {
     board: Board<A>,
 }
 
-impl<C: Chare<A>, H: Openings<C> + RunStrategy, A: Allocator> Model for OpenedRun<C, H, A> {
+impl<C: Chare<A>, H: Openings<C> + BoardStart<A>, A: Allocator> Model for OpenedRun<C, H, A> {
     ghost use Rattle.std.specs.Prelude.{length, map};
     ghost use Rattle.pe_worker.specs.Seated.{Beginning};
     ghost use Rattle.rts_run.specs.Openings.{AreNewSeats, AreOfRun, IsBeginning};
@@ -46,10 +46,10 @@ impl<C: Chare<A>, H: Openings<C> + RunStrategy, A: Allocator> Model for OpenedRu
 
     ghost invariant = { λ o.
         IsBeginning C.step H.pes H.opened (record { post = o.post; starts = o.states.items; shares = map (λ s. s.seats) o.seats.items })
-        × AreNewSeats o.post o.seats.items × AreOfRun H.pes (length H.opened) H.strategy o.words o.board };
+        × AreNewSeats o.post o.seats.items × AreOfRun H.pes (length H.opened) H.strategy H.earlier o.words o.board };
 }
 
-impl<C: Chare<A>, H: Openings<C> + RunStrategy, A: Allocator + Copy> OpenedRun<C, H, A> {
+impl<C: Chare<A>, H: Openings<C> + BoardStart<A>, A: Allocator + Copy> OpenedRun<C, H, A> {
     /// A run of the chares that `H` names, and the PE on which each of them opens. The only error is that memory was refused.
     pub(crate) fn new(
         alloc: A,
@@ -62,6 +62,7 @@ impl<C: Chare<A>, H: Openings<C> + RunStrategy, A: Allocator + Copy> OpenedRun<C
         requires run { config.now.pes ≡ H.pes }
         requires opened { chares.items ≡ H.opened }
         requires by_strategy { strategy ≡ H.strategy }
+        requires first_rounds { H.earlier ≡ [] }
         ensures capacity { IfOk result (λ made. made.0.post.capacity ≡ config.now.capacity) }
         ensures homes { IfOk result (λ made. made.1.items ≡ opening_words (length H.opened) H.pes) }
     {
@@ -93,8 +94,9 @@ impl<C: Chare<A>, H: Openings<C> + RunStrategy, A: Allocator + Copy> OpenedRun<C
     ) -> Self
         requires beginning { IsBeginning C.step H.pes H.opened (record { post = post; starts = states.items; shares = map (λ s. s.seats) seats.items }) }
         requires new_seats { AreNewSeats post seats.items }
-        requires of_run { AreOfRun H.pes (length H.opened) H.strategy words board }
+        requires of_run { AreOfRun H.pes (length H.opened) H.strategy H.earlier words board }
         ensures post { result.post ≡ post }
+        ensures starts { result.starts ≡ states.items }
     {
         OpenedRun {
             post,
@@ -151,7 +153,7 @@ fn element_count<C>(chares: &[C]) -> u32
 }
 
 /// The queues of a run, with a seat for each PE. The only error is that memory was refused.
-pub fn open_post<C: Chare<A>, H: Openings<C> + RunStrategy, A: Allocator + Copy>(
+pub fn open_post<C: Chare<A>, H: Openings<C> + BoardStart<A>, A: Allocator + Copy>(
     alloc: A,
     config: &Config,
 ) -> Result<(Post<Parcel<C, H, A>, A>, Vec<Seat<Parcel<C, H, A>, A>, A>), AllocError>

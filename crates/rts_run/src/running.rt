@@ -1,18 +1,23 @@
 //! The run, from chares to its outcome.
 
-ghost use Rattle.std.specs.Prelude.{◌≡◌, ◌≢◌, ◌≤◌, IfOk, IfSome, IsTrue, MatchResult, None, Some, length, map};
+ghost use Rattle.std.specs.Prelude.{◌≡◌, ◌≢◌, ◌≤◌, ◌↔◌, [], IfOk, IfSome, IsTrue, MatchResult, None, Some, length, map};
 ghost use Rattle.std.specs.VecDeque.{deque_len};
 ghost use Rattle.sync_board.specs.Boards.{HaveFinished};
 ghost use Rattle.pe_worker.specs.Causes.{HasCause};
 ghost use Rattle.pe_worker.specs.declared.fault.Fault.TheVariants.{Mismatch, Quiet, Stopped, Unpack};
+ghost use Rattle.lb_database.specs.Measuring.{elements};
+ghost use Rattle.round_marks.specs.Agreeing.{DoAllAgree};
 ghost use Rattle.round_marks.specs.Finished.{HaveAllFinished};
 ghost use Rattle.round_marks.specs.Quiet.{IsQuiet};
 ghost use Rattle.round_marks.specs.Runs.{AreAllMarked};
 ghost use Rattle.rts_core.specs.Accounts.{IsCounted};
+ghost use Rattle.rts_core.specs.Histories.{AreHistories};
 ghost use Rattle.rts_core.specs.Worlds.{opening_words};
+ghost use Rattle.barrier.specs.Rounds.{BeginWith};
+ghost use Rattle.run_account.specs.Gathering.{CountOn};
 ghost use Rattle.run_account.specs.RunAccounts.{left_world};
 ghost use Rattle.rts_run.specs.Configs.{IsWithin, MayBegin, RefusesRun};
-ghost use Rattle.rts_run.specs.Outcomes.{EndsIdle, IsOutcome};
+ghost use Rattle.rts_run.specs.Outcomes.{EndsIdle, IsOutcome, StopsEarly};
 ghost use Rattle.rts_run.specs.Usual.{usual_options};
 ghost use Rattle.rts_run.specs.declared.options.Idle.TheVariants as Idle;
 
@@ -22,7 +27,7 @@ use crate::gathering::gather;
 use crate::opened_run::OpenedRun;
 use crate::options::{Idle, Options};
 use crate::outcome::Outcome;
-use barrier::RunStrategy;
+use barrier::BoardStart;
 use chare_index::{Gate, Limits, Pe};
 use chares::{Chare, Openings};
 use pe_state::{HeldParcel, PeEnd};
@@ -50,8 +55,9 @@ use worker_threads::Crew;
 /// (`elements`, `on_pes`) that decides as the options say (`by_strategy`); and `marks`, that the elements started on their homes (`homes`),
 /// and were measured and placed as the rounds say, unless its fault is [`Mismatch`](Fault::Mismatch). That comes only where they were not (`mismatch`), and in
 /// place of any other. Else the fault is that of the lowest PE whose worker met one, and has a cause (`cause`). Where it is
-/// [`Quiet`](Fault::Quiet), nothing was left to do (`quiet`), and the options ask for that fault (`idle`). Without one every element has finished (`all_finished`), and the board
-/// was told so (`finished`).
+/// [`Quiet`](Fault::Quiet), nothing was left to do (`quiet`), an element has not finished (`unfinished`), and the options ask for that fault (`idle`).
+/// [`Stopped`](Fault::Stopped) is told where no worker met another fault, and not every element has finished (`stopped`). Without a fault
+/// every element has finished (`all_finished`), and the board was told so (`finished`).
 ///
 /// # Errors
 ///
@@ -67,6 +73,7 @@ pub fn run<
     ensures answer { MatchResult result (λ _. MayBegin config.now (length chares.items)) (RefusesRun config.now (length chares.items)) }
     ensures outcome { IfOk result (IsOutcome C.step C.fits C.pack C.refuses chares.items config.now.pes usual_options.strategy) }
     ensures idle { IfOk result (EndsIdle usual_options.idle) }
+    ensures stopped { IfOk result StopsEarly }
     ensures homes { IfOk result (λ o. o.homes ≡ opening_words (length chares.items) config.now.pes) }
 {
     let options = Options::usual();
@@ -94,6 +101,7 @@ pub fn run_with<
     ensures answer { MatchResult result (λ _. MayBegin config.now (length chares.items)) (RefusesRun config.now (length chares.items)) }
     ensures outcome { IfOk result (IsOutcome C.step C.fits C.pack C.refuses chares.items config.now.pes options.now.strategy) }
     ensures idle { IfOk result (EndsIdle options.now.idle) }
+    ensures stopped { IfOk result StopsEarly }
     ensures homes { IfOk result (λ o. o.homes ≡ opening_words (length chares.items) config.now.pes) }
 {
     run_watched(rt, alloc, config, options, gate, &NoWatch, chares)
@@ -122,6 +130,7 @@ pub fn run_watched<
     ensures answer { MatchResult result (λ _. MayBegin config.now (length chares.items)) (RefusesRun config.now (length chares.items)) }
     ensures outcome { IfOk result (IsOutcome C.step C.fits C.pack C.refuses chares.items config.now.pes options.now.strategy) }
     ensures idle { IfOk result (EndsIdle options.now.idle) }
+    ensures stopped { IfOk result StopsEarly }
     ensures homes { IfOk result (λ o. o.homes ≡ opening_words (length chares.items) config.now.pes) }
 {
     if let Some(_setting) = config.first_outside(chares.len()) {
@@ -136,7 +145,7 @@ pub fn run_watched<
 // The run of the chares that `H` names; the types of all that it is made of name them too.
 fn run_as<
     C: Chare<A> + Send,
-    H: Openings<C> + RunStrategy + Send + Sync,
+    H: Openings<C> + BoardStart<A> + Send + Sync,
     G: Gate + Sync,
     V: Watch + Sync,
     R: Threads + Wait + Sync,
@@ -155,8 +164,10 @@ fn run_as<
     requires run { config.now.pes ≡ H.pes }
     requires opened { chares.items ≡ H.opened }
     requires by_strategy { options.now.strategy ≡ H.strategy }
+    requires first_rounds { H.earlier ≡ [] }
     ensures outcome { IfOk result (IsOutcome C.step C.fits C.pack C.refuses H.opened H.pes H.strategy) }
     ensures idle { IfOk result (EndsIdle options.now.idle) }
+    ensures stopped { IfOk result StopsEarly }
     ensures homes { IfOk result (λ o. o.homes ≡ opening_words (length H.opened) H.pes) }
 {
     let (opened, homes) = OpenedRun::<C, H, A>::new(alloc, config, options.strategy, chares)?;
@@ -165,10 +176,11 @@ fn run_as<
 
 /// The run of PEs that have opened, under a name of its beginning that it picks. `homes` has the PE on which each element opened, by
 /// which its marks are judged. The only error is that memory was refused. The outcome is what [`run`] promises of the chares that `H`
-/// names.
+/// names; no PE has posted fewer letters than as it opened (`counts`), and the rounds that were decided earlier are its first ones
+/// (`earlier`).
 pub fn run_opened<
     C: Chare<A> + Send,
-    H: Openings<C> + RunStrategy + Send + Sync,
+    H: Openings<C> + BoardStart<A> + Send + Sync,
     G: Gate + Sync,
     V: Watch + Sync,
     R: Threads + Wait + Sync,
@@ -187,7 +199,10 @@ pub fn run_opened<
     requires run { config.now.pes ≡ H.pes }
     requires capacity { opened.post.capacity ≡ config.now.capacity }
     ensures outcome { IfOk result (IsOutcome C.step C.fits C.pack C.refuses H.opened H.pes H.strategy) }
+    ensures counts { IfOk result (λ o. CountOn opened.starts o.ends) }
+    ensures earlier { IfOk result (λ o. BeginWith H.earlier o.board.rounds) }
     ensures idle { IfOk result (EndsIdle options.now.idle) }
+    ensures stopped { IfOk result StopsEarly }
     ensures homes { IfOk result (λ o. o.homes ≡ homes.items) }
 {
     run_named::<C, H, Brand, G, V, R, A>(rt, alloc, config, options, gate, watch, opened, homes)
@@ -196,7 +211,7 @@ pub fn run_opened<
 // Runs what was opened. `J` is the type that names the beginning of the run.
 fn run_named<
     C: Chare<A> + Send,
-    H: Openings<C> + RunStrategy + Send + Sync,
+    H: Openings<C> + BoardStart<A> + Send + Sync,
     J: RunBeginning<C> + Send + Sync,
     G: Gate + Sync,
     V: Watch + Sync,
@@ -217,7 +232,10 @@ fn run_named<
     requires run { config.now.pes ≡ H.pes }
     requires capacity { opened.post.capacity ≡ config.now.capacity }
     ensures outcome { IfOk result (IsOutcome C.step C.fits C.pack C.refuses H.opened H.pes H.strategy) }
+    ensures counts { IfOk result (λ o. CountOn opened.starts o.ends) }
+    ensures earlier { IfOk result (λ o. BeginWith H.earlier o.board.rounds) }
     ensures idle { IfOk result (EndsIdle options.now.idle) }
+    ensures stopped { IfOk result StopsEarly }
     ensures homes { IfOk result (λ o. o.homes ≡ homes.items) }
 {
     let count = config.pes as usize;
@@ -238,7 +256,7 @@ fn run_named<
 // Lets each worker work in a thread of its own.
 fn work_all<
     C: Chare<A> + Send,
-    H: Openings<C> + RunStrategy + Send + Sync,
+    H: Openings<C> + BoardStart<A> + Send + Sync,
     J: RunBeginning<C> + Send + Sync,
     G: Gate + Sync,
     V: Watch + Sync,
@@ -273,18 +291,23 @@ fn ended<C: Chare<A>, H: Openings<C>, A: Allocator>(
 ) -> Outcome<C, A>
     requires few_pes { length ends.items ≤ Limits.PES }
     requires counted { IsCounted (left_world ends.items (map (λ q. q.items) left.items)) }
+    requires histories { AreHistories C.step C.fits C.pack H.opened (left_world ends.items (map (λ q. q.items) left.items)) }
+    requires elements { elements board.database ≡ length H.opened }
     requires cause { IfSome met (HasCause C.step C.pack C.refuses H.opened) }
     ensures homes { result.homes ≡ homes.items }
     ensures ends { result.ends ≡ ends.items }
     ensures left { result.left ≡ map (λ q. q.items) left.items }
     ensures board { result.board ≡ board }
     ensures marks { result.fault ≢ Some Mismatch → AreAllMarked result.board result.homes result.ends result.left }
-    ensures mismatch { result.fault ≡ Some Mismatch → ¬ (AreAllMarked result.board result.homes result.ends result.left) }
+    ensures mismatch { result.fault ≡ Some Mismatch → ¬ (DoAllAgree result.board result.homes result.ends result.left) }
+    ensures lowest { result.fault ≢ Some Mismatch → IfSome met (λ fault. fault ≢ Quiet → fault ≢ Stopped → result.fault ≡ Some fault) }
     ensures unpacks { result.fault ≢ Some Unpack }
     ensures cause { result.fault ≢ Some Mismatch → IfSome result.fault (HasCause C.step C.pack C.refuses H.opened) }
     ensures finished { result.fault ≡ None → HaveFinished result.board }
     ensures all_finished { result.fault ≡ None → HaveAllFinished result.ends result.left }
     ensures quiet { result.fault ≡ Some Quiet → IsQuiet result.board result.ends result.left }
+    ensures unfinished { result.fault ≡ Some Quiet → ¬ (HaveAllFinished result.ends result.left) }
+    ensures stopped { StopsEarly result }
     ensures idle { EndsIdle idle result }
 {
     if run_agrees(&board, &homes, &ends, &left) {
@@ -302,13 +325,12 @@ fn all_finished<C: Chare<A>, A: Allocator>(
     ends: &[PeEnd<C, A>],
     left: &[Vec<HeldParcel<A>, A>],
 ) -> bool
-    ensures board { IsTrue result → HaveFinished board.now }
-    ensures elements { IsTrue result → HaveAllFinished ends.now (map (λ q. q.items) left.now) }
+    ensures value { IsTrue result ↔ (HaveFinished board.now × HaveAllFinished ends.now (map (λ q. q.items) left.now)) }
 {
     board.all_finished() && run_finished(ends, left)
 }
 
-// Whether nothing was left to do, where a worker was to look for that, and found so.
+// Whether nothing was left to do, though not every element has finished, where a worker was to look for that, and found so.
 fn is_quiet<C: Chare<A>, A: Allocator>(
     board: &Board<A>,
     ends: &[PeEnd<C, A>],
@@ -318,32 +340,37 @@ fn is_quiet<C: Chare<A>, A: Allocator>(
 ) -> bool
     ensures asked { IsTrue result → idle ≡ Idle.Quiet }
     ensures quiet { IsTrue result → IsQuiet board.now ends.now (map (λ q. q.items) left.now) }
-    ensures all { idle ≡ Idle.Quiet → met ≡ Some Quiet → IsQuiet board.now ends.now (map (λ q. q.items) left.now) → IsTrue result }
+    ensures unfinished { IsTrue result → ¬ (HaveAllFinished ends.now (map (λ q. q.items) left.now)) }
+    ensures all { idle ≡ Idle.Quiet → met ≡ Some Quiet → IsQuiet board.now ends.now (map (λ q. q.items) left.now)
+        → ¬ (HaveAllFinished ends.now (map (λ q. q.items) left.now)) → IsTrue result }
 {
     match (idle, met) {
-        (Idle::Quiet, Some(Fault::Quiet)) => run_is_quiet(board, ends, left),
+        (Idle::Quiet, Some(Fault::Quiet)) => {
+            run_is_quiet(board, ends, left) && !run_finished(ends, left)
+        }
         _ => false,
     }
 }
 
 // The fault of a run whose first worker that met a fault met this one. That nothing was left to do has to show in what was left. Where
-// none met one, and yet an element has not finished, the workers were stopped: they end in no other way, but no lock can show that.
+// none met another, and yet an element has not finished, the workers were stopped: no lock can show that they end in no other way.
 fn fault_at_end<C: Chare<A>, H: Openings<C>, A: Allocator>(
     finished: bool,
     quiet: bool,
     met: Option<Fault>,
 ) -> Option<Fault>
     requires cause { IfSome met (HasCause C.step C.pack C.refuses H.opened) }
-    ensures met { IfSome met (λ fault. fault ≢ Quiet → result ≡ Some fault) }
+    ensures met { IfSome met (λ fault. fault ≢ Quiet → fault ≢ Stopped → result ≡ Some fault) }
     ensures quiet { result ≡ Some Quiet → IsTrue quiet }
     ensures all_quiet { met ≡ Some Quiet → IsTrue quiet → result ≡ Some Quiet }
     ensures well { met ≡ None → IsTrue finished → result ≡ None }
-    ensures stopped { met ≡ None → ¬ (IsTrue finished) → result ≡ Some Stopped }
+    ensures not_finished { met ≡ None → ¬ (IsTrue finished) → result ≡ Some Stopped }
     ensures finished { result ≡ None → IsTrue finished }
+    ensures stopped { result ≡ Some Stopped → ¬ (IsTrue finished) }
     ensures cause { IfSome result (HasCause C.step C.pack C.refuses H.opened) }
 {
     if let Some(fault) = met {
-        if fault != Fault::Quiet || quiet {
+        if fault != Fault::Stopped && (fault != Fault::Quiet || quiet) {
             return met;
         }
     }

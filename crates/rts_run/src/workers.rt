@@ -7,7 +7,7 @@ ghost use Rattle.pe_queues.specs.Seats.{new_seat, pes};
 
 use crate::config::Config;
 use crate::options::Options;
-use barrier::RunStrategy;
+use barrier::BoardStart;
 use chares::{BodyLimit, Chare, Openings};
 use pe_queues::Seat;
 use pe_state::{Parcel, PeState};
@@ -20,7 +20,7 @@ use sync_board::Board;
 /// A worker for each PE, in order, with its seat and its agenda. The only error is that memory was refused.
 pub(crate) fn open_workers<
     C: Chare<A>,
-    H: Openings<C> + RunStrategy,
+    H: Openings<C> + BoardStart<A>,
     J: RunBeginning<C>,
     A: Allocator + Copy,
 >(
@@ -55,7 +55,7 @@ pub(crate) fn open_workers<
 
 // A PE with its seat, on which letters are posted with bodies of up to this length.
 #[tactic(auto, using(crate::proofs::Seated::seated_longer))]
-fn seated<C: Chare<A>, H: Openings<C> + RunStrategy, J: RunBeginning<C>, A: Allocator + Copy>(
+fn seated<C: Chare<A>, H: Openings<C> + BoardStart<A>, J: RunBeginning<C>, A: Allocator + Copy>(
     pe: PeState<C, H, A>,
     seat: Seat<Parcel<C, H, A>, A>,
     longest: BodyLimit,

@@ -5,3 +5,4 @@ pub mod Passing
 pub mod Posts
 pub mod Reopened
 pub mod RunAccounts
+pub mod Starts

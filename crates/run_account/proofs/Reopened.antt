@@ -69,7 +69,7 @@ module _ {C : Type 0} (pes : ℕ) where
       let b = sum_by-cons (λ (x : PeView C). x.count) pe ends in
       omega (arith, a, b, all_counts ends left (omega (arith, same)))
 
-  count_at : (f : ℕ → ℕ) (q : ℕ) (ends : List (PeView C)) (left : List (List Parcel)) → length ends ≡ length left
+  pub count_at : (f : ℕ → ℕ) (q : ℕ) (ends : List (PeView C)) (left : List (List Parcel)) → length ends ≡ length left
       → option_map_or (λ (pe : PeView C). f pe.count) (slice_get (all_reopened pes ends left) q) 0 ≡ option_map_or (λ (pe : PeView C). f pe.count) (slice_get ends q) 0
   count_at f q [] [] same = refl
   count_at f q [] (queue ∷ left) same = absurd (omega (arith, same))

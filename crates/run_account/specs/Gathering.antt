@@ -39,6 +39,10 @@ at_start weight starts q = option_map_or weight (slice_get starts q) 0
 abbrev pub count_before : {C : Type 0} → List (PeView C) → ℕ → ℕ
 count_before starts q = at_start (λ pe. pe.count) starts q
 
+-- each PE has posted as many letters as at the start, or more
+abbrev pub CountOn : {C : Type 0} → List (PeView C) → List (PeView C) → Type 0
+CountOn starts ends = (q : ℕ) → count_before starts q ≤ count_before ends q
+
 -- the numbers of the letters that a PE has posted since the run began
 abbrev pub numbers_since : {C : Type 0} → List (PeView C) → PeView C → List (ℕ × ℕ)
 numbers_since starts pe = map (λ k. (pe.me, k)) (range_with_len (count_before starts pe.me) (pe.count - count_before starts pe.me))

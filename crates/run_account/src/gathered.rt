@@ -5,6 +5,7 @@ ghost use Rattle.std.specs.List.{range_with_len};
 ghost use Rattle.chare_index.specs.declared.limits.TheConstants.Limits.{SEATS};
 ghost use Rattle.pe_queues.specs.Seats.{pes};
 ghost use Rattle.rts_core.specs.Histories.{AreHistories};
+ghost use Rattle.run_account.specs.Gathering.{CountOn};
 ghost use Rattle.run_account.specs.RunAccounts.{IsRunAccount, left_world};
 
 use crate::left_buffers::LeftBuffers;
@@ -80,8 +81,8 @@ impl<C: Chare<A>, H: Openings<C>, J: RunBeginning<C>, A: Allocator> Gathered<C, 
     }
 
     /// Ends the queues, once all PEs are gathered, and returns the PEs, in order, and what is left in the queue of each,
-    /// front first. The clause `account` is the account of the run, with what the PEs that it began with had done before. This takes
-    /// no memory.
+    /// front first. The clause `account` is the account of the run, with what the PEs that it began with had done before; by
+    /// `counts` none of them has posted fewer letters than at the start. This takes no memory.
     pub fn settled<R: Wait>(
         self,
         rt: &R,
@@ -99,6 +100,7 @@ impl<C: Chare<A>, H: Openings<C>, J: RunBeginning<C>, A: Allocator> Gathered<C, 
         requires wide { room.capacity ≡ post.capacity }
         ensures ends { result.0.items ≡ self.ends }
         ensures counted { length result.1.items ≡ length self.ends }
+        ensures counts { CountOn J.beginning.starts result.0.items }
         ensures histories { AreHistories C.step C.fits C.pack H.opened (left_world result.0.items (map (λ q. q.items) result.1.items)) }
         ensures account { IsRunAccount C.step H.opened (left_world result.0.items (map (λ q. q.items) result.1.items)) }
     {

@@ -8,7 +8,7 @@ use crate::field::Field;
 use crate::seated::RunBeginning;
 use crate::watch::Watch;
 use crate::worker::Worker;
-use barrier::RunStrategy;
+use barrier::BoardStart;
 use chare_index::Gate;
 use chares::{Chare, Openings};
 use std::alloc::Allocator;
@@ -16,7 +16,7 @@ use std::alloc::Allocator;
 /// How many times a turn delivers a letter and flushes one, before the worker sees to anything else.
 const LETTERS: usize = 64;
 
-impl<C: Chare<A>, H: Openings<C> + RunStrategy, J: RunBeginning<C>, A: Allocator + Copy> Worker<
+impl<C: Chare<A>, H: Openings<C> + BoardStart<A>, J: RunBeginning<C>, A: Allocator + Copy> Worker<
     C,
     H,
     J,

@@ -2,6 +2,7 @@ use Rattle.std.proofs.Common.{◌∙◌, List, ap, length, map, subst, sym}
 use Rattle.lb_database.specs.Measuring.{elements}
 use Rattle.pe_state.specs.Pes.{PeView, Parcel}
 use Rattle.rts_core.specs.Histories.{AreHistories}
+use Rattle.run_account.specs.Reopenings.{all_reopened}
 use Rattle.run_account.specs.RunAccounts.{IsRunAccount, left_world}
 use Rattle.carried_runs.proofs.opening.opened_again.Goals as goal
 
@@ -35,3 +36,12 @@ opened_from-requires-clause-on_pes g c = ap (λ b. b.pes) c.into_parts-homes.ens
 
 pub opened_from-requires-clause-by_strategy : goal.opened_from-requires-clause-by_strategy
 opened_from-requires-clause-by_strategy g c = ap (λ b. b.strategy) c.into_parts-homes.ensures.board ∙ c.requires.earlier.by_strategy
+
+pub opened_from-requires-clause-earlier_rounds : goal.opened_from-requires-clause-earlier_rounds
+opened_from-requires-clause-earlier_rounds g c = ap (λ b. b.rounds) c.into_parts-homes.ensures.board ∙ c.requires.earlier_rounds
+
+pub returns-clause-starts : goal.returns-clause-starts
+returns-clause-starts g c =
+    c.in_ok-opened.ensures.starts
+    ∙ (ap (λ v. all_reopened c.args.config.now.pes v (map (λ q. q.items) c.into_parts-homes.result.2.items)) c.into_parts-homes.ensures.ends
+    ∙ ap (all_reopened c.args.config.now.pes c.args.outcome.ends) c.into_parts-homes.ensures.left)

@@ -4,6 +4,8 @@ use Rattle.std.proofs.lemmas.List.{length-map}
 use Rattle.pe_state.specs.Histories.{IsParcelHistory}
 use Rattle.run_account.proofs.Passing.{counted_by}
 use Rattle.run_account.specs.Reopenings.{all_reopened}
+use Rattle.std.proofs.Math.Seq.{take-length}
+use Rattle.barrier.specs.Rounds.{BeginWith}
 use Rattle.carried_runs.proofs.Again.{all_before, all_members, begins_again}
 use Rattle.carried_runs.proofs.opening.opened_from.Goals as goal
 
@@ -44,4 +46,8 @@ of_parts-requires-clause-of_run g c =
       elements = c.requires.elements;
       on_pes = c.requires.on_pes;
       by_strategy = c.requires.by_strategy;
+      earlier_first = subst (λ v. BeginWith v c.args.board.rounds) c.requires.earlier_rounds (take-length c.args.board.rounds);
     }
+
+pub returns-clause-starts : goal.returns-clause-starts
+returns-clause-starts g c = c.of_parts.ensures.starts ∙ c.in_ok-states.ensures.value

@@ -77,6 +77,12 @@ ended-requires-clause-few_pes g c =
     let n = counted_by (λ w. w.seated.pe.me) 0 g.H.Openings.pes c.work_all-done.result.items (c.work_all-done.ensures.in_order ∙ c.in_ok-field.ensures.in_order) in
     omega (arith, n, ap length c.in-Some.ensures.taken, c.gather-gathered.ensures.all, ap length c.settled-ends.ensures.ends, c.requires.run, c.requires.within.few_pes)
 
+pub ended-requires-clause-histories : goal.ended-requires-clause-histories
+ended-requires-clause-histories g c = c.settled-ends.ensures.histories
+
+pub ended-requires-clause-elements : goal.ended-requires-clause-elements
+ended-requires-clause-elements g c = c.into_parts-post.ensures.counted
+
 pub returns : goal.returns
 returns g c =
     let n = counted_by (λ w. w.seated.pe.me) 0 g.H.Openings.pes c.work_all-done.result.items (c.work_all-done.ensures.in_order ∙ c.in_ok-field.ensures.in_order) in
@@ -95,7 +101,7 @@ returns g c =
         on_pes = rw c.ended.ensures.board c.into_parts-post.ensures.on_pes;
         by_strategy = rw c.ended.ensures.board c.into_parts-post.ensures.by_strategy;
         rounds = rw c.ended.ensures.board (decided_on c.into_parts-post.result.1 (length g.H.Openings.opened) g.H.Openings.pes
-            g.H.RunStrategy.strategy c.into_parts-post.ensures.counted c.into_parts-post.ensures.on_pes
+            g.H.BoardStart.strategy c.into_parts-post.ensures.counted c.into_parts-post.ensures.on_pes
             c.into_parts-post.ensures.by_strategy c.into_parts-post.ensures.board);
         marks = c.ended.ensures.marks;
         mismatch = c.ended.ensures.mismatch;
@@ -104,7 +110,11 @@ returns g c =
         finished = c.ended.ensures.finished;
         all_finished = c.ended.ensures.all_finished;
         quiet = c.ended.ensures.quiet;
+        unfinished = c.ended.ensures.unfinished;
       };
+      counts = rw (ap (λ b. b.starts) c.requires.beginning) (rw c.ended.ensures.ends c.settled-ends.ensures.counts);
+      earlier = rw c.ended.ensures.board c.into_parts-post.ensures.earlier;
       idle = c.ended.ensures.idle;
+      stopped = c.ended.ensures.stopped;
       homes = c.ended.ensures.homes;
     }

@@ -1,4 +1,4 @@
-use Rattle.std.proofs.Common.{◌≡◌, ◌∙◌, ◌≤◌, ℕ, arith, ap, length}
+use Rattle.std.proofs.Common.{◌≡◌, ◌∙◌, ◌≤◌, ℕ, arith, ap, length, refl}
 use Rattle.std.proofs.lemmas.List.{length-map, length-replicate}
 use Rattle.std.proofs.lemmas.List.FromFn.{length-map-range_with_len}
 use Rattle.lb_database.specs.Measuring.{elements}
@@ -33,6 +33,7 @@ invariant_of-opened g c =
         elements = board ∙ all;
         on_pes = ap (λ b. b.pes) c.in_ok-board.ensures.made ∙ c.requires.run;
         by_strategy = ap (λ b. b.strategy) c.in_ok-board.ensures.made ∙ c.requires.by_strategy;
+        earlier_first = rw c.requires.first_rounds refl;
       },
     )
 

@@ -6,6 +6,7 @@ use Rattle.pe_state.specs.Histories.{IsParcelHistory}
 use Rattle.pe_queues.specs.Seats.{pes}
 use Rattle.sync_board.specs.Boards.{new_board}
 use Rattle.run_account.proofs.RunAccounts.{all_seats, accounted}
+use Rattle.run_account.proofs.Starts.{counts_on}
 use Rattle.run_account.proofs.gathered.Gathered.settled.Goals as goal
 use Rattle.sync_board.specs.declared.strategy.Strategy.TheVariants.{Least}
 
@@ -36,3 +37,7 @@ returns-clause-histories g c =
       pes = c.self.invariant.histories;
       queues = All-map (All (IsParcelHistory g.C.Chare.step g.C.Pup.fits g.C.Pup.pack g.H.Openings.opened)) (λ q. q.items) c.release.result.items c.release.ensures.histories;
     }
+
+pub returns-clause-counts : goal.returns-clause-counts
+returns-clause-counts g c =
+    counts_on g.J.RunBeginning.beginning.starts c.self.inside.ends.items c.self.invariant.in_order (search rules) c.self.invariant.grown
