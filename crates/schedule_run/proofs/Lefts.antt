@@ -19,7 +19,7 @@ use Rattle.schedules.specs.declared.bias.Bias.{Bias}
 use Rattle.schedules.specs.declared.error.ReplayError.{ReplayError}
 use Rattle.schedules.specs.declared.error.ReplayError.TheVariants as Ends
 use Rattle.schedules.specs.declared.schedule.Schedule.{Schedule}
-use Rattle.tally.specs.Tallies.{TallyView, tally_pack, tally_step}
+use Rattle.tally.specs.Tallies.{TallyRefuses, TallyView, tally_pack, tally_step}
 use Rattle.workload.specs.Text.{IsWithin, WorkloadView}
 use Rattle.workload_run.specs.Tallies.{tallies_of, tally_of}
 use Rattle.schedule_run.specs.Seeds.{TellsSeeds}
@@ -49,23 +49,21 @@ drawn_on_one unpack bias bias' seed chares chares' pes pes' strategy strategy' x
     (subst (λ (p : ℕ). IsDrawn tally_step tally_pack unpack bias seed (opening_world p chares strategy') x) same_pes
     (subst (λ (s : Strategy). IsDrawn tally_step tally_pack unpack bias seed (opening_world pes chares s) x) same_strategy drawn)))
 
--- what was told of the runs of these chares on this number of PEs
-pub seeds_on_one : (A : Type 0) (fits : TallyView → Type 0) (unpack : Unpack) (bias bias' : Bias) (chares chares' : List TallyView)
-    (pes pes' : ℕ) (strategy strategy' : Strategy) (seeds : ℕ) (old new : Option (List ℕ)) (ended : RunEnd)
-    → bias ≡ bias' → chares ≡ chares' → pes ≡ pes' → strategy ≡ strategy'
-    → TellsSeeds A tally_step fits tally_pack unpack chares pes strategy bias seeds old new ended
-    → TellsSeeds A tally_step fits tally_pack unpack chares' pes' strategy' bias' seeds old new ended
-seeds_on_one A fits unpack bias bias' chares chares' pes pes' strategy strategy' seeds old new ended same_bias same_chares same_pes same_strategy told =
-    subst (λ (b : Bias). TellsSeeds A tally_step fits tally_pack unpack chares' pes' strategy' b seeds old new ended) same_bias
-    (subst (λ cs. TellsSeeds A tally_step fits tally_pack unpack cs pes' strategy' bias seeds old new ended) same_chares
-    (subst (λ (p : ℕ). TellsSeeds A tally_step fits tally_pack unpack chares p strategy' bias seeds old new ended) same_pes
-    (subst (λ (s : Strategy). TellsSeeds A tally_step fits tally_pack unpack chares pes s bias seeds old new ended) same_strategy told)))
+-- what was told of the runs of these chares under this schedule
+pub seeds_on_one : (A : Type 0) (fits : TallyView → Type 0) (unpack : Unpack) (chares chares' : List TallyView) (schedule schedule' : Schedule)
+    (seeds : ℕ) (old new : Option (List ℕ)) (ended : RunEnd)
+    → chares ≡ chares' → schedule ≡ schedule'
+    → TellsSeeds A tally_step fits tally_pack TallyRefuses unpack chares schedule seeds old new ended
+    → TellsSeeds A tally_step fits tally_pack TallyRefuses unpack chares' schedule' seeds old new ended
+seeds_on_one A fits unpack chares chares' schedule schedule' seeds old new ended same_chares same_schedule told =
+    subst (λ cs. TellsSeeds A tally_step fits tally_pack TallyRefuses unpack cs schedule' seeds old new ended) same_chares
+    (subst (λ (s : Schedule). TellsSeeds A tally_step fits tally_pack TallyRefuses unpack chares s seeds old new ended) same_schedule told)
 
 -- what is reported are tallies, as many as the workload has chares
 pub are_tallies : {A : Type 0} (fits : TallyView → Type 0) (unpack : Unpack) → ((t : TallyView) → fits t → t.sum < 2 ^ 64)
-    → (w : WorkloadView) (n : ℕ) (strategy : Strategy) (x : ExploredView TallyView A)
-    → n ≡ w.chares → IsRunOnOne fits unpack w strategy x → AreTallies n x.outcome
-are_tallies fits unpack numbered w n strategy x same left =
+    → (Ended : ExploredView TallyView A → Type 0) (w : WorkloadView) (n : ℕ) (strategy : Strategy) (x : ExploredView TallyView A)
+    → n ≡ w.chares → IsRunOnOne fits unpack Ended w strategy x → AreTallies n x.outcome
+are_tallies fits unpack numbered Ended w n strategy x same (left, ended) =
     let counted : length (tallies_of w) ≡ n = length-map-range_with_len (tally_of w) 0 w.chares ∙ sym same in
     subst (λ m. AreTallies m x.outcome) counted
     (of_runs.tallies_left fits numbered (tallies_of w) x.outcome left.account.stands (record { pes = left.histories.pes; queues = left.histories.queues }))

@@ -7,10 +7,13 @@ use Rattle.rts_core.specs.declared.event.Event.{Event}
 use Rattle.run_text.specs.Text.{outcome_text}
 use Rattle.courses.specs.Courses.{CourseView, Leads}
 use Rattle.schedules.specs.Courses.{ExploredView, IsExplored}
+use Rattle.schedules.specs.Endings.{EndsList, EndsRun}
 use Rattle.schedules.specs.Replays.{StopsAt}
+use Rattle.schedules.specs.Schedules.{no_bias}
 use Rattle.schedules.specs.declared.error.ReplayError.{ReplayError}
 use Rattle.schedules.specs.declared.error.ReplayError.TheVariants as Ends
-use Rattle.tally.specs.Tallies.{TallyView, tally_pack, tally_step}
+use Rattle.schedules.specs.declared.schedule.Schedule.{Schedule}
+use Rattle.tally.specs.Tallies.{TallyRefuses, TallyView, tally_pack, tally_step}
 use Rattle.workload.specs.Text.{WorkloadView}
 use Rattle.workload_run.specs.Lines.{memory_line}
 use Rattle.workload_run.specs.Tallies.{tallies_of}
@@ -22,10 +25,22 @@ use Rattle.workload_run.specs.declared.ended.RunEnd.TheVariants.{OutOfMemory}
 abbrev pub Unpack : Type 0
 Unpack = List ℕ → Result (TallyView × ℕ) PupError
 
-module _ {A : Type 0} (fits : TallyView → Type 0) (unpack : Unpack) where
-  -- what the tallies of a workload left on one thread, with rounds by this strategy: every clause of `explore` holds of it
+-- the schedule of such a run by a seed: no bias, and as many events as a number of 64 bits can say
+abbrev pub unlimited : ℕ → Strategy → Schedule
+unlimited pes strategy = record { pes = pes; strategy = strategy; steps = 18446744073709551615; bias = no_bias }
+
+-- how a run by a seed ended, and how one by a list of events did
+module _ {A : Type 0} (unpack : Unpack) where
+  abbrev pub EndsBySeed : ExploredView TallyView A → Type 0
+  EndsBySeed x = EndsRun tally_step tally_pack TallyRefuses unpack 18446744073709551615 x
+
+  abbrev pub EndsByList : ExploredView TallyView A → Type 0
+  EndsByList x = EndsList tally_step tally_pack TallyRefuses unpack x
+
+module _ {A : Type 0} (fits : TallyView → Type 0) (unpack : Unpack) (Ended : ExploredView TallyView A → Type 0) where
+  -- what the tallies of a workload left on one thread, with rounds by this strategy, and that it ended so
   abbrev pub IsRunOnOne : WorkloadView → Strategy → ExploredView TallyView A → Type 0
-  IsRunOnOne w strategy x = IsExplored tally_step fits tally_pack unpack (tallies_of w) w.pes strategy x
+  IsRunOnOne w strategy x = IsExplored tally_step fits tally_pack unpack (tallies_of w) w.pes strategy x × Ended x
 
   -- what was written of that: the text of its outcome; without an outcome the line for refused memory; or a prefix of one
   -- of these

@@ -3,6 +3,7 @@ use Rattle.std.specs.Prelude.{◌≡◌, ◌⊎◌, ℕ, ◌+◌, List, [], ◌�
 use Rattle.std.specs.Fmt.{decimal}
 use Rattle.sync_board.specs.declared.strategy.Strategy.{Strategy}
 use Rattle.pe_worker.specs.declared.fault.Fault.{Fault}
+use Rattle.chares.specs.Elements.{Refuses}
 use Rattle.chares.specs.Steps.{Step}
 use Rattle.pup_pack.specs.declared.error.PupError.{PupError}
 use Rattle.rts_core.specs.Accounts.{held_count}
@@ -11,11 +12,11 @@ use Rattle.rts_run.specs.Outcomes.{first_fault}
 use Rattle.run_text.specs.Text.{fault_word}
 use Rattle.schedules.specs.Courses.{ExploredView, IsExplored, left_by}
 use Rattle.schedules.specs.Drawn.{IsDrawn}
-use Rattle.schedules.specs.Schedules.{no_bias}
-use Rattle.schedules.specs.declared.bias.Bias.{Bias}
-use Rattle.tally.specs.Tallies.{TallyView, tally_pack, tally_step}
+use Rattle.schedules.specs.Endings.{EndsRun}
+use Rattle.schedules.specs.declared.schedule.Schedule.{Schedule}
+use Rattle.tally.specs.Tallies.{TallyRefuses, TallyView, tally_pack, tally_step}
 use Rattle.workload.specs.Text.{WorkloadView}
-use Rattle.schedule_run.specs.OneThread.{Unpack}
+use Rattle.schedule_run.specs.OneThread.{Unpack, unlimited}
 use Rattle.schedule_run.specs.declared.verdict.Verdict.{Verdict}
 use Rattle.workload_run.specs.Lines.{memory_line, newline}
 use Rattle.workload_run.specs.Tallies.{tallies_of}
@@ -23,15 +24,15 @@ use Rattle.workload_run.specs.Telling.{TellsOutcome, WritesText}
 use Rattle.workload_run.specs.declared.ended.RunEnd.{RunEnd}
 use Rattle.workload_run.specs.declared.ended.RunEnd.TheVariants.{OutOfMemory}
 
-module _ {C : Type 0} (A : Type 0) (step : Step C) (fits : C → Type 0) (pack : C → List ℕ) (unpack : List ℕ → Result (C × ℕ) PupError)
-    (chares : List C) (pes : ℕ) (strategy : Strategy) (bias : Bias) where
-  -- how the run of these chares by this seed ended, whose steps are those that the seed draws: its fault, and how many letters it
-  -- left
+module _ {C : Type 0} (A : Type 0) (step : Step C) (fits : C → Type 0) (pack : C → List ℕ) (refuses : Refuses C)
+    (unpack : List ℕ → Result (C × ℕ) PupError) (chares : List C) (schedule : Schedule) where
+  -- how the run of these chares by this seed ended, whose steps are those that the seed draws: its fault, which is why the run ended,
+  -- and how many letters it left
   abbrev pub IsVerdict : ℕ → Verdict → Type 0
   IsVerdict seed v =
-      (x : ExploredView C A) × IsExplored step fits pack unpack chares pes strategy x
-      × IsDrawn step pack unpack bias seed (opening_world pes chares strategy) x × (v.fault ≡ x.outcome.fault)
-      × (v.held ≡ held_count (left_by x))
+      (x : ExploredView C A) × IsExplored step fits pack unpack chares schedule.pes schedule.strategy x
+      × IsDrawn step pack unpack schedule.bias seed (opening_world schedule.pes chares schedule.strategy) x
+      × EndsRun step pack refuses unpack schedule.steps x × (v.fault ≡ x.outcome.fault) × (v.held ≡ held_count (left_by x))
 
   -- so by this seed and those after it, one verdict for each
   abbrev pub AreVerdicts : ℕ → List Verdict → Type 0
@@ -72,14 +73,14 @@ fault_of_first verdicts = first_fault (map (λ v. v.fault) verdicts)
 
 -- These chares were run by each of the seeds from 1 to this number, and the text of that was written, or a prefix of it; or memory
 -- was refused, and the line for that was written, or a prefix of it.
-abbrev pub TellsSeeds : {C : Type 0} (A : Type 0) → Step C → (C → Type 0) → (C → List ℕ) → (List ℕ → Result (C × ℕ) PupError) → List C → ℕ
-    → Strategy → Bias → ℕ → Option (List ℕ) → Option (List ℕ) → RunEnd → Type 0
-TellsSeeds A step fits pack unpack chares pes strategy bias seeds old new ended =
-    ((verdicts : List Verdict) × AreVerdicts A step fits pack unpack chares pes strategy bias 1 verdicts × (length verdicts ≡ seeds)
+abbrev pub TellsSeeds : {C : Type 0} (A : Type 0) → Step C → (C → Type 0) → (C → List ℕ) → Refuses C → (List ℕ → Result (C × ℕ) PupError) → List C
+    → Schedule → ℕ → Option (List ℕ) → Option (List ℕ) → RunEnd → Type 0
+TellsSeeds A step fits pack refuses unpack chares schedule seeds old new ended =
+    ((verdicts : List Verdict) × AreVerdicts A step fits pack refuses unpack chares schedule 1 verdicts × (length verdicts ≡ seeds)
     × TellsOutcome (seeds_text verdicts) old new (fault_of_first verdicts) ended)
     ⊎ WritesText memory_line OutOfMemory old new ended
 
--- so for the tallies of a workload, without a bias
+-- so for the tallies of a workload, without a bias, and with no number of events that stops a run
 abbrev pub TriesSeeds : (A : Type 0) → (TallyView → Type 0) → Unpack → WorkloadView → Strategy → ℕ → Option (List ℕ) → Option (List ℕ) → RunEnd → Type 0
 TriesSeeds A fits unpack w strategy seeds old new ended =
-    TellsSeeds A tally_step fits tally_pack unpack (tallies_of w) w.pes strategy no_bias seeds old new ended
+    TellsSeeds A tally_step fits tally_pack TallyRefuses unpack (tallies_of w) (unlimited w.pes strategy) seeds old new ended

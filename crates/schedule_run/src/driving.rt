@@ -3,7 +3,7 @@
 ghost use Rattle.std.specs.Prelude.{◌≡◌, ℕ, ◌+◌, IfErr, IfOk, IfSome, None, Some};
 ghost use Rattle.run_text.specs.Sums.{AreTallies};
 ghost use Rattle.run_text.specs.Text.{outcome_text};
-ghost use Rattle.schedule_run.specs.OneThread.{EndsOnOne, StopsRun};
+ghost use Rattle.schedule_run.specs.OneThread.{EndsByList, EndsBySeed, EndsOnOne, StopsRun};
 ghost use Rattle.rts_core.specs.Worlds.{opening_world};
 ghost use Rattle.schedules.specs.Drawn.{IsDrawn};
 ghost use Rattle.schedules.specs.Replays.{Follows};
@@ -36,7 +36,7 @@ pub fn drive_seed<W: Write, A: Allocator + Copy>(
     writer: &mut W,
 ) -> DrivenOnOne<A>
     requires within { IsWithin workload.now }
-    ensures ran { EndsOnOne ⟦<Tally<A> as Pup<A>>⟧.fits ⟦<Tally<A> as Pup<A>>⟧.unpack workload.now strategy
+    ensures ran { EndsOnOne ⟦<Tally<A> as Pup<A>>⟧.fits ⟦<Tally<A> as Pup<A>>⟧.unpack (EndsBySeed ⟦<Tally<A> as Pup<A>>⟧.unpack) workload.now strategy
         (W.contents writer.old) (W.contents writer.new) result.explored result.ended }
     ensures drawn { IfSome result.explored (IsDrawn tally_step tally_pack ⟦<Tally<A> as Pup<A>>⟧.unpack no_bias seed
         (opening_world workload.now.pes (tallies_of workload.now) strategy)) }
@@ -60,7 +60,7 @@ pub fn drive_events<W: Write, A: Allocator + Copy>(
     writer: &mut W,
 ) -> Result<DrivenOnOne<A>, usize>
     requires within { IsWithin workload.now }
-    ensures ran { IfOk result (λ driven. EndsOnOne ⟦<Tally<A> as Pup<A>>⟧.fits ⟦<Tally<A> as Pup<A>>⟧.unpack workload.now strategy
+    ensures ran { IfOk result (λ driven. EndsOnOne ⟦<Tally<A> as Pup<A>>⟧.fits ⟦<Tally<A> as Pup<A>>⟧.unpack (EndsByList ⟦<Tally<A> as Pup<A>>⟧.unpack) workload.now strategy
         (W.contents writer.old) (W.contents writer.new) driven.explored driven.ended) }
     ensures follows { IfOk result (λ driven. IfSome driven.explored (Follows events.now)) }
     ensures stops { IfErr result (λ number. (at : ℕ) × (number ≡ at + 1) × StopsRun A ⟦<Tally<A> as Pup<A>>⟧.unpack workload.now strategy events.now at) }

@@ -1,7 +1,7 @@
 //! Runs of the tallies of a workload on one thread.
 
 ghost use Rattle.std.specs.Prelude.{◌≡◌, IfErr, IfOk};
-ghost use Rattle.schedule_run.specs.OneThread.{IsRunOnOne, RefusesRun};
+ghost use Rattle.schedule_run.specs.OneThread.{EndsByList, EndsBySeed, IsRunOnOne, RefusesRun, unlimited};
 ghost use Rattle.rts_core.specs.Worlds.{opening_world};
 ghost use Rattle.schedules.specs.Drawn.{IsDrawn};
 ghost use Rattle.schedules.specs.Replays.{Follows};
@@ -21,7 +21,8 @@ use workload_run::tallies_of;
 
 /// Runs the tallies of a workload on one thread until every one has finished and no letter is held, or a fault ends the run. Each next
 /// event is drawn by a generator with this seed, as [`explore`] does without a bias, and rounds are decided by `strategy`. The clause
-/// `drawn` says that each step is the one that the seed draws.
+/// `left` says also why it ended, and the clause `drawn` that each step is the one that the seed draws, and that none is taken once
+/// all have finished and no letter is held.
 ///
 /// # Errors
 ///
@@ -33,7 +34,8 @@ pub fn search<A: Allocator + Copy>(
     seed: u64,
 ) -> Result<Explored<Tally<A>, A>, AllocError>
     requires within { IsWithin workload.now }
-    ensures left { IfOk result (IsRunOnOne ⟦<Tally<A> as Pup<A>>⟧.fits ⟦<Tally<A> as Pup<A>>⟧.unpack workload.now strategy) }
+    ensures left { IfOk result (IsRunOnOne ⟦<Tally<A> as Pup<A>>⟧.fits ⟦<Tally<A> as Pup<A>>⟧.unpack (EndsBySeed ⟦<Tally<A> as Pup<A>>⟧.unpack)
+        workload.now strategy) }
     ensures drawn { IfOk result (IsDrawn tally_step tally_pack ⟦<Tally<A> as Pup<A>>⟧.unpack no_bias seed
         (opening_world workload.now.pes (tallies_of workload.now) strategy)) }
 {
@@ -45,7 +47,7 @@ pub fn search<A: Allocator + Copy>(
     }
 }
 
-/// Runs the tallies of a workload on one thread by a list of events, as [`replay`] does.
+/// Runs the tallies of a workload on one thread by a list of events, as [`replay`] does. The clause `left` says also why it ended.
 ///
 /// # Errors
 ///
@@ -58,7 +60,8 @@ pub fn follow<A: Allocator + Copy>(
     events: &[Event],
 ) -> Result<Explored<Tally<A>, A>, ReplayError>
     requires within { IsWithin workload.now }
-    ensures left { IfOk result (IsRunOnOne ⟦<Tally<A> as Pup<A>>⟧.fits ⟦<Tally<A> as Pup<A>>⟧.unpack workload.now strategy) }
+    ensures left { IfOk result (IsRunOnOne ⟦<Tally<A> as Pup<A>>⟧.fits ⟦<Tally<A> as Pup<A>>⟧.unpack (EndsByList ⟦<Tally<A> as Pup<A>>⟧.unpack)
+        workload.now strategy) }
     ensures follows { IfOk result (Follows events.now) }
     ensures refused { IfErr result (RefusesRun A ⟦<Tally<A> as Pup<A>>⟧.unpack workload.now strategy events.now) }
 {
@@ -72,10 +75,7 @@ pub fn follow<A: Allocator + Copy>(
 
 /// A schedule without a bias, whose runs are not stopped.
 pub(crate) fn schedule_of(pes: u32, strategy: Strategy) -> Schedule
-    ensures pes { result.pes ≡ pes }
-    ensures strategy { result.strategy ≡ strategy }
-    ensures steps { result.steps ≡ 18446744073709551615 }
-    ensures bias { result.bias ≡ no_bias }
+    ensures value { result ≡ unlimited pes strategy }
 {
     Schedule {
         pes,

@@ -49,7 +49,7 @@ pub fn tell_seeds<C: Chare<A>, K: Cast<C, A>, W: Write, A: Allocator + Copy>(
     seeds: u32,
     writer: &mut W,
 ) -> RunEnd
-    ensures tried { TellsSeeds A C.step C.fits C.pack C.unpack (K.chares cast.now) schedule.now.pes schedule.now.strategy schedule.now.bias seeds
+    ensures tried { TellsSeeds A C.step C.fits C.pack C.refuses C.unpack (K.chares cast.now) schedule.now seeds
         (W.contents writer.old) (W.contents writer.new) result }
 {
     let Ok(verdicts) = try_seeds(alloc, schedule, cast, seeds) else {
@@ -69,7 +69,7 @@ fn try_seeds<C: Chare<A>, K: Cast<C, A>, A: Allocator + Copy>(
     seeds: u32,
 ) -> Result<Vec<Verdict, A>, AllocError>
     ensures verdicts { IfOk result (λ verdicts.
-        AreVerdicts A C.step C.fits C.pack C.unpack (K.chares cast.now) schedule.now.pes schedule.now.strategy schedule.now.bias 1 verdicts.items) }
+        AreVerdicts A C.step C.fits C.pack C.refuses C.unpack (K.chares cast.now) schedule.now 1 verdicts.items) }
     ensures each { IfOk result (λ verdicts. length verdicts.items ≡ seeds) }
 {
     let mut verdicts = Vec::new(alloc);

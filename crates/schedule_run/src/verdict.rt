@@ -25,7 +25,7 @@ pub(crate) fn verdict_of<C: Chare<A>, K: Cast<C, A>, A: Allocator + Copy>(
     cast: &K,
     seed: u64,
 ) -> Result<Verdict, AllocError>
-    ensures verdict { IfOk result (IsVerdict A C.step C.fits C.pack C.unpack (K.chares cast.now) schedule.now.pes schedule.now.strategy schedule.now.bias seed) }
+    ensures verdict { IfOk result (IsVerdict A C.step C.fits C.pack C.refuses C.unpack (K.chares cast.now) schedule.now seed) }
 {
     let chares = cast.chares(alloc)?;
     match explore(alloc, schedule, seed, chares) {

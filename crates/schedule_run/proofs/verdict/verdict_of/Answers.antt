@@ -12,4 +12,4 @@ returns-in-Ok g c =
     let drawn =
     subst (λ cs. IsDrawn g.C.Chare.step g.C.Pup.pack g.C.Pup.unpack c.args.schedule.now.bias c.args.seed (opening_world c.args.schedule.now.pes cs c.args.schedule.now.strategy) x)
     c.in_ok-chares.ensures.value c.in-Ok.ensures.drawn in
-    record { verdict = (x, here, drawn, c.fault.ensures.value, c.account.ensures.held) }
+    record { verdict = (x, here, drawn, c.in-Ok.ensures.ends, c.fault.ensures.value, c.account.ensures.held) }
