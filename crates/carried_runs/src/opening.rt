@@ -81,7 +81,8 @@ fn board_len<A: Allocator>(board: &Board<A>) -> u32
     board.len() as u32
 }
 
-// The location words of elements on PEs that open again.
+// The location words of elements on PEs that open again, which begin as `places_of` says. No contract says what stands in a word, since
+// every thread may change it.
 fn words_of<C: Chare<A>, H: Openings<C> + BoardStart<A>, A: Allocator + Copy>(
     alloc: A,
     config: &Config,

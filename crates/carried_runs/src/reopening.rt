@@ -1,8 +1,14 @@
 //! The PEs of a run that is carried on, and where its elements are.
 
-ghost use Rattle.std.specs.Prelude.{◌≡◌, ◌<◌, ◌≤◌, All, IfOk, length, map};
+ghost use Rattle.std.specs.Prelude.{◌≡◌, ◌<◌, ◌≤◌, All, IfOk, length, map, slice_set};
+ghost use Rattle.std.specs.List.{flat_map};
+ghost use Rattle.std.specs.Map.{values_of};
+ghost use Rattle.std.specs.Option.{option_to_list};
 ghost use Rattle.pe_state.specs.Histories.{HasHistories, IsParcelHistory};
+ghost use Rattle.rts_core.specs.Worlds.{opening_words};
+ghost use Rattle.run_account.specs.Noting.{with_noted};
 ghost use Rattle.run_account.specs.Reopenings.{all_reopened};
+ghost use Rattle.carried_runs.specs.Places.{goes_to, sighted_in, sightings};
 
 use chare_index::{Index, Limits, Pe, Pes};
 use chares::{Carried, Chare, Openings};
@@ -38,7 +44,8 @@ pub(crate) fn reopen_all<C: Chare<A>, H: Openings<C>, A: Allocator + Copy>(
     Ok(states)
 }
 
-/// The PE where each of `n` elements stands, or to which it is on its way. The only error is that memory was refused.
+/// The PE where each of `n` elements is to be looked for: its home, as a run opens, or where the PE that has it keeps it or sends it
+/// (`value`). The only error is that memory was refused.
 pub(crate) fn places_of<C: Chare<A>, H: Openings<C>, A: Allocator + Copy>(
     alloc: A,
     n: u32,
@@ -47,6 +54,7 @@ pub(crate) fn places_of<C: Chare<A>, H: Openings<C>, A: Allocator + Copy>(
 ) -> Result<Vec<Pe, A>, AllocError>
     requires few { n ≤ Limits.ELEMENTS }
     requires run { pes ≡ H.pes }
+    ensures value { IfOk result (λ places. places.items ≡ with_noted (opening_words n H.pes) (flat_map (sightings H.pes) states.now)) }
     ensures counted { IfOk result (λ places. length places.items ≡ n) }
     ensures named { IfOk result (λ places. All (λ q. q < H.pes) places.items) }
 {
@@ -63,6 +71,7 @@ fn homes_of<C, H: Openings<C>, A: Allocator>(
 ) -> Result<Vec<Pe, A>, AllocError>
     requires few { n ≤ Limits.ELEMENTS }
     requires run { pes ≡ H.pes }
+    ensures value { IfOk result (λ places. places.items ≡ opening_words n H.pes) }
     ensures counted { IfOk result (λ places. length places.items ≡ n) }
     ensures named { IfOk result (λ places. All (λ q. q < H.pes) places.items) }
 {
@@ -76,26 +85,41 @@ fn note_all<C: Chare<A>, H: Openings<C>, A: Allocator>(
     states: &[PeState<C, H, A>],
 )
     requires named { All (λ q. q < H.pes) places.old }
-    ensures counted { length places.new ≡ length places.old }
+    ensures noted { places.new ≡ with_noted places.old (flat_map (sightings H.pes) states.now) }
     ensures named { All (λ q. q < H.pes) places.new }
 {
     for state in states {
-        note_standing(places, state);
-        note_leaving(places, state);
+        note_pe(places, state);
     }
+}
+
+// Notes the elements of a PE.
+#[tactic(auto, using(run_account::proofs::Noting::noted_append))]
+fn note_pe<C: Chare<A>, H: Openings<C>, A: Allocator>(
+    places: &mut [Pe],
+    state: &PeState<C, H, A>,
+)
+    requires named { All (λ q. q < H.pes) places.old }
+    ensures noted { places.new ≡ with_noted places.old (sightings H.pes state.now) }
+    ensures named { All (λ q. q < H.pes) places.new }
+{
+    note_standing(places, state);
+    note_hand(places, state);
+    note_outbox(places, state);
 }
 
 // Notes that this element is at this PE, if there is such an element.
 fn note_place<C, H: Openings<C>>(places: &mut [Pe], element: Index, pe: Pe)
     requires below { pe < H.pes }
     requires named { All (λ q. q < H.pes) places.old }
-    ensures counted { length places.new ≡ length places.old }
+    ensures noted { places.new ≡ slice_set places.old element pe }
     ensures named { All (λ q. q < H.pes) places.new }
 {
     let at = element.get() as usize;
-    if at < places.len() {
-        places[at] = pe;
+    if places.len() <= at {
+        return;
     }
+    places[at] = pe;
 }
 
 // Notes the elements that stand in the room of a PE.
@@ -104,7 +128,7 @@ fn note_standing<C: Chare<A>, H: Openings<C>, A: Allocator>(
     state: &PeState<C, H, A>,
 )
     requires named { All (λ q. q < H.pes) places.old }
-    ensures counted { length places.new ≡ length places.old }
+    ensures noted { places.new ≡ with_noted places.old (map (λ el. (el.index, state.now.me)) (values_of state.now.room)) }
     ensures named { All (λ q. q < H.pes) places.new }
 {
     let me = state.me();
@@ -113,18 +137,30 @@ fn note_standing<C: Chare<A>, H: Openings<C>, A: Allocator>(
     }
 }
 
-// Notes the elements that are on their way from a PE, and the one that has just come to it.
-fn note_leaving<C: Chare<A>, H: Openings<C>, A: Allocator>(
+// Notes the element that has just come to a PE, if one has.
+fn note_hand<C: Chare<A>, H: Openings<C>, A: Allocator>(
     places: &mut [Pe],
     state: &PeState<C, H, A>,
 )
     requires named { All (λ q. q < H.pes) places.old }
-    ensures counted { length places.new ≡ length places.old }
+    ensures noted { places.new ≡ with_noted places.old (flat_map (sighted_in H.pes state.now.me) (option_to_list state.now.hand)) }
     ensures named { All (λ q. q < H.pes) places.new }
 {
-    if let Some(item) = state.as_end().hand() {
-        note_item(places, state, item);
-    }
+    let Some(item) = state.as_end().hand() else {
+        return;
+    };
+    note_item(places, state, item);
+}
+
+// Notes the elements that are to leave a PE.
+fn note_outbox<C: Chare<A>, H: Openings<C>, A: Allocator>(
+    places: &mut [Pe],
+    state: &PeState<C, H, A>,
+)
+    requires named { All (λ q. q < H.pes) places.old }
+    ensures noted { places.new ≡ with_noted places.old (flat_map (sighted_in H.pes state.now.me) state.now.outbox) }
+    ensures named { All (λ q. q < H.pes) places.new }
+{
     let (front, back) = state.as_end().outbox().as_slices();
     note_items(places, state, front);
     note_items(places, state, back);
@@ -137,7 +173,7 @@ fn note_items<C: Chare<A>, H: Openings<C>, A: Allocator>(
     items: &[Item<A>],
 )
     requires named { All (λ q. q < H.pes) places.old }
-    ensures counted { length places.new ≡ length places.old }
+    ensures noted { places.new ≡ with_noted places.old (flat_map (sighted_in H.pes state.now.me) items.now) }
     ensures named { All (λ q. q < H.pes) places.new }
 {
     for item in items {
@@ -152,15 +188,26 @@ fn note_item<C: Chare<A>, H: Openings<C>, A: Allocator>(
     item: &Item<A>,
 )
     requires named { All (λ q. q < H.pes) places.old }
-    ensures counted { length places.new ≡ length places.old }
+    ensures noted { places.new ≡ with_noted places.old (sighted_in H.pes state.now.me item.now) }
     ensures named { All (λ q. q < H.pes) places.new }
 {
     let Carried::Element(element) = &item.parcel else {
         return;
     };
-    let to = match item.address {
+    let to = destination(state, item.address);
+    note_place::<C, H>(places, element.index(), to);
+}
+
+// Where a PE sends a parcel with this address.
+fn destination<C: Chare<A>, H: Openings<C>, A: Allocator>(
+    state: &PeState<C, H, A>,
+    address: Option<Pe>,
+) -> Pe
+    ensures value { result ≡ goes_to H.pes state.now.me address }
+    ensures below { result < H.pes }
+{
+    match address {
         Some(q) if q.get() < state.pes() => q,
         _ => state.me(),
-    };
-    note_place::<C, H>(places, element.index(), to);
+    }
 }

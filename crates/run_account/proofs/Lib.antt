@@ -1,4 +1,5 @@
 pub mod Gathering
+pub mod Noting
 pub mod Numbers
 pub mod Openings
 pub mod Passing

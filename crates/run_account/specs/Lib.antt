@@ -1,4 +1,5 @@
 pub mod Buffers
 pub mod Gathering
+pub mod Noting
 pub mod Reopenings
 pub mod RunAccounts

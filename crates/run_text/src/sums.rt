@@ -4,7 +4,7 @@ ghost use Rattle.std.specs.Prelude.{◌≡◌, All, IfOk, IfSome, map, replicate
 ghost use Rattle.std.specs.List.{flat_map};
 ghost use Rattle.std.specs.Map.{values_of};
 ghost use Rattle.std.specs.Option.{option_to_list};
-ghost use Rattle.run_text.specs.Internal.{with_sums};
+ghost use Rattle.run_account.specs.Noting.{with_noted};
 ghost use Rattle.run_text.specs.Sums.{AreTallies, HasTallyPacks, IsTallyPack, IsTallyParcel, all_sums, element_sums, packed_sum, standing_sum, sums_at, sums_in};
 
 use chare_index::Index;
@@ -39,11 +39,11 @@ fn zeros<A: Allocator>(alloc: A, len: usize) -> Result<Vec<u64, A>, AllocError>
 }
 
 // Notes the sums of all elements that a run left.
-#[tactic(auto, using(crate::proofs::Filling::noted_append))]
+#[tactic(auto, using(run_account::proofs::Noting::noted_append))]
 fn note_all<A: Allocator + Copy>(sums: &mut [u64], outcome: &Outcome<Tally<A>, A>)
     requires at_pes { All HasTallyPacks outcome.now.ends }
     requires in_queues { All (All IsTallyParcel) outcome.now.left }
-    ensures noted { sums.new ≡ with_sums sums.old (all_sums outcome.now) }
+    ensures noted { sums.new ≡ with_noted sums.old (all_sums outcome.now) }
 {
     note_pes(sums, outcome.ends());
     note_queues(sums, outcome.left());
@@ -52,7 +52,7 @@ fn note_all<A: Allocator + Copy>(sums: &mut [u64], outcome: &Outcome<Tally<A>, A
 // Notes the sums of all elements of these PEs.
 fn note_pes<A: Allocator + Copy>(sums: &mut [u64], ends: &[PeEnd<Tally<A>, A>])
     requires { All HasTallyPacks ends.now }
-    ensures { sums.new ≡ with_sums sums.old (flat_map sums_at ends.now) }
+    ensures { sums.new ≡ with_noted sums.old (flat_map sums_at ends.now) }
 {
     for end in ends {
         note_pe(sums, end);
@@ -60,10 +60,10 @@ fn note_pes<A: Allocator + Copy>(sums: &mut [u64], ends: &[PeEnd<Tally<A>, A>])
 }
 
 // Notes the sums of all elements of a PE.
-#[tactic(auto, using(crate::proofs::Filling::noted_append))]
+#[tactic(auto, using(run_account::proofs::Noting::noted_append))]
 fn note_pe<A: Allocator + Copy>(sums: &mut [u64], end: &PeEnd<Tally<A>, A>)
     requires { HasTallyPacks end.now }
-    ensures { sums.new ≡ with_sums sums.old (sums_at end.now) }
+    ensures { sums.new ≡ with_noted sums.old (sums_at end.now) }
 {
     note_hand(sums, end);
     note_outbox(sums, end);
@@ -73,7 +73,7 @@ fn note_pe<A: Allocator + Copy>(sums: &mut [u64], end: &PeEnd<Tally<A>, A>)
 // Notes the sum of the element in the hand of a PE, if one is there.
 fn note_hand<A: Allocator + Copy>(sums: &mut [u64], end: &PeEnd<Tally<A>, A>)
     requires { HasTallyPacks end.now }
-    ensures { sums.new ≡ with_sums sums.old (flat_map (λ x. sums_in x.parcel) (option_to_list end.now.hand)) }
+    ensures { sums.new ≡ with_noted sums.old (flat_map (λ x. sums_in x.parcel) (option_to_list end.now.hand)) }
 {
     let Some(item) = end.hand() else {
         return;
@@ -84,7 +84,7 @@ fn note_hand<A: Allocator + Copy>(sums: &mut [u64], end: &PeEnd<Tally<A>, A>)
 // Notes the sums of the elements in the outbox of a PE.
 fn note_outbox<A: Allocator + Copy>(sums: &mut [u64], end: &PeEnd<Tally<A>, A>)
     requires { HasTallyPacks end.now }
-    ensures { sums.new ≡ with_sums sums.old (flat_map (λ x. sums_in x.parcel) end.now.outbox) }
+    ensures { sums.new ≡ with_noted sums.old (flat_map (λ x. sums_in x.parcel) end.now.outbox) }
 {
     let (front, back) = end.outbox().as_slices();
     note_items(sums, front);
@@ -94,7 +94,7 @@ fn note_outbox<A: Allocator + Copy>(sums: &mut [u64], end: &PeEnd<Tally<A>, A>)
 // Notes the sums of the elements in a part of an outbox.
 fn note_items<A: Allocator>(sums: &mut [u64], items: &[Item<A>])
     requires { All (λ x. IsTallyParcel x.parcel) items.now }
-    ensures { sums.new ≡ with_sums sums.old (flat_map (λ x. sums_in x.parcel) items.now) }
+    ensures { sums.new ≡ with_noted sums.old (flat_map (λ x. sums_in x.parcel) items.now) }
 {
     for item in items {
         note_parcel(sums, &item.parcel);
@@ -103,7 +103,7 @@ fn note_items<A: Allocator>(sums: &mut [u64], items: &[Item<A>])
 
 // Notes the sums of the elements in the room of a PE.
 fn note_room<A: Allocator + Copy>(sums: &mut [u64], end: &PeEnd<Tally<A>, A>)
-    ensures { sums.new ≡ with_sums sums.old (map standing_sum (values_of end.now.room)) }
+    ensures { sums.new ≡ with_noted sums.old (map standing_sum (values_of end.now.room)) }
 {
     for (_, element) in end.room().iter() {
         note(sums, element.index(), element.chare().sum());
@@ -113,7 +113,7 @@ fn note_room<A: Allocator + Copy>(sums: &mut [u64], end: &PeEnd<Tally<A>, A>)
 // Notes the sums of the elements in these queues.
 fn note_queues<A: Allocator>(sums: &mut [u64], queues: &[Vec<HeldParcel<A>, A>])
     requires { All (All IsTallyParcel) (map (λ queue. queue.items) queues.now) }
-    ensures { sums.new ≡ with_sums sums.old (flat_map (flat_map sums_in) (map (λ queue. queue.items) queues.now)) }
+    ensures { sums.new ≡ with_noted sums.old (flat_map (flat_map sums_in) (map (λ queue. queue.items) queues.now)) }
 {
     for queue in queues {
         note_parcels(sums, queue.as_slice());
@@ -123,7 +123,7 @@ fn note_queues<A: Allocator>(sums: &mut [u64], queues: &[Vec<HeldParcel<A>, A>])
 // Notes the sums of the elements in a queue.
 fn note_parcels<A: Allocator>(sums: &mut [u64], parcels: &[HeldParcel<A>])
     requires { All IsTallyParcel parcels.now }
-    ensures { sums.new ≡ with_sums sums.old (flat_map sums_in parcels.now) }
+    ensures { sums.new ≡ with_noted sums.old (flat_map sums_in parcels.now) }
 {
     for parcel in parcels {
         note_parcel(sums, parcel);
@@ -133,7 +133,7 @@ fn note_parcels<A: Allocator>(sums: &mut [u64], parcels: &[HeldParcel<A>])
 // Notes the sum of the element of a parcel, if it is one.
 fn note_parcel<A: Allocator>(sums: &mut [u64], parcel: &HeldParcel<A>)
     requires { IsTallyParcel parcel.now }
-    ensures { sums.new ≡ with_sums sums.old (sums_in parcel.now) }
+    ensures { sums.new ≡ with_noted sums.old (sums_in parcel.now) }
 {
     let Carried::Element(packed) = parcel else {
         return;

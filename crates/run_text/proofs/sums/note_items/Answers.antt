@@ -1,5 +1,5 @@
 use Rattle.run_text.specs.Sums.{sums_in}
-use Rattle.run_text.proofs.Filling.{noted_more}
+use Rattle.run_account.proofs.Noting.{noted_more}
 use Rattle.run_text.proofs.sums.note_items.Goals as goal
 
 pub loop-item-preserved : goal.loop-item-preserved

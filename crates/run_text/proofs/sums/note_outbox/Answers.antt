@@ -1,7 +1,7 @@
 use Rattle.std.proofs.Common.{◌∙◌}
 use Rattle.round_marks.proofs.Walks.{all_of_both}
 use Rattle.run_text.specs.Sums.{IsTallyParcel, sums_in}
-use Rattle.run_text.proofs.Filling.{noted_both}
+use Rattle.run_account.proofs.Noting.{noted_both}
 use Rattle.run_text.proofs.sums.note_outbox.Goals as goal
 
 pub note_items-requires-2 : goal.note_items-requires-2

@@ -1,5 +1,5 @@
 use Rattle.run_text.specs.Sums.{sums_at}
-use Rattle.run_text.proofs.Filling.{noted_more}
+use Rattle.run_account.proofs.Noting.{noted_more}
 use Rattle.run_text.proofs.sums.note_pes.Goals as goal
 
 pub loop-end-preserved : goal.loop-end-preserved

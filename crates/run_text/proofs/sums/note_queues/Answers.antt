@@ -1,8 +1,8 @@
 use Rattle.std.proofs.Common.{All, ap, map, sym, subst, ◌∙◌}
 use Rattle.std.specs.List.{flat_map}
-use Rattle.run_text.specs.Internal.{with_sums}
+use Rattle.run_account.specs.Noting.{with_noted}
 use Rattle.run_text.specs.Sums.{IsTallyParcel, sums_in}
-use Rattle.run_text.proofs.Filling.{noted_more}
+use Rattle.run_account.proofs.Noting.{noted_more}
 use Rattle.run_text.proofs.Queues.{all_queued, all_taken, queue_here, queue_inside}
 use Rattle.run_text.proofs.sums.note_queues.Goals as goal
 
@@ -25,4 +25,4 @@ loop-queue-preserved g c =
 pub returns : goal.returns
 returns g c =
     let whole = all_taken c.args.queues.now c.loop-queue.queue-index c.loop-queue-test.false in
-    c.loop-queue.invariant ∙ ap (λ v. with_sums c.args.sums.now (flat_map (flat_map sums_in) v)) whole
+    c.loop-queue.invariant ∙ ap (λ v. with_noted c.args.sums.now (flat_map (flat_map sums_in) v)) whole
