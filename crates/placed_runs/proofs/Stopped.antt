@@ -80,4 +80,5 @@ module _ {C : Type 0} (pes : ℕ) (places : List ℕ) (chares : List C) (same : 
             finished = λ none. absurd (cc);
             all_finished = λ none. absurd (cc);
             quiet = λ is. absurd (cc);
+            unfinished = λ is. absurd (cc);
           }

@@ -2,7 +2,7 @@
 
 ghost use Rattle.std.specs.Prelude.{◌≡◌, ◌<◌, All, IfOk, MatchResult, length};
 ghost use Rattle.rts_run.specs.Configs.{MayBegin, RefusesRun};
-ghost use Rattle.rts_run.specs.Outcomes.{EndsIdle, IsOutcome};
+ghost use Rattle.rts_run.specs.Outcomes.{EndsIdle, IsOutcome, StopsEarly};
 
 use crate::opening::placed_outcome;
 use carried_runs::{Pauses, carry_on_in_parts};
@@ -44,6 +44,7 @@ pub fn run_placed<
     ensures answer { MatchResult result (λ _. MayBegin config.now (length chares.items)) (RefusesRun config.now (length chares.items)) }
     ensures outcome { IfOk result (IsOutcome C.step C.fits C.pack C.refuses chares.items config.now.pes options.now.strategy) }
     ensures idle { IfOk result (EndsIdle options.now.idle) }
+    ensures stopped { IfOk result StopsEarly }
     ensures homes { IfOk result (λ o. o.homes ≡ places.items) }
 {
     if let Some(_setting) = config.first_outside(chares.len()) {
