@@ -1,6 +1,6 @@
 //! The lock around a board: a round of two elements on two PEs, call by call, decided alone and by two workers.
 
-ghost use Rattle.std.specs.Prelude.{◌≡◌};
+ghost use Rattle.std.specs.Prelude.{◌≡◌, []};
 ghost use Rattle.sync_board.specs.declared.strategy.Strategy.TheVariants.{Least};
 
 use at_sync::{Barrier, Board, BoardError};
@@ -90,6 +90,7 @@ fn passes<J: BoardSize<A>, R: Threads + Wait + Sync, A: Allocator + Copy>(
     requires elements { J.elements ≡ 2 }
     requires pes { J.pes ≡ 2 }
     requires by_strategy { J.strategy ≡ Least }
+    requires earlier { J.earlier ≡ [] }
 {
     let barrier = Barrier::<J, A>::new(Board::new(alloc, 2, 2)?);
     let decided = is_decided(rt, &barrier, alone) && have_places(rt, &barrier);
