@@ -95,10 +95,7 @@ fn note_all<C: Chare<A>, H: Openings<C>, A: Allocator>(
 
 // Notes the elements of a PE.
 #[tactic(auto, using(run_account::proofs::Noting::noted_append))]
-fn note_pe<C: Chare<A>, H: Openings<C>, A: Allocator>(
-    places: &mut [Pe],
-    state: &PeState<C, H, A>,
-)
+fn note_pe<C: Chare<A>, H: Openings<C>, A: Allocator>(places: &mut [Pe], state: &PeState<C, H, A>)
     requires named { All (λ q. q < H.pes) places.old }
     ensures noted { places.new ≡ with_noted places.old (sightings H.pes state.now) }
     ensures named { All (λ q. q < H.pes) places.new }
@@ -138,10 +135,7 @@ fn note_standing<C: Chare<A>, H: Openings<C>, A: Allocator>(
 }
 
 // Notes the element that has just come to a PE, if one has.
-fn note_hand<C: Chare<A>, H: Openings<C>, A: Allocator>(
-    places: &mut [Pe],
-    state: &PeState<C, H, A>,
-)
+fn note_hand<C: Chare<A>, H: Openings<C>, A: Allocator>(places: &mut [Pe], state: &PeState<C, H, A>)
     requires named { All (λ q. q < H.pes) places.old }
     ensures noted { places.new ≡ with_noted places.old (flat_map (sighted_in H.pes state.now.me) (option_to_list state.now.hand)) }
     ensures named { All (λ q. q < H.pes) places.new }

@@ -10,6 +10,6 @@ invariant-loop-element g l = record {
   me : l.me ≡ l.state.me;
   here : l.me < g.H.Openings.pes;
   noted : with_noted l.places (map (λ el. (el.index, l.me)) (values_of l.element-iterator))
-    ≡ with_noted l.initial.places (map (λ el. (el.index, l.me)) (values_of l.state.room));
+      ≡ with_noted l.initial.places (map (λ el. (el.index, l.me)) (values_of l.state.room));
   named : All (λ q. q < g.H.Openings.pes) l.places;
 }
