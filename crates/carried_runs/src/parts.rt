@@ -1,6 +1,7 @@
 //! Runs that pause after each round.
 
-ghost use Rattle.std.specs.Prelude.{◌≡◌, IfOk, MatchResult, length};
+ghost use Rattle.std.specs.Prelude.{◌≡◌, ◌≢◌, IfOk, MatchBool, MatchResult, Some, length};
+ghost use Rattle.pe_worker.specs.declared.fault.Fault.TheVariants.{Stopped};
 ghost use Rattle.rts_core.specs.Worlds.{opening_words};
 ghost use Rattle.rts_run.specs.Configs.{MayBegin, RefusesRun};
 ghost use Rattle.rts_run.specs.Outcomes.{EndsIdle, IsOutcome, StopsEarly};
@@ -159,11 +160,18 @@ fn go_on<
 {
     let mut outcome = outcome;
     for _ in 0..Limits::ROUND {
-        if outcome.fault() != Some(Fault::Stopped) || !pausing.withdraw() {
+        if !is_stopped(&outcome) || !pausing.withdraw() {
             break;
         }
         pauses.paused(&outcome);
         outcome = carry_on(rt, alloc, config, options, gate, pausing, opening, outcome)?;
     }
     Ok(outcome)
+}
+
+// Whether a run was stopped, and no worker met another fault.
+fn is_stopped<C: Chare<A>, A: Allocator>(outcome: &Outcome<C, A>) -> bool
+    ensures stopped { MatchBool result (outcome.now.fault ≡ Some Stopped) (outcome.now.fault ≢ Some Stopped) }
+{
+    matches!(outcome.fault(), Some(Fault::Stopped))
 }

@@ -2,6 +2,7 @@ use Rattle.std.proofs.Common.{◌≡◌, ◌∙◌, ℕ, ap, length, subst, sym}
 use Rattle.rts_core.specs.Worlds.{opening_words}
 use Rattle.rts_run.specs.Configs.{MayBegin, RefusesRun}
 use Rattle.rts_run.specs.declared.error.RunError.{RunError}
+use Rattle.rts_run.specs.declared.error.RunError.TheVariants as Why
 use Rattle.hot_spot_run.proofs.Chains.{many_strips, may_not_begin}
 use Rattle.hot_spot_run.proofs.chain.run_chain_watched.Goals as goal
 
@@ -27,6 +28,7 @@ returns-in-Err-Config-clause-refused g c =
     let chain = c.args.chain.now in
     let many : length c.in-Ok.strips.items ≡ length chain.cells.now =
     ap length c.in-Ok.ensures.opened ∙ many_strips chain.mode chain.rounds chain.work 0 chain.cells.now in
-    let out = subst (λ (e : RunError). RefusesRun c.args.config.now (length c.in-Ok.strips.items) e) c.in-Err-Config.field-0-is c.in-Err-Config.ensures.answer in
-    λ limit may. may_not_begin c.args.config.now (length c.in-Ok.strips.items) c.in-Err-Config.field-0-0 out
+    let out : RefusesRun c.args.config.now (length c.in-Ok.strips.items) Why.Config =
+    subst (λ (e : RunError). RefusesRun c.args.config.now (length c.in-Ok.strips.items) e) c.in-Err-Config.field-0-is c.in-Err-Config.ensures.answer in
+    λ limit may. may_not_begin c.args.config.now (length c.in-Ok.strips.items) out.0 out.1
     (subst (λ (n : ℕ). MayBegin c.args.config.now n) (sym many) may.1)
