@@ -22,7 +22,7 @@ use program_files::{InputFile, Watched, open_input};
 use program_words::{on_words, refused};
 use report_command_line::{NumbersError, ReportOptions, asked, numbers, refuse_numbers};
 use std::fs::Files;
-use std::io::{self, Input};
+use std::io::{self, Input, Write};
 use std::process::ExitCode;
 use streams::{Noted, write_out};
 
@@ -69,7 +69,7 @@ fn print_each(rt: &HostRuntime, asked: &ReportOptions<'_>, procs: &[u32], style:
 {
     let mut status = 0;
     for name in asked.files.as_slice() {
-        let ended = print_one(rt, name, procs, asked.tolerance, style);
+        let ended = print_one(rt, &mut rt.stderr(), name, procs, asked.tolerance, style);
         if status == 0 {
             status = ended.status();
         }
@@ -80,9 +80,10 @@ fn print_each(rt: &HostRuntime, asked: &ReportOptions<'_>, procs: &[u32], style:
     status
 }
 
-// Prints the report on a file to the standard output, or its fault to the standard error.
-fn print_one(
-    rt: &HostRuntime,
+// Prints the report on a file to the standard output, or its fault to `errors`.
+fn print_one<R: Files + Input + Print + AllocGlobal, E: Write>(
+    rt: &R,
+    errors: &mut E,
     name: &str,
     procs: &[u32],
     tolerance: Option<Tolerance>,
@@ -97,11 +98,11 @@ fn print_one(
     let (ended, reason) = report_file(alloc, file, &mut output, name, procs, tolerance, style);
     if let Some(said) = said_of(rt, &head, ended) {
         let todo = dump_advice(DumpError::Short(0));
-        let _ = eprintln!(rt; "lb_report: {name}: the dump {said}; {todo}");
+        let _ = writeln!(errors, "lb_report: {name}: the dump {said}; {todo}");
         return ended;
     }
     let reason = reason.or(output.failure());
-    let _told = tell(alloc, &mut rt.stderr(), name, ended, reason);
+    let _told = tell(alloc, errors, name, ended, reason);
     ended
 }
 
@@ -118,7 +119,7 @@ fn open_watched<'a, R: Files + Input>(
 }
 
 // Where a dump that is cut off ends, and of how many bytes.
-fn said_of(rt: &HostRuntime, head: &HeadWitness, ended: Ended) -> Option<String> {
+fn said_of<R: AllocGlobal>(rt: &R, head: &HeadWitness, ended: Ended) -> Option<String> {
     match ended {
         Ended::Dump(DumpError::Short(end)) => { said_of_end(rt.alloc(), head, u64::from(end)).ok() }
         _ => None,

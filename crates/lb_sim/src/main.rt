@@ -23,7 +23,7 @@ use lb_replay::{Asked, Ended, Task, asked, dump_advice, refuse_both, run};
 use program_files::{InputFile, Watched, open_input};
 use program_words::{BAD_FILE, on_words, refused};
 use std::fs::Files;
-use std::io::{self, Input};
+use std::io::{self, Input, Write};
 use std::process::ExitCode;
 use streams::{Advice, Noted};
 
@@ -47,23 +47,28 @@ fn do_task(rt: &HostRuntime, asked: &Asked<'_>) -> u8
     requires few_pes { ForSome asked.now.procs (λ p. p ≤ Limits.PES) }
 {
     match asked.task() {
-        Ok(task) => run_task(rt, asked.file, task),
+        Ok(task) => run_task(rt, &mut rt.stderr(), asked.file, task),
         Err(clash) => refuse_both(&mut rt.stderr(), clash),
     }
 }
 
 // Opens the file, or the standard input for `-`, does the task to the standard output, and returns the status. Where a read failed or the
-// file has no whole dump, the file's name, the system's reason, and what to do are printed to the standard error; and where the
-// standard output did not take the text, that.
-fn run_task(rt: &HostRuntime, name: &str, task: Task) -> u8
+// file has no whole dump, the file's name, the system's reason, and what to do are written to `errors`; and where the standard output did
+// not take the text, that.
+fn run_task<R: Files + Input + Print + AllocGlobal, E: Write>(
+    rt: &R,
+    errors: &mut E,
+    name: &str,
+    task: Task,
+) -> u8
     requires { MayRun task }
 {
     let mut head = HeadWitness::new();
     let file = open_watched(rt, name, &mut head);
     let mut output = Noted::new(io::writer(rt));
     let (ended, reason) = run(rt.alloc(), task, file, &mut output);
-    tell_output(rt, output.failure());
-    tell_file(rt, name, &head, ended, reason);
+    tell_output(errors, output.failure());
+    tell_file(rt, errors, name, &head, ended, reason);
     ended.status()
 }
 
@@ -80,8 +85,9 @@ fn open_watched<'a, R: Files + Input>(
 }
 
 // Writes what was wrong with the file, if anything was, and what to do about it.
-fn tell_file(
-    rt: &HostRuntime,
+fn tell_file<R: AllocGlobal, E: Write>(
+    rt: &R,
+    errors: &mut E,
     name: &str,
     head: &HeadWitness,
     ended: Ended,
@@ -94,14 +100,14 @@ fn tell_file(
             wrong: &wrong,
             ..advice
         };
-        let _told = advice.tell(rt.alloc(), &mut rt.stderr(), name, reason, is_fault);
+        let _told = advice.tell(rt.alloc(), errors, name, reason, is_fault);
         return;
     }
-    let _told = advice.tell(rt.alloc(), &mut rt.stderr(), name, reason, is_fault);
+    let _told = advice.tell(rt.alloc(), errors, name, reason, is_fault);
 }
 
 // Where a dump that is cut off ends, and what to do about it.
-fn wrong_of(rt: &HostRuntime, head: &HeadWitness, ended: Ended) -> Option<String> {
+fn wrong_of<R: AllocGlobal>(rt: &R, head: &HeadWitness, ended: Ended) -> Option<String> {
     let Ended::Dump(fault) = ended else {
         return None;
     };
@@ -114,9 +120,10 @@ fn wrong_of(rt: &HostRuntime, head: &HeadWitness, ended: Ended) -> Option<String
 }
 
 // Writes why the standard output did not take the whole text, where it did not, and what to do.
-fn tell_output(rt: &HostRuntime, failure: Option<io::Error>) {
+fn tell_output<E: Write>(errors: &mut E, failure: Option<io::Error>) {
     if let Some(reason) = failure {
-        let _ = eprintln!(rt;
+        let _ = writeln!(
+            errors,
             "lb_sim: standard output: {reason}; give it a place that takes all of the text"
         );
     }
