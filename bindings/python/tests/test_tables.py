@@ -1,6 +1,8 @@
 """Tables of elements: CSV and NPY, read as runs; and what is handed on as DataFrames and HTML."""
+import gzip
 import io
 import os
+import pathlib
 import random
 import re
 import sys
@@ -24,6 +26,12 @@ LOAD = "a finite number from 0 on is wanted"
 def npy(array):
     file = io.BytesIO()
     np.save(file, array)
+    return file.getvalue()
+
+
+def npz():
+    file = io.BytesIO()
+    np.savez(file, loads=np.array([1, 2]))
     return file.getvalue()
 
 
@@ -61,6 +69,14 @@ class Read(TimedTest):
                 self.assertEqual(tezgumi.read_table(path, step=5), THREE)
                 with mock.patch.object(sys, "stdin", types.SimpleNamespace(buffer=io.BytesIO(data))):
                     self.assertEqual(tezgumi.read_table("-", step=5), THREE)
+                self.assertEqual(tezgumi.read_table(pathlib.Path(path), step=5), THREE)
+            with open(path, "w", encoding="utf-8") as file:
+                file.write("1,1,0\n1,-1,0\n")
+            for given in (path, pathlib.Path(path), os.fsencode(path)):
+                self.assertRaisesRegex(
+                    tezgumi.TableError, f"^table: {re.escape(path)}: line 2, column 2: the bytes are '-1', and a whole number from 0 to 4294967295 is wanted$",
+                    tezgumi.read_table, given)
+            self.assertRaises(FileNotFoundError, tezgumi.read_table, path + ".csv")
 
     def test_comments_and_empty_lines(self):
         for text in (
@@ -153,7 +169,8 @@ class Read(TimedTest):
                 ("load,a\n1,\"a\"b\n", "line 2 is no line of CSV "), (b"1\n2\n\xff\n", "line 3 has the byte 0xff at byte 4, and a text in UTF-8 is wanted"),
                 ("load\n1\n".encode("utf-16"), "the text is UTF-16, and UTF-8 is wanted: save it as CSV in UTF-8"),
                 (read_bytes(example("three-elements.lbd2")), "it is a dump, and a table is wanted: read_dump reads dumps"),
-                (b"PK\x03\x04", "it is an archive, as .npz and .xlsx are: save one table as .npy or .csv")):
+                (b"PK\x03\x04", "it is an archive, as .npz and .xlsx are: save one table as .npy or .csv"),
+                (gzip.compress(b"1\n"), "it is compressed, as .gz is: unpack it first")):
             with self.subTest(text=text):
                 data = text if isinstance(text, bytes) else text.encode()
                 self.assertRaisesRegex(tezgumi.TableError, "^table: " + re.escape(fault), table_of, data, 2)
@@ -275,6 +292,9 @@ class EitherKind(TimedTest):
                 ("a.lbd2", b"1,2,0\n", "DumpError", r"^dump: not LBD1 or LBD2 \(.*/a.lbd2: byte 0 is b'1'\)$"),
                 ("a.csv", b"LBD1\0", "DumpError", r"^dump: ends at byte 5 \(.*/a.csv\)$"), ("a.npy", b"1,2,0\n", "TableError", "^table: .*/a.npy: it begins with b'1,2,0.n'"),
                 ("a", b"1,2,0\n1,2\n", "TableError", "^table: .*/a: line 2 has 2 columns, and 3 are wanted: load,bytes,place$"),
+                ("a.npz", npz(), "TableError", "^table: .*/a.npz: it is an archive, as .npz and .xlsx are: save one table as .npy or .csv$"),
+                ("a.csv.gz", gzip.compress(b"1\n"), "TableError", "^table: .*/a.csv.gz: it is compressed, as .gz is: unpack it first$"),
+                ("a.txt", "load\n1\n".encode("utf-16"), "TableError", "^table: .*/a.txt: the text is UTF-16, and UTF-8 is wanted: save it as CSV in UTF-8$"),
                 ("a", b"1\n", "InputError", "/a has no places, so the number of PEs has to be given: procs, or --procs P$")):
             with self.subTest(name=name, data=data):
                 self.assertRaisesRegex(getattr(tezgumi, kind), fault, self.read, name, data)

@@ -18,6 +18,8 @@ WANTED = {
     "place": ("the place is {}", "there is no place", "a whole number from 0 to {most} is wanted"),
 }
 """Of each column what is told of a value, what where there is none, and what is wanted."""
+UTF_16 = (b"\xff\xfe", b"\xfe\xff")
+"""How texts begin that are no UTF-8."""
 _NUMBER = re.compile(r"[+-]?([0-9]+(\.[0-9]*)?|\.[0-9]+)([eE][+-]?[0-9]+)?")
 _DIGITS = 400
 _COMMAS = "; columns are separated by commas"
@@ -103,9 +105,8 @@ class _Lines:
 
 
 def _text(data: bytes) -> str:
-    for mark in (b"\xff\xfe", b"\xfe\xff"):
-        if data.startswith(mark):
-            raise TableError("the text is UTF-16, and UTF-8 is wanted: save it as CSV in UTF-8")
+    if data.startswith(UTF_16):
+        raise TableError("the text is UTF-16, and UTF-8 is wanted: save it as CSV in UTF-8")
     try:
         text = data.decode("utf-8-sig")
     except UnicodeDecodeError as error:

@@ -30,7 +30,7 @@ def read_bytes(path: Path, most: int = -1) -> bytes:
 
 def told(path: Path) -> str:
     """What a file is called where something is said of it."""
-    return "standard input" if os.fspath(path) == STDIN else os.fspath(path)
+    return "standard input" if os.fspath(path) == STDIN else os.fsdecode(path)
 
 
 def refuse_one_input_twice(paths: Iterable[Path | None]) -> None:

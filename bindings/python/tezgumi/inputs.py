@@ -3,12 +3,12 @@ from __future__ import annotations
 
 import os
 
-from .csv_tables import is_csv
+from .csv_tables import UTF_16, is_csv
 from .dumps import MOST_BYTES, Dump, decode
 from .errors import DumpError, TableError
 from .files import Path, opened, told
 from .npy_tables import MAGIC
-from .tables import table_of
+from .tables import PACKED, table_of
 
 _HEAD = 65_536
 _NO_TABLE = "; and it is no table, which begins with a number or with names of columns, among them load"
@@ -22,7 +22,7 @@ def read_input(path: Path, spread_over: int | None = None, step: int = 0) -> Dum
     .csv, .npy, .lbd1, .lbd2. A file of another name is a CSV where it begins like one, and else a dump. DumpError and TableError tell what
     is wrong with it, by its name. No more is read than the longest dump has, and a byte, of what looks like a dump.
     """
-    name, ending = told(path), os.path.splitext(os.fspath(path))[1].lower()
+    name, ending = told(path), os.path.splitext(os.fsdecode(path))[1].lower()
     is_named_table = ending in (".csv", ".npy")
     try:
         with opened(path) as file:
@@ -43,4 +43,5 @@ def read_input(path: Path, spread_over: int | None = None, step: int = 0) -> Dum
 def _is_table(head: bytes, ending: str) -> bool:
     if head.startswith(b"LBD"):
         return False
-    return head.startswith(MAGIC) or ending in (".csv", ".npy") or ending not in (".lbd1", ".lbd2") and is_csv(head)
+    # Of what is packed, and of UTF-16, the reader of tables says what to do.
+    return head.startswith((MAGIC, *PACKED, *UTF_16)) or ending in (".csv", ".npy") or ending not in (".lbd1", ".lbd2") and is_csv(head)

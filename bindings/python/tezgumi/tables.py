@@ -1,6 +1,7 @@
 """Runs from tables: CSV and NPY, with a row for each element: load[,bytes[,place]]."""
 from __future__ import annotations
 
+import os
 from typing import Any, Mapping
 
 import numpy as np
@@ -11,6 +12,13 @@ from .files import Path, read_bytes, told
 from .lists import whole_number
 from .npy_tables import MAGIC, npy_columns
 from .runs import PES, Run
+
+
+PACKED = {
+    b"PK\x03\x04": "it is an archive, as .npz and .xlsx are: save one table as .npy or .csv",
+    b"\x1f\x8b": "it is compressed, as .gz is: unpack it first",
+}
+"""How files begin that have tables in them and are none, and what to do."""
 
 
 class NoPlaces(InputError):
@@ -29,7 +37,7 @@ def read_table(path: Path, procs: int | None = None, step: int = 0) -> Run:
     floats that are whole, as 10.0. `procs` is the number of PEs that the elements are on. Where it is None that is one more than the
     greatest place. TableError tells where the table is wrong, and what is wanted; InputError that no number of PEs is known.
     """
-    return table_of(read_bytes(path), procs, step, name=told(path), ending=str(path))
+    return table_of(read_bytes(path), procs, step, name=told(path), ending=os.fsdecode(path))
 
 
 def table_of(
@@ -42,8 +50,9 @@ def table_of(
     try:
         if data.startswith(b"LBD"):
             raise TableError("it is a dump, and a table is wanted: read_dump reads dumps")
-        if data.startswith(b"PK\x03\x04"):
-            raise TableError("it is an archive, as .npz and .xlsx are: save one table as .npy or .csv")
+        for start, hint in PACKED.items():
+            if data.startswith(start):
+                raise TableError(hint)
         is_npy = data.startswith(MAGIC) or ending.lower().endswith(".npy")
         columns = npy_columns(data, procs) if is_npy else csv_columns(data, procs)
         return _run_of(columns, procs, step, spread_over)
