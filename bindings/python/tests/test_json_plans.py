@@ -11,6 +11,7 @@ import slow_checker
 import tezgumi
 from support import THREE, TimedTest, as_lists, example, front, random_run
 from test_checking import FORGED, RIGHT, forge, forge_near
+from test_tables import spoiled
 
 # The plan of the three elements by hand, as docs/FORMATS.md has it in a dump.
 TOLD = {
@@ -127,6 +128,18 @@ class Forged(TimedTest):
             run = replace(run, places=np.sort(run.places))
             forged = forge_near(random.Random(seed), run, plain_decisions.near(run, 300))
             self.assert_as_checked(run, forged, slow_checker.first_near_flaw)
+
+    def test_spoiled_at_random(self):
+        """Whatever a text is, it is a decision, or refused as a plan."""
+        rng, read_well = random.Random(1), 0
+        given = [(tezgumi.json_of(run, decision).encode(), run) for run, decision in ((THREE, RIGHT), (ten().run, near_ten()), (FOUR, REORDERED))]
+        for _ in range(3000):
+            text, run = rng.choice(given)
+            try:
+                read_well += isinstance(tezgumi.Plan.from_json(spoiled(rng, text), run, check=False), tezgumi.Decision)
+            except tezgumi.PlanError as error:
+                self.assertTrue(str(error).startswith("plan: "))
+        self.assertGreater(read_well, 20)
 
     def assert_as_checked(self, run, forged, first_flaw):
         """What the reader makes of a forged decision has the places that the forged moves lead to, and the flaw that a plain checker tells."""

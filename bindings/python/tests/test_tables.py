@@ -29,6 +29,23 @@ def npy(array):
     return file.getvalue()
 
 
+def spoiled(rng, data):
+    """The bytes with one to four of them changed, put in, left out or said twice."""
+    text = bytearray(data)
+    for _ in range(rng.randint(1, 4)):
+        at, letter = rng.randrange(len(text) + 1), rng.choice(b"0123456789.,-+eE#\"\n\r \t;'\0(){}[]:fiu\xff")
+        kind = rng.randrange(4)
+        if kind == 0 and at < len(text):
+            text[at] = letter
+        elif kind == 1:
+            text[at:at] = bytes([letter])
+        elif kind == 2:
+            del text[at:at + rng.randint(1, 5)]
+        else:
+            text[at:at] = text[rng.randrange(len(text) + 1):][:rng.randint(0, 12)]
+    return bytes(text)
+
+
 def npz():
     file = io.BytesIO()
     np.savez(file, loads=np.array([1, 2]))
@@ -251,6 +268,21 @@ class Read(TimedTest):
             file = io.BytesIO()
             np.lib.format.write_array(file, np.array([[1, 10, 0], [1, 9, 1], [2, 8, 0]]), version)
             self.assertEqual(table_of(file.getvalue(), step=5), THREE)
+
+    def test_spoiled_at_random(self):
+        """Whatever is in a file, it is a run, or refused as a table, or wants a number of PEs."""
+        rng, read = random.Random(1), 0
+        given = [THREE_CSV.encode(), b"load,bytes,place\n" + THREE_CSV.encode(), b"# place,load\r\n0,0.5\r\n1,1e3\r\n", npy(np.array([[1, 10, 0], [1, 9, 1]])),
+                 npy(np.array([0.5, 0.25])), npy(np.array([(0, 1, 10)], [("place", "u1"), ("load", ">i4"), ("bytes", "<u8")]))]
+        for _ in range(3000):
+            data = spoiled(rng, rng.choice(given))
+            try:
+                read += len(table_of(data, rng.choice((None, 2)), ending=rng.choice(("", ".npy", ".csv")))) > 0
+            except tezgumi.TableError as error:
+                self.assertTrue(str(error).startswith("table: "))
+            except tezgumi.InputError as error:
+                self.assertIn("has no places", str(error))
+        self.assertGreater(read, 50)
 
     def test_what_is_no_table(self):
         for name in ("three-elements.lbd1", "ten-elements.lbd2", "README.md", "worked.workload"):

@@ -32,7 +32,8 @@ def main(words: Sequence[str] | None = None) -> int:
     asking = parser()
     asked = asking.parse_args(words if parser is _parser else words[1:])
     _refuse_clashes(asking, asked)
-    status, fault = RIGHT, None
+    status = RIGHT
+    fault: str | None = None
     try:
         status = answer(asked)
     except NoPlaces as error:

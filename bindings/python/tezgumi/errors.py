@@ -1,4 +1,10 @@
 """What this package refuses or reports."""
+from __future__ import annotations
+
+from typing import TYPE_CHECKING
+
+if TYPE_CHECKING:
+    from .checking import Verdict
 
 
 class TezgumiError(Exception):
@@ -52,6 +58,6 @@ class TableError(InputError):
 class PlanError(TezgumiError, ValueError):
     """A text that is no plan in JSON, a plan for another run, or one that the check refuses: then `verdict` has what that says."""
 
-    def __init__(self, fault: str, verdict: object = None) -> None:
+    def __init__(self, fault: str, verdict: Verdict | None = None) -> None:
         self.fault, self.verdict = fault, verdict
         super().__init__(f"plan: {fault}")

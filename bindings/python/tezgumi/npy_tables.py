@@ -34,8 +34,9 @@ def _array(data: bytes) -> NDArray[Any]:
     if not data.startswith(MAGIC):
         raise TableError(f"it begins with {data[:6]!r}, and a file of numpy.save with {MAGIC!r}")
     head, at = _head(data)
+    formats: Any = np.lib.format
     try:
-        kind = np.lib.format.descr_to_dtype(head["descr"])
+        kind: np.dtype[Any] = formats.descr_to_dtype(head["descr"])
     except Exception as error:  # whatever numpy says of a type that is none
         raise TableError(f"no type of numpy: {head['descr']!r:.60} ({error})") from None
     if kind.hasobject or kind.subdtype or not kind.itemsize:
