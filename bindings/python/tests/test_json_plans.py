@@ -91,6 +91,16 @@ class Read(TimedTest):
             tezgumi.PlanError, "^plan: a ReorderedDecision is wanted, and it is a NearDecision$", read, text, ten().run, tezgumi.ReorderedDecision, check=False)
         self.assertRaisesRegex(tezgumi.PlanError, "^plan: a NearDecision is wanted, and it is a Decision$", read, TOLD, THREE, tezgumi.NearDecision)
 
+    def test_without_prices(self):
+        for run, decision in ((ten().run, near_ten(keep_order=True)), (FOUR, REORDERED)):
+            bare = replace(decision, block_prices=[], pe_prices=[])
+            self.assertEqual(read(tezgumi.json_of(run, bare), run, check=False), bare)
+        bare = replace(near_ten(keep_order=True), block_prices=[], pe_prices=[])
+        self.assertEqual(read(tezgumi.json_of(ten().run, bare), ten().run), bare)
+        for run, decision in ((THREE, RIGHT), (ten().run, near_ten())):
+            text = tezgumi.json_of(run, replace(decision, pe_prices=[]))
+            self.assertRaisesRegex(tezgumi.PlanError, f"^plan: there are 0 pe_prices, and for {run.procs} PEs {run.procs} are wanted$", read, text, run, check=False)
+
     def test_without_the_library(self):
         with mock.patch.object(tezgumi.json_plans, "checked_by", side_effect=AssertionError):
             self.assertEqual(read(TOLD, check=False), RIGHT)
@@ -215,7 +225,8 @@ class Forged(TimedTest):
             for name in [name for name in {**counts, **more} if name in told]:
                 wanted = told["pes"] + {**counts, **more}[name]
                 self.assertEqual(len(told[name]), wanted)
-                for numbers in (told[name][:-1], told[name] + [0], *([[]] if name != "stops" else [])):
+                may_be_none = name == "stops" or "prices" in name and told is reordered
+                for numbers in (told[name][:-1], told[name] + [0], *([] if may_be_none else [[]])):
                     self.refuses(f"there are {len(numbers)} {name}, and for {told['pes']} PEs {wanted}( or 0)? are wanted", {**told, name: numbers}, run)
         self.assertEqual(read({**TOLD, "stops": []}, check=False).stops.size, 0)
         for one, other, told, run in (("step_places", "step_rises", near, ten().run), ("level_places", "level_bytes", reordered, FOUR)):

@@ -217,6 +217,15 @@ class Program(TimedTest):
             self.assertEqual((status, out), (2, ""))
             self.assertIn(text, errors)
 
+    def test_help(self):
+        for words, told in ((("--help",), "--check PLANS"), (("page", "--help"), "--trace FILE"), (("timeline", "--help"), "--unit TEXT")):
+            status, out, errors = said(*words)
+            self.assertEqual((status, errors), (0, ""))
+            self.assertIn(told, out)
+            self.assertIn("is the standard input", " ".join(out.split()))
+            self.assertEqual("a table, CSV or NPY, of load[,bytes[,place]]" in " ".join(out.split()), words[0] != "timeline")
+        self.assertEqual(said("--version"), (0, f"tezgumi {tezgumi.__version__}\n", ""))
+
     def test_faults_of_dumps(self):
         self.assertEqual(call("no-such-file")[:2], (3, ""))
         self.assertTrue(call("no-such-file")[2].startswith("dump: read failed ("))

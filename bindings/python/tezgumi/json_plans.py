@@ -84,7 +84,9 @@ def _decision_of(text: Union[str, bytes], run: Run) -> Decision:
     _refuse_other_names(told, names, kind.__name__)
     _refuse_other_run(told, run)
     pes = _whole(told["pes"], 1, PES, "pes")
-    values = {field: _field(field, told[field], pes, len(run)) for field in names if field != "pes"}
+    # Within a tolerance no price may count: in the present order of the PEs, and where bounds prove the names.
+    is_priced = kind is not ReorderedDecision and told.get("keep_order") is not True
+    values = {field: _field(field, told[field], pes, len(run), is_priced) for field in names if field != "pes"}
     for one, other in (("step_places", "step_rises"), ("level_places", "level_bytes")):
         if one in values and len(values[one]) != len(values[other]):
             _refuse(f"there are {len(values[one])} {one} and {len(values[other])} {other}, and as many are wanted")
@@ -158,7 +160,7 @@ def _refuse_other_run(told: Dict[str, Any], run: Run) -> None:
         _refuse(f"its loads are counted in units of {unit!r}, and those of this run of {run.unit!r}")
 
 
-def _field(name: str, value: Any, pes: int, elements: int) -> Any:
+def _field(name: str, value: Any, pes: int, elements: int, is_priced: bool) -> Any:
     if name in _NUMBERS:
         return _whole(value, 0, _NUMBERS[name], name)
     if name == "keep_order":
@@ -169,8 +171,8 @@ def _field(name: str, value: Any, pes: int, elements: int) -> Any:
         return _moves(value, elements)
     rule = _LISTS[name]
     numbers = _list(value, name)
-    counts = rule.count(pes) if rule.count else None
-    if counts is not None and len(numbers) not in counts:
+    counts = rule.count(pes) if rule.count else (len(numbers),)
+    if len(numbers) not in counts and (numbers or is_priced or "prices" not in name):
         _refuse(f"there are {len(numbers)} {name}, and for {pes} PEs {' or '.join(map(str, counts))} are wanted")
     for index, number in enumerate(numbers):
         _whole(number, rule.least, rule.most, f"{name}[{index}]")
