@@ -53,7 +53,8 @@ class Written(TimedTest):
 class Read(TimedTest):
     def test_what_was_written(self):
         for run, decision in ((THREE, RIGHT), ten(), (ten().run, near_ten()), (ten().run, near_ten(keep_order=True)), (FOUR, REORDERED)):
-            for text in (tezgumi.json_of(run, decision), tezgumi.json_of(run, decision, tezgumi.Verdict()).encode(), b"\xef\xbb\xbf" + tezgumi.json_of(run, decision).encode()):
+            for text in (tezgumi.json_of(run, decision), tezgumi.json_of(run, decision, tezgumi.Verdict()).encode(),
+                b"\xef\xbb\xbf" + tezgumi.json_of(run, decision).encode()):
                 again = tezgumi.Plan.from_json(text, run, check=False)
                 self.assertEqual(again, decision)
                 self.assertIs(type(again), type(decision))
@@ -88,7 +89,8 @@ class Read(TimedTest):
         for kind in (tezgumi.Plan, tezgumi.Decision, tezgumi.NearDecision):
             self.assertEqual(read(text, ten().run, kind, check=False), near)
         self.assertRaisesRegex(
-            tezgumi.PlanError, "^plan: a ReorderedDecision is wanted, and it is a NearDecision$", read, text, ten().run, tezgumi.ReorderedDecision, check=False)
+            tezgumi.PlanError, "^plan: a ReorderedDecision is wanted, and it is a NearDecision$", read, text, ten().run, tezgumi.ReorderedDecision,
+            check=False)
         self.assertRaisesRegex(tezgumi.PlanError, "^plan: a NearDecision is wanted, and it is a Decision$", read, TOLD, THREE, tezgumi.NearDecision)
 
     def test_without_prices(self):
@@ -99,7 +101,8 @@ class Read(TimedTest):
         self.assertEqual(read(tezgumi.json_of(ten().run, bare), ten().run), bare)
         for run, decision in ((THREE, RIGHT), (ten().run, near_ten())):
             text = tezgumi.json_of(run, replace(decision, pe_prices=[]))
-            self.assertRaisesRegex(tezgumi.PlanError, f"^plan: there are 0 pe_prices, and for {run.procs} PEs {run.procs} are wanted$", read, text, run, check=False)
+            self.assertRaisesRegex(tezgumi.PlanError, f"^plan: there are 0 pe_prices, and for {run.procs} PEs {run.procs} are wanted$", read, text,
+                run, check=False)
 
     def test_without_the_library(self):
         with mock.patch.object(tezgumi.json_plans, "checked_by", side_effect=AssertionError):
@@ -167,7 +170,8 @@ class Forged(TimedTest):
 
     def test_numbers_that_are_none(self):
         words = ((None, "null"), (True, "true"), (0.5, "0.5"), (1.0, "1.0"), ("1", '"1"'), ((), "a list of 0"), ((1, (2,)), "a list of 2"))
-        for run, told in ((THREE, TOLD), (ten().run, json.loads(tezgumi.json_of(ten().run, near_ten()))), (FOUR, json.loads(tezgumi.json_of(FOUR, REORDERED)))):
+        for run, told in ((THREE, TOLD), (ten().run, json.loads(tezgumi.json_of(ten().run, near_ten()))),
+            (FOUR, json.loads(tezgumi.json_of(FOUR, REORDERED)))):
             for name, value in told.items():
                 if name in ("within", "kind", "unit", "keep_order"):
                     continue
@@ -184,13 +188,16 @@ class Forged(TimedTest):
                             at = f"{name}\\[{place}\\]" if place is not None else name
                             shown_as = f"{at} is {shown}, and a whole number from -?[0-9]+ to [0-9]+ is wanted"
                         self.refuses(shown_as, {**told, name: changed}, run, check=False)
-        for row, text in (([0, 0], "moves\\[0\\] is a list of 2, and .*"), ([0, 0, 1.5], "moves\\[0\\].planned is 1.5, .*"), ([3, 0, 1], "moves\\[0\\].element is 3, .* from 0 to 2 .*"),
-                          ([0, -1, 1], "moves\\[0\\].present is -1, .*"), ([0, 4096, 1], "moves\\[0\\].present is 4096, .*"), ([0, 0, 4096], "moves\\[0\\].planned is 4096, .*")):
+        for row, text in (([0, 0], "moves\\[0\\] is a list of 2, and .*"), ([0, 0, 1.5], "moves\\[0\\].planned is 1.5, .*"),
+            ([3, 0, 1], "moves\\[0\\].element is 3, .* from 0 to 2 .*"),
+                          ([0, -1, 1], "moves\\[0\\].present is -1, .*"), ([0, 4096, 1], "moves\\[0\\].present is 4096, .*"),
+                          ([0, 0, 4096], "moves\\[0\\].planned is 4096, .*")):
             self.refuses(text, {**TOLD, "moves": [row]})
         self.refuses("there are 4 moves, and at most one for each of 3 elements is wanted", {**TOLD, "moves": [[0, 0, 1]] * 4})
         self.refuses("moves is an object, and a list is wanted", {**TOLD, "moves": {}})
         self.refuses('cuts is "0 2 3", and a list is wanted', {**TOLD, "cuts": "0 2 3"})
-        self.refuses("keep_order is 1, and true or false is wanted", {**json.loads(tezgumi.json_of(ten().run, near_ten())), "keep_order": 1}, ten().run)
+        self.refuses("keep_order is 1, and true or false is wanted", {**json.loads(tezgumi.json_of(ten().run, near_ten())), "keep_order": 1},
+            ten().run)
 
     def test_words_of_javascript(self):
         text = json.dumps(TOLD)
@@ -202,13 +209,16 @@ class Forged(TimedTest):
 
     def test_limits(self):
         for name, least, most in (
-                ("pes", 1, 4096), ("bottleneck", 0, 2**64 - 1), ("moved", 0, 2**64 - 1), ("step", 0, 2**32 - 1), ("procs", 0, 4096), ("elements", 0, 2**32 - 1)):
+                ("pes", 1, 4096), ("bottleneck", 0, 2**64 - 1), ("moved", 0, 2**64 - 1), ("step", 0, 2**32 - 1), ("procs", 0, 4096),
+                ("elements", 0, 2**32 - 1)):
             for number in (least - 1, most + 1):
                 self.refuses(f"{name} is {number}, and a whole number from {least} to {most} is wanted", {**TOLD, name: number})
         for name, least, most in (
-                ("cuts", 0, 2**32 - 1), ("stops", 0, 2**32 - 1), ("names", 0, 2**32 - 1), ("block_prices", -2**63, 2**63 - 1), ("pe_prices", -2**63, 2**63 - 1)):
+                ("cuts", 0, 2**32 - 1), ("stops", 0, 2**32 - 1), ("names", 0, 2**32 - 1), ("block_prices", -2**63, 2**63 - 1),
+                ("pe_prices", -2**63, 2**63 - 1)):
             for number in (least - 1, most + 1):
-                self.refuses(f"{name}\\[1\\] is {number}, and a whole number from {least} to {most} is wanted", {**TOLD, name: [0, number, *TOLD[name][2:]]})
+                self.refuses(f"{name}\\[1\\] is {number}, and a whole number from {least} to {most} is wanted",
+                    {**TOLD, name: [0, number, *TOLD[name][2:]]})
             for number in (least, most):
                 made = read({**TOLD, name: [0, number, *TOLD[name][2:]]}, check=False)
                 self.assertEqual(int(getattr(made, name)[1]), number)
@@ -227,7 +237,8 @@ class Forged(TimedTest):
                 self.assertEqual(len(told[name]), wanted)
                 may_be_none = name == "stops" or "prices" in name and told is reordered
                 for numbers in (told[name][:-1], told[name] + [0], *([] if may_be_none else [[]])):
-                    self.refuses(f"there are {len(numbers)} {name}, and for {told['pes']} PEs {wanted}( or 0)? are wanted", {**told, name: numbers}, run)
+                    self.refuses(f"there are {len(numbers)} {name}, and for {told['pes']} PEs {wanted}( or 0)? are wanted", {**told, name: numbers},
+                        run)
         self.assertEqual(read({**TOLD, "stops": []}, check=False).stops.size, 0)
         for one, other, told, run in (("step_places", "step_rises", near, ten().run), ("level_places", "level_bytes", reordered, FOUR)):
             count = len(told[one])
@@ -255,7 +266,8 @@ class Forged(TimedTest):
             self.refuses(f"its loads are counted in units of {unit}, and those of this run of None", {**TOLD, "unit": unit})
         for unit, shown in (("1", '"1"'), (True, "true"), ([1], "a list of 1"), ({}, "an object")):
             self.refuses(f"unit is {shown}, and a number or null is wanted", {**TOLD, "unit": unit})
-        self.refuses("its loads are counted in units of inf, and those of this run of None", json.dumps(TOLD).replace('"unit": null', '"unit": 1e999'))
+        self.refuses("its loads are counted in units of inf, and those of this run of None",
+            json.dumps(TOLD).replace('"unit": null', '"unit": 1e999'))
         # The lists fit, and the loads are others: the check sees it.
         with self.assertRaisesRegex(tezgumi.PlanError, "^plan: it is flawed, check: Heavy 0: block 0 is heavier than the bottleneck$"):
             read(TOLD, replace(THREE, loads=[3, 1, 2]))
@@ -263,11 +275,13 @@ class Forged(TimedTest):
     def test_texts_that_are_none(self):
         for text, fault in (
                 ("", "no JSON: line 1, column 1: .*"), ("{", "no JSON: line 1, column 2: .*"), (json.dumps(TOLD) + "x", "no JSON: line 1, column .*"),
-                ("\n{'a': 1}", "no JSON: line 2, column 2: .*"), ("[]", "an object is wanted, and not a list of 0"), ("5", "an object is wanted, and not 5"),
+                ("\n{'a': 1}", "no JSON: line 2, column 2: .*"), ("[]", "an object is wanted, and not a list of 0"),
+                ("5", "an object is wanted, and not 5"),
                 ("null", "an object is wanted, and not null"), (b"\xff", "byte 0 is no text in UTF-8"), ("{}", "there is no kind"),
                 ("[" * 100_000, "no JSON of a plan: lists stand in lists, .*"), ('{"a":' * 100_000, "no JSON of a plan: lists stand in lists, .*")):
             self.refuses(fault, text)
-        self.refuses("cuts\\[0\\] is a list of 1, and .*", json.dumps({**TOLD, "cuts": [0, 2, 3]}).replace('"cuts": [0', '"cuts": [' + "[" * 300 + "0" + "]" * 300))
+        self.refuses("cuts\\[0\\] is a list of 1, and .*",
+            json.dumps({**TOLD, "cuts": [0, 2, 3]}).replace('"cuts": [0', '"cuts": [' + "[" * 300 + "0" + "]" * 300))
         with mock.patch.object(tezgumi.json_plans, "MOST_BYTES", 10):
             self.refuses("more than 10 bytes", TOLD)
         for text, kind in ((5, "int"), (None, "NoneType"), (TOLD, "dict")):

@@ -292,7 +292,8 @@ class Written(InAFolder):
             self.assertRaisesRegex(kind, text, self.write, given)
         with open(paths[0], "w", encoding="utf-8") as file:
             file.write("load\n-1\n")
-        self.assertRaisesRegex(tezgumi.TableError, "^table: .*/b.csv: line 2, column 1: the load is '-1', and a finite number", self.write, [paths[0]])
+        self.assertRaisesRegex(tezgumi.TableError, "^table: .*/b.csv: line 2, column 1: the load is '-1', and a finite number", self.write,
+            [paths[0]])
 
     def test_what_is_read_is_not_written_over(self):
         path = self.dumps()[0]

@@ -97,7 +97,8 @@ class Program(TimedTest):
             self.assertIn("each rounded down: the greatest after is 0.5, and least within ", out)
             with open(path, "wb") as file:
                 file.write(b"load\nx\n")
-            self.assertEqual(call(path, "--procs", "2")[::2], (3, f"table: {path}: line 2, column 1: the load is 'x', and a finite number from 0 on is wanted\n"))
+            self.assertEqual(call(path, "--procs", "2")[::2],
+                (3, f"table: {path}: line 2, column 1: the load is 'x', and a finite number from 0 on is wanted\n"))
             page = os.path.join(folder, "page.html")
             self.assertEqual(call("page", "-", "-o", page, given=dump)[:1], (0,))
             self.assertIn(b"planned here; the file records no decision", read_bytes(page))
@@ -111,11 +112,14 @@ class Program(TimedTest):
                 ("load,bytes,place\r\n\r\n", (), 0, "standard input: 0 elements on 1 PEs, step 0"),
                 ("\ufeffload,place\r\n1,0\r\n1,1\r\n\r\n\r\n", (), 0, "standard input: 2 elements on 2 PEs, step 0"),
                 ("# a\n1e0,1,0\n2.5e-1,1,0\n", ("--procs", "2"), 0, "standard input: 2 elements on 1 PEs, step 0"),
-                (zeros, (), 0, "standard input: 65,537 elements on 1 PEs, step 0"), ("\n\n", (), 3, "dump: not LBD1 or LBD2 (standard input: byte 0 is b'\\n'; and"),
+                (zeros, (), 0, "standard input: 65,537 elements on 1 PEs, step 0"),
+                ("\n\n", (), 3, "dump: not LBD1 or LBD2 (standard input: byte 0 is b'\\n'; and"),
                 ("1,1,0\n1,1\n", (), 3, "table: standard input: line 2 has 2 columns, and 3 are wanted: load,bytes,place\n"),
                 ("load\n1\n1\0\n", ("--procs", "2"), 3, "table: standard input: line 3 has a NUL byte, and a text in UTF-8 is wanted\n"),
-                *((f"1,1,0\n{load_of},1,0\n", (), 3, f"table: standard input: line 2, column 1: the load is '{load_of}', {load}\n") for load_of in ("nan", "inf", "-1")),
-                (zeros, ("--tolerance", "20"), 5, "a tolerance is for at most 65,536 elements, of less than 2^47 units and at most 1 MiB each, and 256 PEs\n")):
+                *((f"1,1,0\n{load_of},1,0\n", (), 3,
+                    f"table: standard input: line 2, column 1: the load is '{load_of}', {load}\n") for load_of in ("nan", "inf", "-1")),
+                (zeros, ("--tolerance", "20"), 5,
+                    "a tolerance is for at most 65,536 elements, of less than 2^47 units and at most 1 MiB each, and 256 PEs\n")):
             with self.subTest(given=given[:40]):
                 ended, out, errors = said("-", *words, given=given.encode())
                 self.assertEqual(ended, status, errors)
@@ -137,14 +141,19 @@ class Program(TimedTest):
             self.assertEqual(said(given, "--check", path)[0], 2)
             plans = said(ten, "--json", "--tolerance", "0.167")[1] + "\n" + said(ten, "--json")[1]
             for forged, status, out, errors in (
-                    (plans, 0, ("NearDecision for 3 PEs, greatest load 14, 60 bytes move, check: ok", "Decision for 3 PEs, greatest load 12, 130 bytes move, check: ok"), ""),
+                    (plans, 0, ("NearDecision for 3 PEs, greatest load 14, 60 bytes move, check: ok",
+                        "Decision for 3 PEs, greatest load 12, 130 bytes move, check: ok"), ""),
                     (plans.replace('"moved": 130', '"moved": 129'), 4, (
-                        "NearDecision for 3 PEs, greatest load 14, 60 bytes move, check: ok", "Decision for 3 PEs, greatest load 12, 129 bytes move, check: MovedWrong"), ""),
+                        "NearDecision for 3 PEs, greatest load 14, 60 bytes move, check: ok",
+                        "Decision for 3 PEs, greatest load 12, 129 bytes move, check: MovedWrong"), ""),
                     (plans.replace('"moved": 130', '"moved": NaN'), 3, (), "plan: standard input, line 3: NaN is no number of JSON\n"),
-                    ("", 3, (), "plan: standard input: there is no plan\n"), (plans[:100], 3, (), "plan: standard input, line 1: no JSON: line 1, column "),
-                    (plans.replace('"elements": 10', '"elements": 11'), 3, (), "plan: standard input, line 1: it is for a run of 11 elements, and this one has 10\n")):
+                    ("", 3, (), "plan: standard input: there is no plan\n"),
+                    (plans[:100], 3, (), "plan: standard input, line 1: no JSON: line 1, column "),
+                    (plans.replace('"elements": 10', '"elements": 11'), 3, (),
+                        "plan: standard input, line 1: it is for a run of 11 elements, and this one has 10\n")):
                 ended, told, wrong = said(ten, "--check", "-", given=forged.encode())
-                self.assertEqual((ended, told, wrong[:len(errors)]), (status, "".join(f"standard input, line {line}: {it}\n" for line, it in zip((1, 3), out)), errors))
+                self.assertEqual((ended, told, wrong[:len(errors)]),
+                    (status, "".join(f"standard input, line {line}: {it}\n" for line, it in zip((1, 3), out)), errors))
             self.assertEqual(said(ten, "--check", os.path.join(folder, "no"))[:2], (3, ""))
 
     def test_an_output_that_takes_nothing(self):
@@ -202,7 +211,8 @@ class Program(TimedTest):
         for words, text in (
                 ((), "FILE"), (("a", "b"), "unrecognized"), (("a", "--procs"), "expected one argument"),
                 (("a", "--procs", "0"), "0 is not 1 to 4096"), (("a", "--procs", "4097"), "4097 is not 1 to 4096"),
-                *((("a", "--procs", word), f"{word!r} is no list of whole numbers, as 4,8,16") for word in ("2,x", "", "2,,3", "1_0", "\u0662", "2.0", "9" * 5000)),
+                *((("a", "--procs", word), f"{word!r} is no list of whole numbers, as 4,8,16") for word in ("2,x", "", "2,,3", "1_0", "\u0662", "2.0",
+                    "9" * 5000)),
                 *((("a", "--tolerance", word), f"{word!r} is not 0 to 1000 thousandths, nor a fraction of whole thousandths, as 0.02")
                   for word in ("1001", "2%", "1.5", "0.0205", "-1", ".", "1_0", "nan")),
                 (("a", "--keep-order"), "argument --keep-order: it is for a --tolerance, which may be 0"),

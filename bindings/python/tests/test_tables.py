@@ -131,7 +131,8 @@ class Read(TimedTest):
             file = io.StringIO()
             np.savetxt(file, rows[:, columns], delimiter=",", header=head)
             run = table_of(file.getvalue().encode(), step=5)
-            self.assertEqual((run.bytes.tolist(), run.places.tolist(), [int(load) * run.unit for load in run.loads]), ([10, 9, 8], [0, 1, 0], [1, 1, 2]))
+            self.assertEqual((run.bytes.tolist(), run.places.tolist(), [int(load) * run.unit for load in run.loads]),
+                ([10, 9, 8], [0, 1, 0], [1, 1, 2]))
             file = io.StringIO()
             np.savetxt(file, rows[:, columns], delimiter=",", header=head, fmt="%d")
             self.assertEqual(table_of(file.getvalue().encode(), step=5), THREE)
@@ -165,7 +166,8 @@ class Read(TimedTest):
         size = "a whole number from 0 to 4294967295 is wanted"
         for text, fault in (
                 ("", "there is no line of numbers or of names"), ("\n \n\n", "there is no line of numbers or of names"),
-                ("# load\n", "there is no line of numbers or of names"), ("a,b\n", f"line 1 is 'a,b', and {none}"), ("\n\nnan\n", f"line 3 is 'nan', and {none}"),
+                ("# load\n", "there is no line of numbers or of names"), ("a,b\n", f"line 1 is 'a,b', and {none}"),
+                ("\n\nnan\n", f"line 3 is 'nan', and {none}"),
                 ("load;bytes\n1;2\n", f"line 1 is 'load;bytes', and {none}{commas}"), ("1;10;0\n", f"line 1 is '1;10;0', and {none}{commas}"),
                 ("1 10 0\n", f"line 1 is '1 10 0', and {none}{commas}"), ("a;b\n", f"line 1 is 'a;b', and {none}"),
                 ("1,2,3,4\n", "line 1 has 4 columns without names, and at most load, bytes and place are taken"),
@@ -173,17 +175,22 @@ class Read(TimedTest):
                 ("1,2\n3\n", "line 2 has 1 column, and 2 are wanted: load,bytes"), ("1\n2,3\n", "line 2 has 2 columns, and 1 are wanted: load"),
                 ("load,bytes\n1,2,\n", "line 2 has 3 columns, and 2 are wanted: load,bytes"),
                 ("load,bytes\n1\t2\n", f"line 2 has 1 column, and 2 are wanted: load,bytes{commas}"),
-                ("load\n\nx\n", f"line 3, column 1: the load is 'x', and {LOAD}"), ("bytes,load\n1,\n", f"line 2, column 2: there is no load, and {LOAD}"),
-                ("load\n1 2\n", f"line 2, column 1: the load is '1 2', and {LOAD}{commas}"), ("1,\n", f"line 1, column 2: there are no bytes, and {size}"),
+                ("load\n\nx\n", f"line 3, column 1: the load is 'x', and {LOAD}"),
+                ("bytes,load\n1,\n", f"line 2, column 2: there is no load, and {LOAD}"),
+                ("load\n1 2\n", f"line 2, column 1: the load is '1 2', and {LOAD}{commas}"),
+                ("1,\n", f"line 1, column 2: there are no bytes, and {size}"),
                 *((f"load\r\n1\r\n{cell}\r\n", f"line 3, column 1: the load is '{cell}', and {LOAD}") for cell in (
                     "nan", "-1", "-1e-9", "inf", "-inf", "Infinity", "1e999", "1_0", "0x10", "1e", "e1", ".", "--1", "\u0661", "1.2.3", "None")),
-                *((f"1,{cell}\n", f"line 1, column 2: the bytes are '{cell}', and {size}") for cell in ("0.5", "-1", "4294967296", "nan", "1e300", "1e400", "x")),
-                *((f"1,1,0\n1,1,{cell}\n", f"line 2, column 3: the place is '{cell}', and a whole number from 0 to 1 is wanted") for cell in ("2", "-1", "1.5", "a")),
+                *((f"1,{cell}\n", f"line 1, column 2: the bytes are '{cell}', and {size}") for cell in ("0.5", "-1", "4294967296", "nan", "1e300",
+                    "1e400", "x")),
+                *((f"1,1,0\n1,1,{cell}\n", f"line 2, column 3: the place is '{cell}', and a whole number from 0 to 1 is wanted") for cell in ("2",
+                    "-1", "1.5", "a")),
                 ("9223372036854775808\n", "line 1, column 1: the load is '9223372036854775808', and at most 9223372036854775807 is taken"),
                 ("load,x\n" + "1" * 400 + ",\n0.5,\n", f"line 2, column 1: the load is '{'1' * 57}..', which is too great for a float"),
                 ("9223372036854775807\n1\n", "the loads add up to 9223372036854775808, and at most 9223372036854775807 is taken"),
                 ("1\n1\0\n", "line 2 has a NUL byte, and a text in UTF-8 is wanted"), ("load\n1\n\"2\n3\n", "line 3 is no line of CSV "),
-                ("load,a\n1,\"a\"b\n", "line 2 is no line of CSV "), (b"1\n2\n\xff\n", "line 3 has the byte 0xff at byte 4, and a text in UTF-8 is wanted"),
+                ("load,a\n1,\"a\"b\n", "line 2 is no line of CSV "),
+                (b"1\n2\n\xff\n", "line 3 has the byte 0xff at byte 4, and a text in UTF-8 is wanted"),
                 ("load\n1\n".encode("utf-16"), "the text is UTF-16, and UTF-8 is wanted: save it as CSV in UTF-8"),
                 (read_bytes(example("three-elements.lbd2")), "it is a dump, and a table is wanted: read_dump reads dumps"),
                 (b"PK\x03\x04", "it is an archive, as .npz and .xlsx are: save one table as .npy or .csv"),
@@ -193,7 +200,8 @@ class Read(TimedTest):
                 self.assertRaisesRegex(tezgumi.TableError, "^table: " + re.escape(fault), table_of, data, 2)
                 self.assertRaisesRegex(tezgumi.TableError, "^table: a.csv: " + re.escape(fault), table_of, data, 2, name="a.csv")
         self.assertRaisesRegex(
-            tezgumi.TableError, "^table: line 1, column 3: the place is '4096', and a whole number from 0 to 4095 is wanted$", table_of, b"1,1,4096\n")
+            tezgumi.TableError, "^table: line 1, column 3: the place is '4096', and a whole number from 0 to 4095 is wanted$", table_of,
+            b"1,1,4096\n")
         self.assertRaisesRegex(
             tezgumi.InputError, "^the table has no places, so the number of PEs has to be given: procs, or --procs P$", table_of, b"1\n")
         for words, text in (({"procs": 0}, "^procs is 0; it has to be 1 to 4096$"), ({"step": -1}, "^step is -1; it has to be 0 to 4294967295$")):
@@ -214,7 +222,8 @@ class Read(TimedTest):
         for changed, fault in (
                 ((0, 0, np.nan), f"element 0: the load is nan, and {LOAD}"), ((1, 0, -0.5), f"element 1: the load is -0.5, and {LOAD}"),
                 ((1, 0, np.inf), f"element 1: the load is inf, and {LOAD}"), ((0, 1, 0.5), f"element 0: the bytes are 0.5, and {size}"),
-                ((1, 1, 2.0**32), f"element 1: the bytes are 4294967296.0, and {size}"), ((1, 1, np.nan), f"element 1: the bytes are nan, and {size}"),
+                ((1, 1, 2.0**32), f"element 1: the bytes are 4294967296.0, and {size}"),
+                ((1, 1, np.nan), f"element 1: the bytes are nan, and {size}"),
                 ((1, 1, np.inf), f"element 1: the bytes are inf, and {size}"), ((0, 2, 2), f"element 0: the place is 2.0, and {place}"),
                 ((1, 2, -1), f"element 1: the place is -1.0, and {place}")):
             for kind in (np.float64, np.float32, np.float16):
@@ -224,10 +233,13 @@ class Read(TimedTest):
                     spoiled[changed[:2]] = changed[2]
                     self.assertRaisesRegex(tezgumi.TableError, "^table: " + re.escape(fault) + "$", table_of, npy(spoiled), 2)
         for array, fault in (
-                (np.array([1, -1]), f"element 1: the load is -1, and {whole}"), (np.array([2**63], np.uint64), f"element 0: the load is 9223372036854775808, and {whole}"),
-                (np.array([[1, -1]]), f"element 0: the bytes are -1, and {size}"), (np.array([[1, 1, 2]], np.uint8), f"element 0: the place is 2, and {place}"),
+                (np.array([1, -1]), f"element 1: the load is -1, and {whole}"),
+                (np.array([2**63], np.uint64), f"element 0: the load is 9223372036854775808, and {whole}"),
+                (np.array([[1, -1]]), f"element 0: the bytes are -1, and {size}"),
+                (np.array([[1, 1, 2]], np.uint8), f"element 0: the place is 2, and {place}"),
                 (np.array([2**62, 2**62]), "the loads add up to 9223372036854775808, and at most 9223372036854775807 is taken"),
-                (np.zeros((2, 4)), "the array has the shape (2, 4), and rows of load, bytes and place are wanted"), (np.zeros((2, 0)), "the array has the shape (2, 0)"),
+                (np.zeros((2, 4)), "the array has the shape (2, 4), and rows of load, bytes and place are wanted"),
+                (np.zeros((2, 0)), "the array has the shape (2, 0)"),
                 (np.zeros((2, 2, 2)), "the array has the shape (2, 2, 2)"), (np.float64(1), "the array has the shape ()"),
                 (np.zeros(2, [("a", int)]), "there are records of the fields a in the shape (2,), and load is wanted"),
                 (np.zeros((2, 2), [("load", int)]), "there are records of the fields load in the shape (2, 2), and load is wanted"),
@@ -245,7 +257,8 @@ class Read(TimedTest):
         for end in range(len(data)):
             self.assertRaisesRegex(tezgumi.TableError, "^table: ", table_of, data[:end], 2, ending=".npy")
         for end, fault in (
-                (0, "it begins with b'', and a file of numpy.save with "), (6, "it is of no version of NPY that is known"), (100, "its head is to end at byte 128, and there are 100"),
+                (0, "it begins with b'', and a file of numpy.save with "), (6, "it is of no version of NPY that is known"),
+                (100, "its head is to end at byte 128, and there are 100"),
                 (199, r"there are 71 bytes behind the head, and an array of float64 and the shape \(9,\) has 72$")):
             self.assertRaisesRegex(tezgumi.TableError, "^table: " + fault, table_of, data[:end], 2, ending=".NPY")
         self.assertRaisesRegex(tezgumi.TableError, "^table: there are 73 bytes behind the head", table_of, data + b"0", 2)
@@ -253,10 +266,13 @@ class Read(TimedTest):
         for head, fault in (
                 ("{}", "its head is not"), ("x()", "its head is not"), ("(" * 900, "its head is not"), ("[1]", "its head is not"),
                 ("{'descr': '<f8', 'fortran_order': False, 'shape': (10**9,)}", "its head is not"),
-                ("{'descr': '<f8', 'fortran_order': False, 'shape': (-1,)}", "its head is not"), ("{'descr': '<f8', 'fortran_order': False, 'shape': (True,)}", "its head is not"),
-                ("{'descr': '<f8', 'fortran_order': False, 'shape': (1000000000000000,)}", "there are 0 bytes behind the head, and an array of float64"),
+                ("{'descr': '<f8', 'fortran_order': False, 'shape': (-1,)}", "its head is not"),
+                ("{'descr': '<f8', 'fortran_order': False, 'shape': (True,)}", "its head is not"),
+                ("{'descr': '<f8', 'fortran_order': False, 'shape': (1000000000000000,)}",
+                    "there are 0 bytes behind the head, and an array of float64"),
                 ("{'descr': '<f8', 'fortran_order': False, 'shape': (0, 4611686018427387904, 4611686018427387904)}", ""),
-                ("{'descr': 'no', 'fortran_order': False, 'shape': (0,)}", "no type of numpy: 'no' "), ("{'descr': 5.5, 'fortran_order': False, 'shape': (0,)}", ""),
+                ("{'descr': 'no', 'fortran_order': False, 'shape': (0,)}", "no type of numpy: 'no' "),
+                ("{'descr': 5.5, 'fortran_order': False, 'shape': (0,)}", ""),
                 ("{'descr': ('<f8', (2,)), 'fortran_order': False, 'shape': (0,)}", "the array is of the type ")):
             text = head.encode()
             for version, width in ((1, 2), (2, 4), (3, 4)):
@@ -272,7 +288,8 @@ class Read(TimedTest):
     def test_spoiled_at_random(self):
         """Whatever is in a file, it is a run, or refused as a table, or wants a number of PEs."""
         rng, read = random.Random(1), 0
-        given = [THREE_CSV.encode(), b"load,bytes,place\n" + THREE_CSV.encode(), b"# place,load\r\n0,0.5\r\n1,1e3\r\n", npy(np.array([[1, 10, 0], [1, 9, 1]])),
+        given = [THREE_CSV.encode(), b"load,bytes,place\n" + THREE_CSV.encode(), b"# place,load\r\n0,0.5\r\n1,1e3\r\n",
+            npy(np.array([[1, 10, 0], [1, 9, 1]])),
                  npy(np.array([0.5, 0.25])), npy(np.array([(0, 1, 10)], [("place", "u1"), ("load", ">i4"), ("bytes", "<u8")]))]
         for _ in range(3000):
             data = spoiled(rng, rng.choice(given))
@@ -317,16 +334,20 @@ class EitherKind(TimedTest):
     def test_faults_by_name(self):
         no_table = r"; and it is no table, which begins with a number or with names of columns, among them load\)$"
         for name, data, kind, fault in (
-                ("a", b"", "DumpError", r"^dump: ends at byte 0 \(.*/a" + no_table), ("a.lbd1", b"", "DumpError", r"^dump: ends at byte 0 \(.*/a.lbd1\)$"),
-                ("a.csv", b"", "TableError", "^table: .*/a.csv: there is no line"), ("a.npy", b"", "TableError", "^table: .*/a.npy: it begins with b''"),
+                ("a", b"", "DumpError", r"^dump: ends at byte 0 \(.*/a" + no_table),
+                ("a.lbd1", b"", "DumpError", r"^dump: ends at byte 0 \(.*/a.lbd1\)$"),
+                ("a.csv", b"", "TableError", "^table: .*/a.csv: there is no line"),
+                ("a.npy", b"", "TableError", "^table: .*/a.npy: it begins with b''"),
                 ("a", b"# A page\n\nof text.\n", "DumpError", r"^dump: not LBD1 or LBD2 \(.*/a: byte 0 is b'#'" + no_table),
                 ("a.csv", b"# A page\n\nof text.\n", "TableError", "^table: .*/a.csv: line 3 is 'of text.', and numbers are wanted"),
                 ("a.lbd2", b"1,2,0\n", "DumpError", r"^dump: not LBD1 or LBD2 \(.*/a.lbd2: byte 0 is b'1'\)$"),
-                ("a.csv", b"LBD1\0", "DumpError", r"^dump: ends at byte 5 \(.*/a.csv\)$"), ("a.npy", b"1,2,0\n", "TableError", "^table: .*/a.npy: it begins with b'1,2,0.n'"),
+                ("a.csv", b"LBD1\0", "DumpError", r"^dump: ends at byte 5 \(.*/a.csv\)$"),
+                ("a.npy", b"1,2,0\n", "TableError", "^table: .*/a.npy: it begins with b'1,2,0.n'"),
                 ("a", b"1,2,0\n1,2\n", "TableError", "^table: .*/a: line 2 has 2 columns, and 3 are wanted: load,bytes,place$"),
                 ("a.npz", npz(), "TableError", "^table: .*/a.npz: it is an archive, as .npz and .xlsx are: save one table as .npy or .csv$"),
                 ("a.csv.gz", gzip.compress(b"1\n"), "TableError", "^table: .*/a.csv.gz: it is compressed, as .gz is: unpack it first$"),
-                ("a.txt", "load\n1\n".encode("utf-16"), "TableError", "^table: .*/a.txt: the text is UTF-16, and UTF-8 is wanted: save it as CSV in UTF-8$"),
+                ("a.txt", "load\n1\n".encode("utf-16"), "TableError",
+                    "^table: .*/a.txt: the text is UTF-16, and UTF-8 is wanted: save it as CSV in UTF-8$"),
                 ("a", b"1\n", "InputError", "/a has no places, so the number of PEs has to be given: procs, or --procs P$")):
             with self.subTest(name=name, data=data):
                 self.assertRaisesRegex(getattr(tezgumi, kind), fault, self.read, name, data)
