@@ -136,10 +136,12 @@ class Forged(TimedTest):
             run, pes = random_run(seed, elements=12, pes=5)
             forged = forge(random.Random(seed), run, plain_decisions.decided(run, pes))
             self.assert_as_checked(run, forged, slow_checker.first_flaw)
-        for seed in range(40):
-            run = random_run(seed, elements=10, pes=4)[0]
-            run = replace(run, places=np.sort(run.places))
-            forged = forge_near(random.Random(seed), run, plain_decisions.near(run, 300))
+        for seed in range(60):
+            rng = random.Random(seed)
+            count, pes = rng.randint(1, 9), rng.randint(1, 4)
+            loads, sizes = ([rng.randint(0, 9) for _ in range(count)] for _ in range(2))
+            run = tezgumi.Run(pes, loads, sizes, sorted(rng.randrange(pes) for _ in range(count)))
+            forged = forge_near(rng, run, plain_decisions.near(run, rng.choice((0, 100, 500)), rng.random() < 0.5))
             self.assert_as_checked(run, forged, slow_checker.first_near_flaw)
 
     def test_spoiled_at_random(self):
