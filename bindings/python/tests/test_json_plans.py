@@ -68,6 +68,16 @@ class Read(TimedTest):
             self.assertEqual(again, decision)
             self.assertTrue(tezgumi.check(run, again))
 
+    def test_of_each_kind_by_the_planner(self):
+        # What docs/BINDINGS.md shows of this run.
+        kinds = []
+        for options in {}, {"tolerance": 300}, {"tolerance": 300, "keep_order": True}, {"tolerance": 300, "any_order": True}:
+            decision = tezgumi.decide(FOUR, **options)
+            again = tezgumi.Plan.from_json(tezgumi.json_of(FOUR, decision), FOUR)
+            self.assertEqual(again, decision)
+            kinds.append((type(again).__name__, again.moved))
+        self.assertEqual(kinds, [("Decision", 23), ("NearDecision", 17), ("NearDecision", 37), ("ReorderedDecision", 8)])
+
     def test_of_measured_loads(self):
         run = tezgumi.Run(2, [0.1, 0.2, 0.3])
         text = tezgumi.json_of(run, plain_decisions.decided(run))
