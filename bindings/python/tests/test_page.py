@@ -276,7 +276,7 @@ class Written(InAFolder):
         written = self.write(paths, procs=2, decide=lambda run: None)
         unit = tezgumi.Run(2, [0.5, 0.25, 0.25]).unit
         self.assertEqual(written.notes, (
-            f"{paths[2]}: loads are counted in units of {unit!r}, each rounded down; a greatest load is least within {3 * unit:.3g}",))
+            f"{paths[2]}: loads are in units of {unit!r}, each rounded down: in what was measured all holds within {3 * unit:.3g}",))
         told = self.described()["rounds"]
         self.assertEqual([(one["file"], one["step"], one["procs"], one["elements"]) for one in told], [
             ("b.csv", 0, 2, 3), ("a.csv", 1, 2, 3), ("c.npy", 2, 2, 3)])

@@ -137,7 +137,10 @@ class Program(TimedTest):
                 status, out, errors = said(given, *words, "--check", path)
                 self.assertEqual((status, errors), (0, ""))
                 self.assertEqual(said(given, *words, "--check", "-", given=plans.encode())[1], out.replace(path, "standard input"))
-            self.assertEqual(out, f"{path}, line 1: Decision for 2 PEs, greatest load 0.5, 1 bytes move, check: ok\n")
+            unit = tezgumi.Run(2, [0.5, 0.25, 0.25]).unit
+            self.assertEqual(out.split("\n"), [
+                f"{path}, line 1: Decision for 2 PEs, greatest load 0.5, 1 bytes move, check: ok",
+                f"loads are in units of {unit!r}, each rounded down: in what was measured all holds within {3 * unit:.3g}", ""])
             self.assertEqual(said(given, "--check", path)[0], 2)
             plans = said(ten, "--json", "--tolerance", "0.167")[1] + "\n" + said(ten, "--json")[1]
             for forged, status, out, errors in (

@@ -266,6 +266,8 @@ def _check(run: tezgumi.Run, path: str) -> int:
     for (line, plan), verdict in zip(plans, verdicts):
         greatest = f"{plan.bottleneck:,}" if run.unit is None else f"{plan.bottleneck * run.unit:.6g}"
         _say(f"{told(path)}, line {line}: {type(plan).__name__} for {plan.pes} PEs, greatest load {greatest}, {plan.moved:,} bytes move, {verdict}")
+    if run.unit is not None:
+        _say(f"loads are in units of {run.unit!r}, each rounded down: in what was measured all holds within {run.within:.3g}")
     return RIGHT if all(verdicts) else FLAWED
 
 

@@ -89,7 +89,7 @@ def _told_moves(rounds: Sequence[Round]) -> List[str]:
 
 def _told_units(rounds: Sequence[Round]) -> List[str]:
     return [
-        f"{one.name}: loads are counted in units of {one.run.unit!r}, each rounded down; a greatest load is least within {one.run.within:.3g}"
+        f"{one.name}: loads are in units of {one.run.unit!r}, each rounded down: in what was measured all holds within {one.run.within:.3g}"
         for one in rounds if one.is_file and one.run.unit is not None]
 
 
