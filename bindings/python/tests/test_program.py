@@ -11,7 +11,10 @@ import tempfile
 import types
 from unittest import mock
 
+import numpy as np
+
 import tezgumi
+from test_tables import npy
 from tezgumi.__main__ import main
 from support import CHECKOUT, EXAMPLES, PACKAGES, TimedTest, example, read_bytes
 
@@ -113,6 +116,9 @@ class Program(TimedTest):
                 ("\ufeffload,place\r\n1,0\r\n1,1\r\n\r\n\r\n", (), 0, "standard input: 2 elements on 2 PEs, step 0"),
                 ("# a\n1e0,1,0\n2.5e-1,1,0\n", ("--procs", "2"), 0, "standard input: 2 elements on 1 PEs, step 0"),
                 (zeros, (), 0, "standard input: 65,537 elements on 1 PEs, step 0"),
+                (npy(np.array([[1, 10, 0], [1, 9, 1]])), (), 0, "standard input: 2 elements on 2 PEs, step 0"),
+                (npy(np.array([0.5, -0.5])), ("--procs", "2"), 3, f"table: standard input: element 1: the load is -0.5, {load}\n"),
+                (npy(np.array([0.5])), (), 2, "usage: "), ("0.5\n", (), 2, "usage: "),
                 ("\n\n", (), 3, "dump: not LBD1 or LBD2 (standard input: byte 0 is b'\\n'; and"),
                 ("1,1,0\n1,1\n", (), 3, "table: standard input: line 2 has 2 columns, and 3 are wanted: load,bytes,place\n"),
                 ("load\n1\n1\0\n", ("--procs", "2"), 3, "table: standard input: line 3 has a NUL byte, and a text in UTF-8 is wanted\n"),
@@ -121,7 +127,7 @@ class Program(TimedTest):
                 (zeros, ("--tolerance", "20"), 5,
                     "a tolerance is for at most 65,536 elements, of less than 2^47 units and at most 1 MiB each, and 256 PEs\n")):
             with self.subTest(given=given[:40]):
-                ended, out, errors = said("-", *words, given=given.encode())
+                ended, out, errors = said("-", *words, given=given if isinstance(given, bytes) else given.encode())
                 self.assertEqual(ended, status, errors)
                 self.assertEqual((errors, out.split("\n")[0]) if status == 0 else errors[:len(text)], ("", text) if status == 0 else text)
 
