@@ -16,16 +16,18 @@ class Document(TimedTest):
             self.assertTrue(re.search(rf"(?<!\w){re.escape(name)}(?!\w)", PAGE), name)
 
     def test_words_of_each_call(self):
-        calls = dict(re.findall(r"`(\w+(?:\.\w+)?)\(([^`]*)\)`", PAGE))
+        told = {}
+        for name, words in re.findall(r"`(\w+(?:\.\w+)?)\(([^`]*)\)`", PAGE):
+            told.setdefault(name, []).append(words.replace('"', "'"))
         seen = 0
-        for name, words in calls.items():
+        for name, all_words in told.items():
             call = getattr(tezgumi, name, None)
-            if call is None or not inspect.isfunction(call) or ".." in words or not words:
+            if call is None or not inspect.isfunction(call) or any(".." in words or not words for words in all_words):
                 continue
             wanted = ", ".join(
                 word if parameter.default is parameter.empty else f"{word}={parameter.default!r}"
                 for word, parameter in inspect.signature(call).parameters.items())
-            self.assertEqual(words.replace('"', "'"), wanted.removesuffix(f", most={2**32 - 1}"), name)
+            self.assertIn(wanted.removesuffix(f", most={2**32 - 1}"), all_words, name)
             seen += 1
         self.assertGreater(seen, 8)
 

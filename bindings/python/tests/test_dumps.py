@@ -121,8 +121,8 @@ class Reading(TimedTest):
         self.assertEqual(found(b"LBD1\0\0\0\0\0\0\0\3\0\1\0\1"), "dump: more than 65536 elements")
 
     def test_no_more_is_read_than_the_longest_dump(self):
-        read = dumps.read_bytes("/dev/zero", dumps._MOST_BYTES)
-        self.assertEqual(len(read), dumps._MOST_BYTES + 1)
+        read = dumps.read_bytes("/dev/zero", dumps.MOST_BYTES)
+        self.assertEqual(len(read), dumps.MOST_BYTES + 1)
         with self.assertRaisesRegex(tezgumi.DumpError, "not LBD1 or LBD2"):
             tezgumi.read_dump("/dev/zero")
 

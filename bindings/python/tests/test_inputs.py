@@ -262,7 +262,7 @@ class Refused(TimedTest):
                 (lambda: tezgumi.page(THREE, "no.html"), "^rounds: a list of rounds is wanted, and not a Run$"),
                 (lambda: tezgumi.page(dump, "no.html"), "^rounds: a list of rounds is wanted, and not a Dump$"),
                 (lambda: tezgumi.page(5, "no.html"), "^rounds: a list of rounds is wanted, and not a int$"),
-                (lambda: tezgumi.page([plan], "no.html"), "^round 1: the path of a dump, a Run, or a Run and its Decision is wanted, and not a Plan"),
+                (lambda: tezgumi.page([plan], "no.html"), "^round 1: the path of a file, a Run, or a Run and its Decision is wanted, and not a Plan"),
                 (lambda: tezgumi.page([(THREE, plan)], "no.html"), "^round 1: a Decision is wanted beside the run, and not a Plan$")):
             self.assertRaisesRegex(tezgumi.InputError, text, call)
 

@@ -185,7 +185,7 @@ class Written(InAFolder):
     def test_files_that_are_none(self):
         for words, error, text in (
                 ((["no such file"],), tezgumi.DumpError, "^dump: read failed"),
-                (([example("README.md")],), tezgumi.DumpError, r"^dump: not LBD1 or LBD2 \(in .*README.md\)$")):
+                (([example("README.md")],), tezgumi.DumpError, r"^dump: not LBD1 or LBD2 \(.*README.md: byte 0 is b'#'; and it is no table, ")):
             self.assertRaisesRegex(error, text, self.write, *words)
         for text, fault in (
                 ("{", "no JSON"), ("{}", "there is no list of events"), ('{"traceEvents": 5}', "there is no list of events"),
@@ -212,7 +212,7 @@ class Written(InAFolder):
                 (("page", dumps[0], dumps[0], "-o", self.path), 5, "are both step 1, and a page shows the rounds of one run"),
                 (("page", dumps[0]), 2, "-o"), (("page", "-o", self.path), 2, "FILE"), (("page",), 3, "dump: read failed"),
                 (("page", dumps[0], "-o", self.path, "--procs", "0"), 2, "0 is not 1 to 4096"),
-                (("page", dumps[0], "README.md", "-o", self.path), 3, "dump: not LBD1 or LBD2 (in README.md)"),
+                (("page", dumps[0], "README.md", "-o", self.path), 3, "dump: not LBD1 or LBD2 (README.md: byte 0 is b'#'; and it is no table"),
                 (("page", dumps[0], "-o", self.path, "--trace", "README.md"), 3, "trace: no JSON"),
                 (("page", dumps[0], "-o", os.path.join(self.folder, "a", "b")), 5, "No such file")):
             answer = call(*words)
@@ -266,6 +266,35 @@ class Written(InAFolder):
             f"the elements of {paths[1]} are not where the decision that {paths[0]} records puts them",))
         self.assertFalse(os.path.exists(os.path.join(self.folder, "no.html")))
 
+    def test_tables(self):
+        paths = [os.path.join(self.folder, name) for name in ("b.csv", "a.csv", "c.npy")]
+        for path, loads in zip(paths, ("load,place\n1,0\n2,0\n3,1\n", "# load,place\n3,1\n2,0\n1,0\n", None)):
+            if loads:
+                with open(path, "w", encoding="utf-8") as file:
+                    file.write(loads)
+        np.save(paths[2], np.array([0.5, 0.25, 0.25]))
+        written = self.write(paths, procs=2, decide=lambda run: None)
+        unit = tezgumi.Run(2, [0.5, 0.25, 0.25]).unit
+        self.assertEqual(written.notes, (
+            f"{paths[2]}: loads are in units of {unit!r}, each rounded down: in what was measured all holds within {3 * unit:.3g}",))
+        told = self.described()["rounds"]
+        self.assertEqual([(one["file"], one["step"], one["procs"], one["elements"]) for one in told], [
+            ("b.csv", 0, 2, 3), ("a.csv", 1, 2, 3), ("c.npy", 2, 2, 3)])
+        # A table has the step behind that of the file before it, and a dump its own, 5.
+        self.write([example("three-elements.lbd2"), paths[0]])
+        self.assertEqual([one["step"] for one in self.described()["rounds"]], [5, 6])
+        self.write([paths[0], example("three-elements.lbd2")])
+        self.assertEqual([one["step"] for one in self.described()["rounds"]], [0, 5])
+        for given, kind, text in (
+                ([paths[2]], tezgumi.InputError, "/c.npy has no places, so the number of PEs has to be given: procs, or --procs P$"),
+                (["-", "-"], tezgumi.InputError, "^- is named more than once, and the standard input can be read once: name files for the others$"),
+                ([paths[0], paths[0], example("ten-elements.lbd2")], tezgumi.InputError, "has 3 elements and .* 10: a page shows one array$")):
+            self.assertRaisesRegex(kind, text, self.write, given)
+        with open(paths[0], "w", encoding="utf-8") as file:
+            file.write("load\n-1\n")
+        self.assertRaisesRegex(tezgumi.TableError, "^table: .*/b.csv: line 2, column 1: the load is '-1', and a finite number", self.write,
+            [paths[0]])
+
     def test_what_is_read_is_not_written_over(self):
         path = self.dumps()[0]
         before = read_bytes(path)
@@ -276,7 +305,7 @@ class Written(InAFolder):
         plain = os.path.join(self.folder, "plain")
         tezgumi.write_dump(plain, THREE)
         for given, how, made in (
-                ([plain], {}, "planned here; the dump records no decision"), ([THREE], {}, "planned here; the run was given without a decision"),
+                ([plain], {}, "planned here; the file records no decision"), ([THREE], {}, "planned here; the run was given without a decision"),
                 ([example("three-elements.lbd2")], {}, "recorded"), ([(THREE, RIGHT)], {}, "recorded"),
                 ([example("three-elements.lbd2")], {"anew": True}, "planned here; the recorded decision is left aside")):
             self.write(given, decide=lambda run: RIGHT, **how)

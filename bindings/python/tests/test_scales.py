@@ -119,3 +119,8 @@ class Scaled(TimedTest):
         found = run([0.1, 0.2, 0.3])
         told = str(tezgumi.figures(found, tezgumi.plan(found)))
         self.assertIn("each rounded down: the greatest after is 0.3, and least within ", told.split("\n")[-1])
+        swept = str(tezgumi.sweep(found, (1, 2))).split("\n")
+        self.assertEqual(swept[3], f"loads are in units of {found.unit!r}, each rounded down: each greatest is least within {found.within:.3g}")
+        whole = tezgumi.Run(2, [1, 2, 3])
+        self.assertEqual(len(str(tezgumi.sweep(whole, (1, 2))).split("\n")), 3)
+        self.assertEqual(len(tezgumi.table([*tezgumi.sweep(found, (1,)), *tezgumi.sweep(whole, (1,))]).split("\n")), 3)

@@ -22,7 +22,8 @@ bindings/build made comes before that.)
 - figures: figures, sweep, table, pe_loads
 - dumps: read_dump, write_dump, decode, encode, of the formats LBD1 and LBD2
 - tables: read_table, of CSV and NPY
-- texts: replay_text, the text that lb_sim prints, and json_of
+- texts: replay_text, the text that lb_sim prints
+- json_plans: json_of, a decision as a line of JSON, which Plan.from_json reads and checks
 - parts: the steps of a division of a chain whose parts lie in different processes, and divide_all, which takes them for parts
   that one process can read
 - mpi: rebalance, decide, move and report of arrays on MPI ranks; `import tezgumi.mpi`, which needs mpi4py
@@ -42,8 +43,9 @@ except ImportError as error:
 from . import parts
 from .checking import Flaw, Verdict
 from .dumps import Dump, decode, encode, read_dump, write_dump
-from .errors import DumpError, InputError, LibraryError, LoadError, OutOfMemory, TableError, TezgumiError, TraceError
+from .errors import DumpError, InputError, LibraryError, LoadError, OutOfMemory, PlanError, TableError, TezgumiError, TraceError
 from .figures import Figures, Sweep, figures, pe_loads, sweep, table
+from .json_plans import json_of
 from .page import page
 from .planning import Divided, check, decide, divide, plan
 from .runs import DIVISION_PES, DUMP_ELEMENTS, DUMP_LOAD, DUMP_PES, DUMP_STATE_BYTES, ELEMENTS, MOVE, PES, TOLERANCE
@@ -52,13 +54,13 @@ from .runs import Decision, NearDecision, Plan, ReorderedDecision, Run
 from .scales import Scaled, scaled
 from .speeds import TimedDivision, scale_speeds
 from .tables import read_table
-from .texts import json_of, replay_text
+from .texts import replay_text
 from .version import __version__
 
 __all__ = [
     "DIVISION_PES", "DUMP_ELEMENTS", "DUMP_LOAD", "DUMP_PES", "DUMP_STATE_BYTES", "Decision", "Divided", "Dump", "DumpError",
     "ELEMENTS", "Figures", "Flaw", "InputError", "LibraryError", "LoadError", "MOVE", "NearDecision", "OutOfMemory", "PES", "Plan",
-    "ReorderedDecision", "Run", "Scaled", "Sweep", "TOLERANCE", "TOTAL_BYTES", "TOTAL_LOAD", "TableError", "TezgumiError",
+    "PlanError", "ReorderedDecision", "Run", "Scaled", "Sweep", "TOLERANCE", "TOTAL_BYTES", "TOTAL_LOAD", "TableError", "TezgumiError",
     "TimedDivision", "TraceError", "Verdict", "__version__", "check", "decide", "decode", "divide", "encode", "figures", "json_of", "page", "parts",
     "pe_loads", "plan", "read_dump", "read_table", "replay_text", "scale_speeds", "scaled", "sweep", "table", "write_dump",
 ]

@@ -20,7 +20,7 @@ _ROW = {
 _MOVE_ROW = np.dtype([(name, ">u4") for name in MOVE.names or ()])
 
 # No dump is longer: its head, its elements, and a decision by which all of them move.
-_MOST_BYTES = 16 + 16 * DUMP_ELEMENTS + 4 + 12 + 8 * (DUMP_PES + 1) + 4 + 20 * DUMP_PES + 12 + 12 * DUMP_ELEMENTS
+MOST_BYTES = 16 + 16 * DUMP_ELEMENTS + 4 + 12 + 8 * (DUMP_PES + 1) + 4 + 20 * DUMP_PES + 12 + 12 * DUMP_ELEMENTS
 
 _Rows = NDArray[np.void]
 # Of a field: its name, the rows that break its rule, the fault, and what to tell of it.
@@ -37,7 +37,7 @@ class Dump(NamedTuple):
 def read_dump(path: Path) -> Dump:
     """The dump in a file, as `run, decision`; `-` is the standard input. DumpError tells the first fault, as lb_sim does. No more
     is read than the longest dump has, and a byte."""
-    return decode(read_bytes(path, _MOST_BYTES))
+    return decode(read_bytes(path, MOST_BYTES))
 
 
 def write_dump(path: Path, run: Run, decision: Decision | None = None, version: int = 2) -> None:

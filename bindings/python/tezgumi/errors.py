@@ -1,4 +1,10 @@
 """What this package refuses or reports."""
+from __future__ import annotations
+
+from typing import TYPE_CHECKING
+
+if TYPE_CHECKING:
+    from .checking import Verdict
 
 
 class TezgumiError(Exception):
@@ -29,6 +35,7 @@ class DumpError(TezgumiError, ValueError):
     """
 
     def __init__(self, fault: str, found: object = "") -> None:
+        self.fault, self.found = fault, str(found)
         self.line = f"dump: {fault}"
         super().__init__(f"{self.line} ({found})" if found else self.line)
 
@@ -40,8 +47,17 @@ class TraceError(TezgumiError, ValueError):
         super().__init__(f"trace: {fault}")
 
 
-class TableError(TezgumiError, ValueError):
-    """A file that is no table of elements, in CSV or NPY."""
+class TableError(InputError):
+    """A file that is no table of elements, in CSV or NPY, or has a number that breaks a limit. The text says where, and what is wanted."""
 
     def __init__(self, fault: str) -> None:
+        self.fault = fault
         super().__init__(f"table: {fault}")
+
+
+class PlanError(TezgumiError, ValueError):
+    """A text that is no plan in JSON, a plan for another run, or one that the check refuses: then `verdict` has what that says."""
+
+    def __init__(self, fault: str, verdict: Verdict | None = None) -> None:
+        self.fault, self.verdict = fault, verdict
+        super().__init__(f"plan: {fault}")

@@ -213,8 +213,14 @@ def sweep(run: Run, counts: Iterable[int] | None = None) -> Sweep:
 
 
 def table(swept: Iterable[Figures]) -> str:
-    """A sweep as lines of text, a row for each number of PEs."""
-    return _aligned([_SWEEP_HEAD, *map(_sweep_row, swept)])
+    """A sweep as lines of text, a row for each number of PEs, and where the loads of the run were measured one that tells their unit."""
+    rows = list(swept)
+    text = _aligned([_SWEEP_HEAD, *map(_sweep_row, rows)])
+    units = {(row.unit, row.elements) for row in rows}
+    unit, elements = next(iter(units)) if len(units) == 1 else (None, 0)
+    if unit is None:
+        return text
+    return f"{text}\nloads are in units of {unit!r}, each rounded down: each greatest is least within {elements * unit:.3g}"
 
 
 def _sweep_row(row: Figures) -> Tuple[str, ...]:

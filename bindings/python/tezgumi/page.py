@@ -21,7 +21,7 @@ from .columns import Head, block, folded
 from .dumps import Dump
 from .errors import InputError
 from .figures import pe_loads
-from .files import Path, refuse_inputs
+from .files import Path, refuse_inputs, refuse_one_input_twice
 from .planning import decide as decide_now
 from .rounds import Decide, Given, Round, taken_rounds
 from .runs import Decision, Plan, Run
@@ -48,16 +48,17 @@ class Written:
 
 def page(
         rounds: Iterable[Given], path: Path, trace: Path | None = None, title: str | None = None,
-        decide: Decide | None = decide_now, anew: bool = False, most: int = MOST_BYTES) -> Written:
+        decide: Decide | None = decide_now, anew: bool = False, most: int = MOST_BYTES, procs: int | None = None) -> Written:
     """Writes a page that shows the rounds of a run, in order, into a file.
 
-    A round is the path of a dump (`-` is the standard input), a Run, or a Run with its Decision. Where all are paths they are put in
-    the order of their steps; two of one step, and arrays of different lengths, are refused. Rounds of other kinds stand as given.
+    A round is the path of a dump or a table (`-` is the standard input), a Run, or a Run with its Decision. Where all are paths they are
+    put in the order of their steps; two of one step, and arrays of different lengths, are refused. Rounds of other kinds stand as given.
+    A table has the step behind that of the round before it, and `procs` is the number of PEs of one without places.
 
     Where no decision is recorded, or of every round where `anew` is set, `decide` makes one now, and the page says at that round that
     it was planned here; with decide=None such a round has none. A ReorderedDecision is refused. `trace` is a file in the Trace Event
     Format. A page has at most `most` bytes where the elements of enough rounds can be left out for that. InputError tells that there
-    are no rounds, or that the page would be written over a file that is read; DumpError and TraceError what is wrong with a file.
+    are no rounds, or that the page would be written over a file that is read; DumpError, TableError and TraceError what is wrong with a file.
     """
     if isinstance(rounds, (str, bytes, os.PathLike)):
         raise InputError(f"rounds is {rounds!r}, and a list of rounds is wanted")
@@ -66,8 +67,10 @@ def page(
     given = list(rounds)
     if not given:
         raise InputError("a page has one round at least")
-    refuse_inputs(path, [*(one for one in given if isinstance(one, (str, os.PathLike))), trace])
-    taken, notes = taken_rounds(given, decide, anew)
+    inputs = [*(one for one in given if isinstance(one, (str, os.PathLike))), trace]
+    refuse_inputs(path, inputs)
+    refuse_one_input_twice(inputs)
+    taken, notes = taken_rounds(given, decide, anew, procs)
     text, left_out = _page_of(taken, notes, title or _title_of(taken), trace, most)
     data = _bytes(text)
     with open(path, "wb") as out:

@@ -7,17 +7,17 @@ from typing import Callable, List, Sequence, Tuple, Union
 
 import numpy as np
 
-from .dumps import Dump, read_dump
-from .errors import DumpError, InputError
-from .files import STDIN, Path
+from .errors import InputError
+from .files import Path, told
+from .inputs import read_input
 from .runs import Decision, ReorderedDecision, Run
 
 Given = Union[Path, Run, Tuple[Run, "Decision | None"]]
-"""A round: the file of a dump, a run, or a run and the decision on it, as `read_dump` returns them."""
+"""A round: the file of a dump or a table, a run, or a run and the decision on it, as `read_dump` returns them."""
 Decide = Callable[[Run], "Decision | None"]
 
 RECORDED = "recorded"
-NO_RECORD = "planned here; the dump records no decision"
+NO_RECORD = "planned here; the file records no decision"
 NOT_GIVEN = "planned here; the run was given without a decision"
 LEFT_ASIDE = "planned here; the recorded decision is left aside"
 
@@ -38,11 +38,15 @@ class Round:
         return self.decision is not None and self.made != RECORDED
 
 
-def taken_rounds(given: Sequence[Given], decide: Decide | None, anew: bool) -> Tuple[List[Round], List[str]]:
-    """The rounds, in order, and what is to be said of the order."""
-    read = [_read_round(number, one) for number, one in enumerate(given, 1)]
-    rounds, told = in_order(read)
-    return [_decided(one, decide, anew) for one in rounds], told
+def taken_rounds(given: Sequence[Given], decide: Decide | None, anew: bool, procs: int | None = None) -> Tuple[List[Round], List[str]]:
+    """The rounds, in order, and what is to be said of the order, and of loads that were counted. A table has the step behind that of the
+    round before it; one without places may be spread over a number of PEs."""
+    read: List[Round] = []
+    for number, one in enumerate(given, 1):
+        step = read[-1].run.step + 1 if read else 0
+        read.append(_read_round(number, one, min(step, 2**32 - 1), procs))
+    rounds, notes = in_order(read)
+    return [_decided(one, decide, anew) for one in rounds], notes + _told_units(rounds)
 
 
 def in_order(rounds: List[Round]) -> Tuple[List[Round], List[str]]:
@@ -58,8 +62,8 @@ def in_order(rounds: List[Round]) -> Tuple[List[Round], List[str]]:
     for one in ordered[1:]:
         if len(one.run) != len(first.run):
             raise InputError(f"{first.name} has {_counted(len(first.run))} and {one.name} {len(one.run):,}: a page shows one array")
-    told = [] if ordered == rounds else ["the rounds were put in the order of their steps"]
-    return ordered, told + _told_missing(ordered) + _told_moves(ordered)
+    notes = [] if ordered == rounds else ["the rounds were put in the order of their steps"]
+    return ordered, notes + _told_missing(ordered) + _told_moves(ordered)
 
 
 def _told_missing(rounds: Sequence[Round]) -> List[str]:
@@ -83,7 +87,13 @@ def _told_moves(rounds: Sequence[Round]) -> List[str]:
         and not np.array_equal(one.decision.places, other.run.places)]
 
 
-def _read_round(number: int, given: Given) -> Round:
+def _told_units(rounds: Sequence[Round]) -> List[str]:
+    return [
+        f"{one.name}: loads are in units of {one.run.unit!r}, each rounded down: in what was measured all holds within {one.run.within:.3g}"
+        for one in rounds if one.is_file and one.run.unit is not None]
+
+
+def _read_round(number: int, given: Given, step: int, procs: int | None) -> Round:
     name = f"round {number}"
     if isinstance(given, Run):
         return Round(name, given, None, NOT_GIVEN, False)
@@ -93,19 +103,9 @@ def _read_round(number: int, given: Given) -> Round:
             raise InputError(f"{name}: a Decision is wanted beside the run, and not a {type(decision).__name__}")
         return Round(name, run, decision, RECORDED if decision is not None else NOT_GIVEN, False)
     if not isinstance(given, (str, os.PathLike)):
-        raise InputError(f"{name}: the path of a dump, a Run, or a Run and its Decision is wanted, and not a {type(given).__name__}")
-    name = "standard input" if os.fspath(given) == STDIN else os.fspath(given)
-    run, decision = _read(given)
-    return Round(name, run, decision, RECORDED if decision is not None else NO_RECORD, True)
-
-
-def _read(path: Path) -> Dump:
-    try:
-        return read_dump(path)
-    except DumpError as error:
-        raise DumpError(error.line[len("dump: "):], f"in {os.fspath(path)}") from None
-    except OSError as error:
-        raise DumpError("read failed", error) from None
+        raise InputError(f"{name}: the path of a file, a Run, or a Run and its Decision is wanted, and not a {type(given).__name__}")
+    run, decision = read_input(given, procs, step)
+    return Round(told(given), run, decision, RECORDED if decision is not None else NO_RECORD, True)
 
 
 def _decided(one: Round, decide: Decide | None, anew: bool) -> Round:

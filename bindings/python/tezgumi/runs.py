@@ -7,7 +7,7 @@ from typing import TYPE_CHECKING, Any, Dict, List, Sized, Tuple
 import numpy as np
 from numpy.typing import ArrayLike, NDArray
 
-from .errors import InputError, LoadError
+from .errors import InputError, LoadError, PlanError
 from .frames import frame, html_table, rows_of_ends
 from .lists import are_floats, frozen, refuse_no_list, same_fields, shown, slices, total, truth, whole, whole_number
 from .scales import in_units, scaled, unit_of
@@ -265,6 +265,23 @@ class Plan(_Record):
         self._keep("places", frozen(self.places, np.uint32, "places"))
         self._keep("bottleneck", whole_number(self.bottleneck, 0, _LONG, "bottleneck"))
         self._keep("moved", whole_number(self.moved, 0, _LONG, "moved"))
+
+    @classmethod
+    def from_json(cls, text: str | bytes, run: Run, check: bool = True) -> Decision:
+        """The decision that a text of `json_of` has, whoever wrote it, for this run.
+
+        The text is believed in nothing: its lists have to be as long as a decision for so many PEs has them, its numbers whole ones within
+        their limits, and the proved checker has to find every part right. PlanError tells the first fault, and of a flawed decision the
+        `verdict`. With check=False a decision is returned that may be flawed, for `tezgumi.check` to say. What the text says of a check is
+        left aside. It is a Decision, a NearDecision or a ReorderedDecision; another kind than that of the class is refused.
+        """
+        # Which is made of the classes below.
+        from .json_plans import read_plan
+
+        decision = read_plan(text, run, check)
+        if not isinstance(decision, cls):
+            raise PlanError(f"a {cls.__name__} is wanted, and it is a {type(decision).__name__}")
+        return decision
 
     def __repr__(self) -> str:
         return f"Plan({self._shown()})"
