@@ -13,6 +13,7 @@ use Rattle.run_text.proofs.Histories as of_runs
 use Rattle.courses.specs.Courses.{Leads, Made, events_of}
 use Rattle.schedules.specs.Courses.{ExploredView, IsExplored}
 use Rattle.schedules.specs.Drawn.{IsDrawn}
+use Rattle.schedules.specs.Endings.{EndsRun}
 use Rattle.schedules.specs.Replays.{RefusesReplay}
 use Rattle.schedules.specs.Schedules.{IsFirstOutside, MayExplore}
 use Rattle.schedules.specs.declared.bias.Bias.{Bias}
@@ -24,7 +25,7 @@ use Rattle.workload.specs.Text.{IsWithin, WorkloadView}
 use Rattle.workload_run.specs.Tallies.{tallies_of, tally_of}
 use Rattle.schedule_run.specs.Seeds.{TellsSeeds}
 use Rattle.workload_run.specs.declared.ended.RunEnd.{RunEnd}
-use Rattle.schedule_run.specs.OneThread.{IsRunOnOne, RefusesRun, StopsRun, Unpack}
+use Rattle.schedule_run.specs.OneThread.{RefusesRun, StopsRun, Unpack}
 
 -- what a run of these chares on this number of PEs left
 pub on_one : {A : Type 0} (fits : TallyView → Type 0) (unpack : Unpack) (chares chares' : List TallyView) (pes pes' : ℕ)
@@ -49,6 +50,11 @@ drawn_on_one unpack bias bias' seed chares chares' pes pes' strategy strategy' x
     (subst (λ (p : ℕ). IsDrawn tally_step tally_pack unpack bias seed (opening_world p chares strategy') x) same_pes
     (subst (λ (s : Strategy). IsDrawn tally_step tally_pack unpack bias seed (opening_world pes chares s) x) same_strategy drawn)))
 
+-- its end is that of a run of as many events
+pub ends_so : {A : Type 0} (unpack : Unpack) (steps steps' : ℕ) (x : ExploredView TallyView A) → steps ≡ steps'
+    → EndsRun tally_step tally_pack TallyRefuses unpack steps x → EndsRun tally_step tally_pack TallyRefuses unpack steps' x
+ends_so unpack steps steps' x same = subst (λ (n : ℕ). EndsRun tally_step tally_pack TallyRefuses unpack n x) same
+
 -- what was told of the runs of these chares under this schedule
 pub seeds_on_one : (A : Type 0) (fits : TallyView → Type 0) (unpack : Unpack) (chares chares' : List TallyView) (schedule schedule' : Schedule)
     (seeds : ℕ) (old new : Option (List ℕ)) (ended : RunEnd)
@@ -61,9 +67,9 @@ seeds_on_one A fits unpack chares chares' schedule schedule' seeds old new ended
 
 -- what is reported are tallies, as many as the workload has chares
 pub are_tallies : {A : Type 0} (fits : TallyView → Type 0) (unpack : Unpack) → ((t : TallyView) → fits t → t.sum < 2 ^ 64)
-    → (Ended : ExploredView TallyView A → Type 0) (w : WorkloadView) (n : ℕ) (strategy : Strategy) (x : ExploredView TallyView A)
-    → n ≡ w.chares → IsRunOnOne fits unpack Ended w strategy x → AreTallies n x.outcome
-are_tallies fits unpack numbered Ended w n strategy x same (left, ended) =
+    → (w : WorkloadView) (n : ℕ) (strategy : Strategy) (x : ExploredView TallyView A)
+    → n ≡ w.chares → IsExplored tally_step fits tally_pack unpack (tallies_of w) w.pes strategy x → AreTallies n x.outcome
+are_tallies fits unpack numbered w n strategy x same left =
     let counted : length (tallies_of w) ≡ n = length-map-range_with_len (tally_of w) 0 w.chares ∙ sym same in
     subst (λ m. AreTallies m x.outcome) counted
     (of_runs.tallies_left fits numbered (tallies_of w) x.outcome left.account.stands (record { pes = left.histories.pes; queues = left.histories.queues }))

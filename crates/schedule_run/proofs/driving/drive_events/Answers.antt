@@ -5,7 +5,7 @@ use Rattle.schedule_run.proofs.driving.drive_events.Goals as goal
 pub told-requires : goal.told-requires
 told-requires g c =
     let chares : c.workload.inside.chares ≡ c.args.workload.now.chares = ap (λ w. w.chares) c.workload.view_is in
-    record { tallies = are_tallies _ _ (λ t fit. fit.0.1.1.0) _ c.args.workload.now c.workload.inside.chares c.args.strategy c.in-Ok.explored chares c.in-Ok.ensures.left }
+    record { tallies = are_tallies _ _ (λ t fit. fit.0.1.1.0) c.args.workload.now c.workload.inside.chares c.args.strategy c.in-Ok.explored chares c.in-Ok.ensures.left.0 }
 
 pub returns-in-Ok-clause-ran : goal.returns-in-Ok-clause-ran
 returns-in-Ok-clause-ran g c =

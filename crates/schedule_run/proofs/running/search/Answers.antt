@@ -1,8 +1,6 @@
-use Rattle.std.proofs.Common.{◌≡◌, ◌∙◌, ℕ, ap, subst}
-use Rattle.schedules.specs.Endings.{EndsRun}
+use Rattle.std.proofs.Common.{◌≡◌, ◌∙◌, ap}
 use Rattle.schedules.specs.declared.schedule.Schedule.{Schedule}
-use Rattle.tally.specs.Tallies.{TallyRefuses, tally_pack, tally_step}
-use Rattle.schedule_run.proofs.Lefts.{drawn_on_one, on_one}
+use Rattle.schedule_run.proofs.Lefts.{drawn_on_one, ends_so, on_one}
 use Rattle.schedule_run.proofs.running.search.Goals as goal
 
 pub returns-in-Ok : goal.returns-in-Ok
@@ -16,7 +14,7 @@ returns-in-Ok g c =
     record {
       left = (
         on_one _ _ _ _ _ _ _ _ x c.in_ok-tallies.ensures.value on by c.in-Ok.ensures.explored,
-        subst (λ (n : ℕ). EndsRun tally_step tally_pack TallyRefuses _ n x) steps c.in-Ok.ensures.ends,
+        ends_so _ _ _ x steps c.in-Ok.ensures.ends,
       );
       drawn = drawn_on_one _ _ _ _ _ _ _ _ _ _ x (ap (λ (s : Schedule). s.bias) is) c.in_ok-tallies.ensures.value on by c.in-Ok.ensures.drawn;
     }
