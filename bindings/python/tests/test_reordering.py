@@ -148,7 +148,7 @@ class Forged(TimedTest):
             self.assertEqual(self.line(forged), flaw)
             if flaw != "check: MovesWrong":
                 self.assertEqual(slow_checker.first_reordered_flaw(as_lists(FOUR), as_lists(forged)), flaw)
-        for flaw in (flaw for flaw in Flaw if flaw >= 35):
+        for flaw in (flaw for flaw in Flaw if 35 <= flaw < Flaw.NO_SPEED):
             self.assertIn(flaw.word, ("RowCount", "BoundStart", "BoundSteep", "BoundLow"))
 
     def test_what_is_no_part_of_the_proof(self):
