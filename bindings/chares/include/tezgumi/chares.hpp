@@ -33,13 +33,12 @@
 
 namespace tezgumi {
 
-// What a run left.
-template <class C> class outcome {
+// What a run left, but for its elements.
+class run_end {
 public:
     fault met; // none, where all elements have finished
     account letters; // of all PEs
     std::vector<round_report> rounds; // under MPI, on rank 0 alone
-    std::map<std::uint32_t, std::unique_ptr<C>> elements; // under MPI, those of this rank
     bool past_limit = false; // whether the run has had as many rounds as elements may move in, and none moved after these
 
     exited exit; // by which element the run ended, and with which value, where one said so
@@ -60,6 +59,12 @@ public:
         if (is_good()) return 0;
         return met.kind == fault_kind::dump ? 5 : 4;
     }
+};
+
+// What a run left.
+template <class C> class outcome : public run_end {
+public:
+    std::map<std::uint32_t, std::unique_ptr<C>> elements; // under MPI, those of this rank
 
     // What a function makes of each element, in the order of the indices. After a fault some elements may be missing: collect_by_index says
     // which are there.
@@ -98,7 +103,7 @@ inline void must_fit(const settings &how, std::uint32_t pes, std::uint32_t n)
 }
 
 // Where the letters are not all there, that is a fault of its own.
-template <class C> void must_balance(outcome<C> &end)
+inline void must_balance(run_end &end)
 {
     if (end.letters.posted == end.letters.executed + end.letters.held) return;
     if (end.met.kind != fault_kind::none && end.met.kind != fault_kind::quiet) return;
@@ -109,7 +114,7 @@ template <class C> void must_balance(outcome<C> &end)
 // Runs PEs as threads; PE 0 is the thread that calls.
 template <class C, class Make> class threads_run {
 public:
-    threads_run(const settings &how, std::uint32_t n, Make &make) : how_(how), make_(make), field_(how, how.pes, n)
+    threads_run(const settings &how, const chain &n, Make &make) : how_(how), make_(make), field_(how, how.pes, n)
     {
         for (std::uint32_t pe = 0; pe < how.pes; pe++) {
             links_.push_back(std::make_unique<thread_link>(field_, how, pe));
@@ -179,11 +184,14 @@ private:
 // refused as the run ends that is a fault, and some elements are missing in what it left.
 template <class C, class Make> outcome<C> run(const settings &how, std::uint32_t n, Make make)
 {
+    static_assert(detail::dimensions_of<C>::value == 1, "a kind of more dimensions than one is run by its extents: tezgumi::of<C>({4, 5}, make)");
     detail::must_fit(how, how.pes, n);
     detail::threads_run<C, Make> of(how, n, make);
     return of.run();
 }
 
 } // namespace tezgumi
+
+#include "chares/kinds.hpp"
 
 #endif

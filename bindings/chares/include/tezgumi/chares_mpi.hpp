@@ -33,7 +33,9 @@ namespace detail {
 using tezgumi::detail::batch;
 using tezgumi::detail::beside;
 using tezgumi::detail::board;
+using tezgumi::detail::chain;
 using tezgumi::detail::decision;
+using tezgumi::detail::fold_name;
 using tezgumi::detail::note;
 using tezgumi::detail::quiet_question;
 using tezgumi::detail::run_fault;
@@ -76,7 +78,7 @@ struct told_fault {
 // in which they were sent.
 class rank_link final : public tezgumi::detail::link {
 public:
-    rank_link(MPI_Comm comm, const settings &how, std::uint32_t n) : how_(how)
+    rank_link(MPI_Comm comm, const settings &how, const chain &of) : how_(how), all_(of)
     {
         MPI_Comm_dup(comm, &comm_);
         MPI_Comm_set_errhandler(comm_, MPI_ERRORS_ARE_FATAL); // no call below looks at what MPI answers
@@ -85,7 +87,7 @@ public:
         MPI_Comm_size(comm_, &ranks);
         me_ = static_cast<std::uint32_t>(rank);
         ranks_ = static_cast<std::uint32_t>(ranks);
-        n_ = n;
+        n_ = of.size();
     }
     ~rank_link() override { MPI_Comm_free(&comm_); }
     rank_link(const rank_link &) = delete;
@@ -96,7 +98,7 @@ public:
     MPI_Comm comm() const { return comm_; }
 
     // Takes the memory that the link needs whatever happens, and runs what takes that of its PE. Throws on all ranks where one has none,
-    // where a number is past its limit, or where they name different numbers of elements.
+    // where a number is past its limit, or where they name different elements.
     template <class F> void open(F &&more)
     {
         std::exception_ptr past;
@@ -105,11 +107,13 @@ public:
         } catch (...) {
             past = std::current_exception();
         }
-        long long told[3] = {past ? 0 : 1, n_, -static_cast<long long>(n_)};
-        MPI_Allreduce(MPI_IN_PLACE, told, 3, MPI_LONG_LONG, MPI_MIN, comm_);
+        const long long digest = static_cast<long long>(all_.digest());
+        long long told[5] = {past ? 0 : 1, n_, -static_cast<long long>(n_), digest, -digest};
+        MPI_Allreduce(MPI_IN_PLACE, told, 5, MPI_LONG_LONG, MPI_MIN, comm_);
         if (past) std::rethrow_exception(past);
         if (told[0] == 0) throw std::invalid_argument("another rank names a number that is past its limit");
         if (told[1] != -told[2]) throw std::invalid_argument("the ranks name different numbers of elements");
+        if (told[3] != -told[4]) throw std::invalid_argument("the ranks name different kinds of elements, or different keys");
         int good = take_memory(more) ? 1 : 0;
         MPI_Allreduce(MPI_IN_PLACE, &good, 1, MPI_INT, MPI_MIN, comm_);
         if (!good) throw std::bad_alloc();
@@ -172,10 +176,10 @@ public:
         pup::pack(given, bytes);
         post(0, shares, std::move(bytes));
     }
-    bool folded(std::uint64_t &key, beside &of) override
+    bool folded(fold_name &name, beside &of) override
     {
         if (folded_.empty()) return false;
-        key = folded_.front().first;
+        name = folded_.front().first;
         of = std::move(folded_.front().second);
         folded_.pop_front();
         return true;
@@ -298,8 +302,8 @@ private:
             unused_.assign(ranks_, 0);
             end_requests_.assign(ranks_, MPI_REQUEST_NULL);
             if (me_ == 0) {
-                board_ = std::make_unique<board>(how_, ranks_, n_);
-                folds_ = std::make_unique<tezgumi::detail::folds>(n_);
+                board_ = std::make_unique<board>(how_, ranks_, all_);
+                folds_ = std::make_unique<tezgumi::detail::folds>(all_);
                 question_ = std::make_unique<quiet_question>(ranks_);
             }
             more();
@@ -516,7 +520,7 @@ private:
             pup::unpack(given, bytes.data(), bytes.size());
             take_shares(given);
         } else if (what == whole) {
-            std::pair<std::uint64_t, pup::bytes> of;
+            std::pair<fold_name, pup::bytes> of;
             pup::unpack(of, bytes.data(), bytes.size());
             folded_.emplace_back(of.first, std::make_shared<const pup::bytes>(std::move(of.second)));
         } else if (what == ended_by) {
@@ -553,10 +557,10 @@ private:
             pup::bytes packed, bytes;
             pup::pack(all.of, packed);
             if (all.pe == 0) {
-                folded_.emplace_back(all.of.key, std::make_shared<const pup::bytes>(std::move(packed)));
+                folded_.emplace_back(folds_->name_of(all), std::make_shared<const pup::bytes>(std::move(packed)));
                 continue;
             }
-            pup::pack(std::make_pair(all.of.key, packed), bytes);
+            pup::pack(std::make_pair(folds_->name_of(all), packed), bytes);
             post(all.pe, whole, std::move(bytes));
         }
     }
@@ -617,6 +621,7 @@ private:
     }
 
     const settings &how_;
+    const chain all_; // elements
     MPI_Comm comm_ = MPI_COMM_NULL;
     std::uint32_t me_ = 0, ranks_ = 1, n_ = 0;
     // Of each rank: all messages sent to it and found of it; batches that it has not used up, and that are used up here.
@@ -641,7 +646,7 @@ private:
     int refusals_ = 0; // of memory for the message in front, in a row
     std::chrono::steady_clock::time_point since_{};
     std::uint32_t asked_ = 0, answered_ = 0, quiets_ = 0;
-    std::list<std::pair<std::uint64_t, beside>> folded_; // what folds came to: a list, which takes no memory while it is empty
+    std::list<std::pair<fold_name, beside>> folded_; // what folds came to: a list, which takes no memory while it is empty
     exited exit_; // on rank 0, and on all of them at the end
     // On rank 0.
     std::unique_ptr<board> board_;
@@ -744,14 +749,12 @@ private:
     MPI_Comm comm_;
 };
 
-// Runs an array of n elements of type C with a PE on each rank of a communicator, until all elements have finished, or to a fault.
-// All ranks call it. Element i is make(i), which is called on the rank where the element begins.
-//
-// It throws std::invalid_argument where a number is past its limit, and std::bad_alloc where memory is refused before the run on some
-// rank; both on all ranks. A rank that is refused memory as the run ends, again and again, ends all by MPI_Abort.
-template <class C, class Make> outcome<C> run(MPI_Comm comm, const settings &how, std::uint32_t n, Make make)
+namespace detail {
+
+// Runs these elements, of whatever kinds.
+template <class C, class Make> outcome<C> run_all(MPI_Comm comm, const settings &how, const chain &n, Make &make)
 {
-    detail::rank_link link(comm, how, n);
+    rank_link link(comm, how, n);
     std::unique_ptr<tezgumi::detail::elements_of<C>> objects;
     std::unique_ptr<tezgumi::detail::worker> one;
     link.open([&] {
@@ -776,7 +779,22 @@ template <class C, class Make> outcome<C> run(MPI_Comm comm, const settings &how
     return end;
 }
 
+} // namespace detail
+
+// Runs an array of n elements of type C with a PE on each rank of a communicator, until all elements have finished, or to a fault.
+// All ranks call it. Element i is make(i), which is called on the rank where the element begins.
+//
+// It throws std::invalid_argument where a number is past its limit, and std::bad_alloc where memory is refused before the run on some
+// rank; both on all ranks. A rank that is refused memory as the run ends, again and again, ends all by MPI_Abort.
+template <class C, class Make> outcome<C> run(MPI_Comm comm, const settings &how, std::uint32_t n, Make make)
+{
+    static_assert(tezgumi::detail::dimensions_of<C>::value == 1, "a kind of more dimensions than one is run by its extents: tezgumi::of<C>({4, 5}, make)");
+    return detail::run_all<C>(comm, how, n, make);
+}
+
 } // namespace mpi
 } // namespace tezgumi
+
+#include "chares/kinds_mpi.hpp"
 
 #endif

@@ -5,7 +5,7 @@
 #ifndef TEZGUMI_CHARES_BOARD_HPP
 #define TEZGUMI_CHARES_BOARD_HPP
 
-#include "words.hpp"
+#include "chain.hpp"
 
 #include <tezgumi_board.h>
 
@@ -92,14 +92,14 @@ private:
 
 class board {
 public:
-    board(const settings &how, std::uint32_t pes, std::uint32_t n)
-        : how_(how), pes_(pes), n_(n), handle_(how, pes, n), loads_(n), places_(n), reported_(n), finished_(n), given_(n), bytes_(n)
+    board(const settings &how, std::uint32_t pes, const chain &of)
+        : how_(how), pes_(pes), n_(of.size()), all_(of), handle_(how, pes, n_), loads_(n_), places_(n_), reported_(n_), finished_(n_), given_(n_), bytes_(n_)
     {
         present_.cuts.resize(pes + 1);
         present_.names.resize(pes);
         for (std::uint32_t b = 0; b < pes; b++) present_.names[b] = b;
         // Element i begins on PE i * pes / n, rounded down, so block b begins at b * n / pes, rounded up.
-        for (std::uint64_t b = 0; b <= pes; b++) present_.cuts[b] = static_cast<std::uint32_t>((b * n + pes - 1) / pes);
+        for (std::uint64_t b = 0; b <= pes; b++) present_.cuts[b] = static_cast<std::uint32_t>((b * n_ + pes - 1) / pes);
     }
 
     // Takes a note, and what was contributed by it: the first of an element in the round that is under way, or that it has finished.
@@ -193,7 +193,7 @@ private:
             if (finished_[i]) continue;
             at_sync += reported_[i];
             if (count++ >= told) continue;
-            first += (count == 1 ? ": element " : ", element ") + std::to_string(i);
+            first += (count == 1 ? ": " : ", ") + all_.name(i);
             first += reported_[i] ? " waits for round " + std::to_string(present_.round + 1) : std::string(" waits for a message");
         }
         std::string text = std::to_string(count) + " of " + std::to_string(n_) + " elements have not finished" + first;
@@ -207,13 +207,19 @@ private:
         const std::uint32_t round = present_.round + 1;
         return !how_.moves_all && how_.every != 0 && round % how_.every == 0 && round < last_balanced_round;
     }
-    // Folds what the elements contributed, in the order of the indices. All contribute to a round as often, or it is a fault, which names
-    // one of each.
-    void join(contributions &results) const
+    // Folds what the elements of each kind contributed, in the order of their indices. All of a kind contribute to a round as often, or it is a
+    // fault, which names one of each.
+    void join(round_results &results) const
     {
-        for (std::uint32_t i = 0; i < n_; i++) {
-            if (given_[i].size() != given_[0].size()) throw run_fault(fault_kind::input, uneven(i), i);
-            if (i == 0) results.resize(given_[0].size());
+        results.resize(all_.kinds());
+        for (std::uint32_t kind = 0; kind < all_.kinds(); kind++) join(kind, results[kind]);
+    }
+    void join(std::uint32_t kind, contributions &results) const
+    {
+        for (std::uint32_t number = 0; number < all_.size(kind); number++) {
+            const std::uint32_t i = all_.place(kind, number), first = all_.place(kind, 0);
+            if (given_[i].size() != given_[first].size()) throw run_fault(fault_kind::input, uneven(first, i), i);
+            if (number == 0) results.resize(given_[first].size());
             for (std::size_t k = 0; k < results.size(); k++) {
                 try {
                     results[k].join(given_[i][k]);
@@ -223,13 +229,13 @@ private:
             }
         }
     }
-    std::string uneven(std::uint32_t i) const
+    std::string uneven(std::uint32_t first, std::uint32_t i) const
     {
         const auto gave = [this](std::uint32_t of) {
             const std::size_t count = given_[of].size();
-            return "element " + std::to_string(of) + " contributes " + (count == 0 ? "nothing" : count == 1 ? "a value" : std::to_string(count) + " values");
+            return all_.name(of) + " contributes " + (count == 0 ? "nothing" : count == 1 ? "a value" : std::to_string(count) + " values");
         };
-        return gave(0) + " to round " + std::to_string(present_.round + 1) + ", and " + gave(i);
+        return gave(first) + " to round " + std::to_string(present_.round + 1) + ", and " + gave(i);
     }
     void weigh()
     {
@@ -265,6 +271,7 @@ private:
 
     const settings how_;
     const std::uint32_t pes_, n_;
+    const chain all_;
     board_handle handle_;
     std::vector<std::uint64_t> loads_;
     std::vector<std::uint32_t> places_;
@@ -277,34 +284,38 @@ private:
     pup::bytes dump_; // of the round that was decided last, until it is written
 };
 
-// Folds that wait for no round: of each what its elements have contributed so far.
+// Folds that wait for no round: of each what the elements of its kind have contributed so far, by their numbers.
 class folds {
 public:
-    explicit folds(std::uint32_t n) : n_(n) {}
+    explicit folds(const chain &of) : all_(of) {}
 
+    fold_name name_of(const share_of_fold &of) const { return fold_name(all_.kind(of.index), of.of.key); }
     // Takes what an element contributes. Whether it was the last; then this is what they came to, for the PE of the first element.
     bool take(share_of_fold &of, share_of_fold &whole)
     {
-        shares &all = open_[of.of.key];
-        if (all.given.empty()) all.given.resize(n_);
-        if (of.index >= n_) throw run_fault(fault_kind::mismatch, "what no element contributes came");
-        if (all.given[of.index].is_there()) {
+        if (of.index >= all_.size()) throw run_fault(fault_kind::mismatch, "what no element contributes came");
+        const fold_name name = name_of(of);
+        const std::uint32_t number = all_.number(of.index), n = all_.size(name.first);
+        shares &all = open_[name];
+        if (all.given.empty()) all.given.resize(n);
+        if (all.given[number].is_there()) {
             throw run_fault(fault_kind::input, "the element contributes twice to fold " + std::to_string(of.of.key), of.index);
         }
-        all.given[of.index] = std::move(of.of.value);
-        if (of.index == 0) all.pe = of.pe;
-        if (++all.count != n_) return false;
+        all.given[number] = std::move(of.of.value);
+        if (number == 0) all.pe = of.pe;
+        if (++all.count != n) return false;
+        whole.index = of.index;
         whole.pe = all.pe;
         whole.of.key = of.of.key;
         whole.of.value = contribution();
-        for (std::uint32_t i = 0; i < n_; i++) {
+        for (std::uint32_t i = 0; i < n; i++) {
             try {
                 whole.of.value.join(all.given[i]);
             } catch (const std::invalid_argument &) {
-                throw run_fault(fault_kind::input, "contributions to fold " + std::to_string(of.of.key) + " differ in kind or in length", i);
+                throw run_fault(fault_kind::input, "contributions to fold " + std::to_string(of.of.key) + " differ in kind or in length", all_.place(name.first, i));
             }
         }
-        open_.erase(of.of.key);
+        open_.erase(name);
         return true;
     }
 
@@ -313,8 +324,8 @@ private:
         std::vector<contribution> given;
         std::uint32_t count = 0, pe = 0;
     };
-    const std::uint32_t n_;
-    std::map<std::uint64_t, shares> open_;
+    const chain all_;
+    std::map<fold_name, shares> open_;
 };
 
 // Whether all PEs have nothing to do: each is asked by a number, and answers once it has nothing to do, with how many messages it has

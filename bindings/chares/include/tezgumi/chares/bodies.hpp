@@ -29,9 +29,9 @@ public:
         return at != all_.end() && at->second.bytes;
     }
     // Letters were posted that name a body with what this fold comes to.
-    void await(std::uint64_t fold, const ticket &of) { folds_[fold].push_back(of); }
+    void await(const fold_name &fold, const ticket &of) { folds_[fold].push_back(of); }
     // Such a body has come, for the first of these letters. Which one.
-    ticket fill(std::uint64_t fold, const beside &bytes)
+    ticket fill(const fold_name &fold, const beside &bytes)
     {
         const auto found = folds_.find(fold);
         if (found == folds_.end()) throw run_fault(fault_kind::mismatch, "what a fold came to is for no letter");
@@ -154,7 +154,7 @@ private:
 
     const std::uint32_t pes_;
     besides all_;
-    std::map<std::uint64_t, std::deque<ticket>> folds_;
+    std::map<fold_name, std::deque<ticket>> folds_;
     std::vector<spread> leaving_, awaiting_; // whose bodies are here, and whose bodies are to come
 };
 

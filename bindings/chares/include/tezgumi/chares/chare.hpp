@@ -2,7 +2,7 @@
 #ifndef TEZGUMI_CHARES_CHARE_HPP
 #define TEZGUMI_CHARES_CHARE_HPP
 
-#include "words.hpp"
+#include "chain.hpp"
 
 #include <tezgumi_chares.h>
 
@@ -111,7 +111,7 @@ inline ticket ticket_in(const std::uint8_t *body)
 // The answer of a handler, as it is being made, and what the handler is told.
 class outgoing {
 public:
-    outgoing(std::uint32_t own, std::uint32_t of_pes, std::uint32_t elements) : pe(own), pes(of_pes), n(elements) {}
+    outgoing(std::uint32_t own, std::uint32_t of_pes, const chain &elements) : pe(own), pes(of_pes), n(elements.size()), all(elements) {}
     outgoing(const outgoing &) = delete;
     outgoing &operator=(const outgoing &) = delete;
     ~outgoing() { tezgumi_answer_free(&answer); }
@@ -119,7 +119,9 @@ public:
     // Begins the answer of this element's handler, which sends nothing yet.
     void begin(std::uint32_t index)
     {
-        me = index;
+        at = index;
+        kind = all.kind(index);
+        me = all.number(index);
         letters = 0;
         receivers.clear();
         late.clear();
@@ -153,10 +155,9 @@ public:
         pup::pack(message, *packed);
         put_beside(std::move(packed));
     }
-    // Sends what was packed. Where it throws, the letters of the answer are those that it had.
+    // Sends what was packed to the element at this place. Where it throws, the letters of the answer are those that it had.
     void post(std::uint32_t to)
     {
-        must_be_there(to);
         if (!shared) return add(to);
         const ticket made = keep(0, 1);
         try {
@@ -174,7 +175,7 @@ public:
         posts();
         late.emplace_back(before, letters);
     }
-    // Sends it to so many elements, whose indices are to(0), to(1) and so on; or to none where that throws. A body that is long, for all together, is
+    // Sends it to so many elements, whose places are to(0), to(1) and so on; or to none where that throws. A body that is long, for all together, is
     // there once, and all these letters name it.
     template <class F> void post_to_each(std::size_t count, F &&to, bool is_awaited = false)
     {
@@ -199,49 +200,57 @@ public:
         }
     }
     // Contributes to a fold. The first element posts the letters with what that comes to, as a message of this type: their body comes later.
-    template <class F> void contribute(std::uint64_t key, const contribution &value, std::size_t place, std::size_t count, F &&to)
+    template <class F> void contribute(std::uint64_t key, const contribution &value, std::size_t type, std::size_t count, F &&to)
     {
         share_of_fold mine;
-        mine.index = me;
+        mine.index = at;
         mine.pe = pe;
         mine.of.key = key;
         mine.of.value = value;
         reserve_one(shares);
         reserve_one(awaited);
         if (me == 0) {
-            body.assign(1, static_cast<std::uint8_t>(place));
+            body.assign(1, static_cast<std::uint8_t>(type));
             put_beside(nullptr);
             post_to_each(count, to, true);
-            awaited.emplace_back(key, tickets.back());
+            awaited.emplace_back(fold_name(kind, key), tickets.back());
         }
         shares.push_back(std::move(mine));
     }
-    void post_to_all()
+    // To all elements of a kind, or to those with these indices.
+    void post_to_all(std::uint32_t of = 0)
     {
-        post_to_each(n, [](std::size_t i) { return static_cast<std::uint32_t>(i); });
+        post_to_each(all.size(of), [this, of](std::size_t i) { return all.place(of, static_cast<std::uint32_t>(i)); });
     }
-    template <class I> void post_to_some(const std::vector<I> &indices)
+    template <class I> void post_to_some(std::uint32_t of, const std::vector<I> &indices)
     {
-        for (const I &to : indices) must_be_there(to);
-        post_to_each(indices.size(), [&indices](std::size_t i) { return static_cast<std::uint32_t>(indices[i]); });
+        for (const I &to : indices) number_of(of, to);
+        post_to_each(indices.size(), [this, of, &indices](std::size_t i) { return all.place(of, number_of(of, indices[i])); });
     }
-    template <class I> void must_be_there(I to) const
+    // The number of the element of a kind that has this index. Where there is none that is an exception.
+    template <class I> std::uint32_t number_of(std::uint32_t of, const I &to) const
     {
-        if (to < 0 || static_cast<std::uint64_t>(to) >= n) {
-            throw stranger("there is no element " + std::to_string(to) + " in an array of " + std::to_string(n));
+        if constexpr (is_index<I>::value) {
+            return all.number(of, to);
+        } else {
+            if (to < 0 || static_cast<std::uint64_t>(to) >= all.size(of)) {
+                throw stranger("there is no element " + std::to_string(to) + " in an array of " + std::to_string(all.size(of)));
+            }
+            return static_cast<std::uint32_t>(to);
         }
     }
 
     const std::uint32_t pe, pes, n;
-    std::uint32_t me = 0;
+    const chain all; // elements
+    std::uint32_t at = 0, kind = 0, me = 0; // the place of the element whose handler this is, its kind, and its number in that
     std::uint64_t letters = 0;
     std::vector<std::uint32_t> receivers; // of these letters, in order
     std::vector<share_of_fold> shares; // what it contributes to folds
-    std::vector<std::pair<std::uint64_t, ticket>> awaited; // of the first element: the folds to which it contributes, and the bodies with what these come to
+    std::vector<std::pair<fold_name, ticket>> awaited; // of the first element: the folds to which it contributes, and the bodies with what these come to
     std::vector<std::pair<std::uint64_t, std::uint64_t>> late; // those that leave once nothing else is to be done: from which to before which
     tezgumi_answer answer = {nullptr, 0, 0};
     besides *held = nullptr;
-    const contributions *results = nullptr;
+    const round_results *results = nullptr;
 
 private:
     static constexpr std::size_t letters_at = 14; // of an answer, the count of its letters
@@ -361,85 +370,95 @@ template <class C, class M> bool pack(outgoing &out, const M &message)
 
 } // namespace detail
 
-// The array as a handler sees it. It is not kept past the handler.
-template <class C> class array {
+// The elements of a kind, as a handler of any kind sees them. It is not kept past the handler.
+template <class C> class proxy {
 public:
-    explicit array(detail::outgoing &out) : out_(&out) {}
+    explicit proxy(detail::outgoing &out, std::uint32_t kind = 0) : out_(&out), kind_(kind) {}
 
-    // Element i of the array.
+    // One element of the kind.
     class element {
     public:
         // Sends it a message.
         template <class M> void send(const M &message) const
         {
-            if (detail::pack<C>(*out_, message)) out_->post(index_);
+            if (detail::pack<C>(*out_, message)) out_->post(place_);
         }
         // Sends it once nothing is under way and no PE has anything to do.
         template <class M> void when_quiet(const M &message) const
         {
-            if (detail::pack<C>(*out_, message)) out_->when_quiet([this] { out_->post(index_); });
+            if (detail::pack<C>(*out_, message)) out_->when_quiet([this] { out_->post(place_); });
         }
-        std::uint32_t index() const { return index_; }
+        std::uint32_t index() const { return index_; } // its number in the kind
 
     private:
-        friend class array;
+        friend class proxy;
         friend class chare;
         void contribute(std::uint64_t key, const contribution &value) const
         {
-            out_->must_be_there(index_);
-            out_->contribute(key, value, place_of_folds(), 1, [this](std::size_t) { return index_; });
+            out_->contribute(key, value, place_of_folds(), 1, [this](std::size_t) { return place_; });
         }
-        element(detail::outgoing *out, std::uint32_t index) : out_(out), index_(index) {}
+        element(detail::outgoing *out, std::uint32_t kind, std::uint32_t index) : out_(out), index_(index), place_(out->all.place(kind, index)) {}
         detail::outgoing *out_;
-        std::uint32_t index_;
+        std::uint32_t index_, place_;
     };
 
     // A number that is no index of an element is refused, as by `send`.
     template <class I> element operator[](const I &i) const
     {
         static_assert(!std::is_floating_point<I>::value, "the index of an element is a whole number");
-        if constexpr (std::is_integral<I>::value && !std::is_same<I, bool>::value) {
-            out_->must_be_there(i);
-            return element(out_, static_cast<std::uint32_t>(i));
+        static_assert(detail::dimensions_of<C>::value == 1, "an element of this kind has more coordinates than one: all[{x, y}]");
+        if constexpr (detail::dimensions_of<C>::value == 1) {
+            if constexpr (std::is_integral<I>::value && !std::is_same<I, bool>::value) {
+                return element(out_, kind_, out_->number_of(kind_, i));
+            } else {
+                const std::uint32_t number = i;
+                return element(out_, kind_, out_->number_of(kind_, number));
+            }
         } else {
-            return element(out_, i);
+            return element(out_, kind_, 0);
         }
     }
-    element self() const { return element(out_, out_->me); }
+    // By its coordinates: all[{x, y}].
+    element operator[](const index<1> &at) const { return by_coordinates(at); }
+    element operator[](const index<2> &at) const { return by_coordinates(at); }
+    element operator[](const index<3> &at) const { return by_coordinates(at); }
 
-    // Sends a message to every element, this one too.
+    // Sends a message to every element of the kind, this one too if it is of the kind.
     template <class M> void send(const M &message) const
     {
-        if (detail::pack<C>(*out_, message)) out_->post_to_all();
+        if (detail::pack<C>(*out_, message)) out_->post_to_all(kind_);
     }
     // Sends a message to the elements with these indices, to one as often as its index is there. Where one is no index, it is sent to none.
     template <class M, class I> void send(const M &message, const std::vector<I> &to) const
     {
         must_be_indices<I>();
-        if (detail::pack<C>(*out_, message)) out_->post_to_some(to);
+        if (detail::pack<C>(*out_, message)) out_->post_to_some(kind_, to);
     }
     // Sends it once nothing is under way and no PE has anything to do.
     template <class M> void when_quiet(const M &message) const
     {
-        if (detail::pack<C>(*out_, message)) out_->when_quiet([this] { out_->post_to_all(); });
+        if (detail::pack<C>(*out_, message)) out_->when_quiet([this] { out_->post_to_all(kind_); });
     }
     template <class M, class I> void when_quiet(const M &message, const std::vector<I> &to) const
     {
         must_be_indices<I>();
-        if (detail::pack<C>(*out_, message)) out_->when_quiet([this, &to] { out_->post_to_some(to); });
+        if (detail::pack<C>(*out_, message)) out_->when_quiet([this, &to] { out_->post_to_some(kind_, to); });
     }
 
-    std::uint32_t me() const { return out_->me; } // the index of the element whose handler this is
-    std::uint32_t size() const { return out_->n; } // how many elements there are
-    std::uint32_t pe() const { return out_->pe; } // the PE where it runs
-    std::uint32_t pes() const { return out_->pes; } // how many PEs there are
+    std::uint32_t size() const { return out_->all.size(kind_); } // how many elements the kind has
+    detail::index_of<C> extents() const { return out_->all.template extents<detail::dimensions_of<C>::value>(kind_); } // and in each dimension
+    // The coordinates of the element with this number in the kind.
+    detail::index_of<C> at(std::uint32_t number) const
+    {
+        return out_->all.template index_of<detail::dimensions_of<C>::value>(kind_, out_->number_of(kind_, number));
+    }
 
     // In resume after a round: what the contributions of that round came to. Which of them is said by its place among those of an element.
-    bool has_result(std::size_t which = 0) const { return out_->results && which < out_->results->size(); }
+    bool has_result(std::size_t which = 0) const { return out_->results && kind_ < out_->results->size() && which < (*out_->results)[kind_].size(); }
     template <class T> std::vector<T> results(std::size_t which = 0) const
     {
         if (!has_result(which)) throw std::logic_error("nothing was contributed");
-        return (*out_->results)[which].template values<T>();
+        return (*out_->results)[kind_][which].template values<T>();
     }
     template <class T> T result(std::size_t which = 0) const
     {
@@ -448,8 +467,18 @@ public:
         return found[0];
     }
 
+protected:
+    element at_number(std::uint32_t number) const { return element(out_, kind_, number); }
+    detail::outgoing *out_;
+    std::uint32_t kind_;
+
 private:
     friend class chare;
+    template <std::size_t D> element by_coordinates(const index<D> &at) const
+    {
+        static_assert(detail::dimensions_of<C>::value == D, "an element of this kind has another number of coordinates");
+        return element(out_, kind_, out_->number_of(kind_, at));
+    }
     static constexpr std::size_t place_of_folds()
     {
         using place = detail::place_of<folded, typename C::messages>;
@@ -458,13 +487,38 @@ private:
     }
     void contribute(std::uint64_t key, const contribution &value) const
     {
-        out_->contribute(key, value, place_of_folds(), out_->n, [](std::size_t i) { return static_cast<std::uint32_t>(i); });
+        out_->contribute(key, value, place_of_folds(), size(), [this](std::size_t i) { return out_->all.place(kind_, static_cast<std::uint32_t>(i)); });
     }
     template <class I> static constexpr void must_be_indices()
     {
-        static_assert(std::is_integral<I>::value && !std::is_same<I, bool>::value, "the index of an element is a whole number");
+        constexpr bool is_whole = std::is_integral<I>::value && !std::is_same<I, bool>::value;
+        static_assert(is_whole || detail::is_index<I>::value, "the index of an element is a whole number");
+        static_assert(std::is_same<I, detail::index_of<C>>::value || (is_whole && detail::dimensions_of<C>::value == 1),
+            "an element of this kind has another number of coordinates");
     }
-    detail::outgoing *out_;
+};
+
+// The array of its own kind, as the handler of an element sees it. It is not kept past the handler.
+template <class C> class array : public proxy<C> {
+public:
+    using proxy<C>::proxy;
+    using proxy<C>::at;
+
+    std::uint32_t me() const { return this->out_->me; } // the number of the element whose handler this is
+    detail::index_of<C> at() const { return at(me()); } // and its coordinates
+    typename proxy<C>::element self() const { return this->at_number(me()); }
+    std::uint32_t pe() const { return this->out_->pe; } // the PE where it runs
+    std::uint32_t pes() const { return this->out_->pes; } // how many PEs there are
+
+    // The elements of another kind of the run, or of this one.
+    template <class K> proxy<K> of() const
+    {
+        static_assert(std::is_base_of<chare, K>::value, "a chare C is a struct C : tezgumi::chare");
+        if constexpr (std::is_same<K, C>::value) return *this;
+        const std::uint32_t kind = this->out_->all.find(&detail::tag_of<K>);
+        if (kind == detail::chain::no_kind) throw stranger("there are no elements of the kind that is asked for");
+        return proxy<K>(*this->out_, kind);
+    }
 };
 
 namespace detail {
@@ -529,20 +583,25 @@ void dispatch(messages<M...>, C &object, std::size_t place, const std::uint8_t *
 // The objects of the elements of one PE, of whatever type they are; and the answer that their handlers make.
 class elements {
 public:
-    elements(std::uint32_t pe, std::uint32_t pes, std::uint32_t n) : out(pe, pes, n) {}
+    elements(std::uint32_t pe, std::uint32_t pes, const chain &of) : own_(std::make_unique<outgoing>(pe, pes, of)), out(*own_) {}
+    explicit elements(outgoing &of_all) : out(of_all) {}
     virtual ~elements() = default;
 
     virtual said &said_by(std::uint32_t index) = 0;
     virtual void receive(std::uint32_t index, std::size_t place, const std::uint8_t *body, std::size_t len) = 0;
     virtual void resume(std::uint32_t index, round r) = 0;
-    virtual bool restores() const = 0;
+    virtual bool restores(std::uint32_t index) const = 0;
     virtual std::uint64_t size(std::uint32_t index) const = 0;
     virtual void pack(std::uint32_t index, pup::er &p) = 0;
     // Makes the object anew of these bytes, all of which it takes. Where that throws the object is as it was.
     virtual void unpack(std::uint32_t index, pup::er &p) = 0;
     virtual void remove(std::uint32_t index) = 0;
 
-    outgoing out;
+private:
+    std::unique_ptr<outgoing> own_;
+
+public:
+    outgoing &out;
 };
 
 template <class C> class elements_of final : public elements {
@@ -551,20 +610,23 @@ template <class C> class elements_of final : public elements {
     static_assert(std::is_default_constructible<C>::value, "the chare C is unpacked where it arrives, so it needs a constructor without arguments");
 
 public:
-    elements_of(std::uint32_t pe, std::uint32_t pes, std::uint32_t n) : elements(pe, pes, n), all_(out), objects_(n) {}
+    elements_of(std::uint32_t pe, std::uint32_t pes, const chain &of) : elements(pe, pes, of), all_(out), objects_(of.size()) {}
+    // The elements of one of several kinds, by their numbers.
+    elements_of(outgoing &of_all, std::uint32_t kind) : elements(of_all), all_(out, kind), objects_(of_all.all.size(kind)) {}
 
     // What makes the elements as they begin, by the function of the program.
     template <class Make> auto beginning(Make &make)
     {
         return [this, &make](std::uint32_t index) { objects_[index] = std::unique_ptr<C>(new C(make(index))); };
     }
+    void begin(std::uint32_t index, std::unique_ptr<C> object) { objects_[index] = std::move(object); }
     said &said_by(std::uint32_t index) override { return said_of::in(*objects_[index]); }
     void receive(std::uint32_t index, std::size_t place, const std::uint8_t *body, std::size_t len) override
     {
         dispatch(typename C::messages(), *objects_[index], place, body, len, all_);
     }
     void resume(std::uint32_t index, round r) override { call_resume(*objects_[index], r, all_); }
-    bool restores() const override { return detail::restores<C>::value; }
+    bool restores(std::uint32_t) const override { return detail::restores<C>::value; }
     std::uint64_t size(std::uint32_t index) const override { return pup::size_of(*objects_[index]); }
     void pack(std::uint32_t index, pup::er &p) override
     {

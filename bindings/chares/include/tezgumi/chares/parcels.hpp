@@ -134,7 +134,7 @@ public:
     virtual void report(std::vector<note> &notes) = 0;
     // Gives what elements contribute to folds; and what one came to, for letters that this PE has posted.
     virtual void contribute(std::vector<share_of_fold> &shares) = 0;
-    virtual bool folded(std::uint64_t &key, beside &whole) = 0;
+    virtual bool folded(fold_name &of, beside &whole) = 0;
     // The last decision, where it is of a round after this one.
     virtual std::shared_ptr<const decision> decided(std::uint32_t after) = 0;
     // Whether all are to end, and that this PE has met a fault, for which all end.

@@ -86,6 +86,7 @@ struct fault {
     std::uint32_t pe = 0; // the PE, or the rank, that met it
     std::uint32_t element = no_element; // the element whose handler met it
     std::string what; // in words
+    std::string name; // of that element, in a run of several kinds or dimensions
 
     explicit operator bool() const { return kind != fault_kind::none; }
     const char *word() const { return fault_word(kind); }
@@ -94,7 +95,7 @@ struct fault {
         std::string line = word();
         if (kind == fault_kind::none) return line;
         line += " on PE " + std::to_string(pe);
-        if (element != no_element) line += ", element " + std::to_string(element);
+        if (element != no_element) line += ", " + (name.empty() ? "element " + std::to_string(element) : name);
         if (!what.empty()) line += ": " + what;
         return line;
     }
@@ -229,6 +230,8 @@ private:
 
 // What an element contributes to a round, in order.
 using contributions = std::vector<contribution>;
+// What the contributions of a round came to, of each kind of elements.
+using round_results = std::vector<contributions>;
 
 // What all elements contributed to one fold came to, as a message: it stands among the messages of a chare that contributes to such.
 struct folded {
@@ -291,6 +294,8 @@ struct note {
     void pup(pup::er &p) { p(finished, index, round, pe, load, bytes, given); }
 };
 
+// A fold that waits for no round: the kind of its elements, and the key.
+using fold_name = std::pair<std::uint32_t, std::uint64_t>;
 // What an element on a PE contributes to a fold that waits for no round.
 struct share_of_fold {
     std::uint32_t index = 0, pe = 0;
@@ -303,7 +308,7 @@ struct share_of_fold {
 struct decision {
     std::uint32_t round = 0;
     std::vector<std::uint32_t> cuts, names;
-    contributions results;
+    round_results results;
 
     void pup(pup::er &p) { p(round, cuts, names, results); }
 };

@@ -18,7 +18,7 @@ class worker {
 public:
     worker(link &carrier, const settings &how, elements &objects)
         : link_(carrier), how_(how), objects_(objects), out_(objects.out), me_(out_.pe), pes_(out_.pes), n_(out_.n), room_(n_), outbound_(how, pes_),
-          held_own_(how.batch), held_others_(how.batch), bodiless_(how.batch), clock_(how.clock), patience_(pes_), bodies_(pes_), places_(n_)
+          held_own_(how.batch), held_others_(how.batch), bodiless_(how.batch), clock_(how.clock, out_.all.kinds()), patience_(pes_), bodies_(pes_), places_(n_)
     {
         own_.from = me_;
         out_.held = &bodies_.all();
@@ -405,11 +405,11 @@ private:
     // What folds came to goes into the letters that wait for it. Whether there was any.
     bool take_folds()
     {
-        std::uint64_t key = 0;
+        fold_name of;
         beside whole;
         bool did = false;
-        for (; link_.folded(key, whole); did = true) {
-            for (arrival &one : bodiless_.take(bodies_.fill(key, whole))) revived_.push_back(std::move(one));
+        for (; link_.folded(of, whole); did = true) {
+            for (arrival &one : bodiless_.take(bodies_.fill(of, whole))) revived_.push_back(std::move(one));
         }
         if (did) empty_outbox();
         return did;
@@ -469,18 +469,18 @@ private:
     template <class F> void handle(std::uint32_t index, slot &at, std::size_t kind, F &&handler)
     {
         objects_.said_by(index).begin();
-        if (objects_.restores()) {
+        if (objects_.restores(index)) {
             copy_.clear();
             pup::er p(copy_);
             guarded(index, [&] { objects_.pack(index, p); });
         }
         out_.begin(index);
         if (trace_) trace_->begin();
-        clock_.start(kind);
+        clock_.start(out_.kind * work_clock::kinds + kind);
         try {
             guarded(index, handler);
         } catch (const run_fault &met) {
-            if (!objects_.restores() || met.kind == fault_kind::memory) throw;
+            if (!objects_.restores(index) || met.kind == fault_kind::memory) throw;
             pup::er p(copy_.data(), copy_.size());
             guarded(index, [&] { objects_.unpack(index, p); });
             out_.begin(index);
@@ -796,7 +796,7 @@ private:
     // Rounds: where each element is, by the last decision, and those that start, go on or wait.
     std::vector<std::uint32_t> places_;
     std::uint32_t round_ = 0;
-    contributions results_, nothing_;
+    round_results results_, nothing_;
     std::deque<std::uint32_t> due_;
     std::vector<std::uint32_t> waiting_;
     std::vector<note> notes_;
