@@ -232,10 +232,14 @@ public:
     std::string name(std::uint32_t place) const { return all_.name(place); }
 
     // For `run`.
-    void know(const chain &all)
+    void know(const chain &all) noexcept
     {
         all_ = all;
-        if (met.element < all.size()) met.name = all.name(met.element);
+        try {
+            if (met.element < all.size()) met.name = all.name(met.element);
+        } catch (const std::bad_alloc &) {
+            met.name.clear(); // there is no memory for words
+        }
     }
 
 private:
