@@ -56,8 +56,9 @@ public:
             "make is called with the index of an element: a number, or for a kind of several dimensions a tezgumi::index");
         if constexpr (std::is_invocable<Make &, argument>::value) {
             using made = typename std::invoke_result<Make &, argument>::type;
-            static_assert(std::is_same<typename std::decay<made>::type, C>::value || std::is_convertible<made, C>::value, "make returns an element of its kind");
-            make_ = [make](const index &at) mutable { return std::unique_ptr<C>(new C(make(argument_of(at)))); };
+            constexpr bool is_one = std::is_same<typename std::decay<made>::type, C>::value || std::is_convertible<made, C>::value;
+            static_assert(is_one, "make returns an element of its kind");
+            if constexpr (is_one) make_ = [make](const index &at) mutable { return std::unique_ptr<C>(new C(make(argument_of(at)))); };
         }
         if constexpr (!std::is_same<Key, detail::no_key>::value) {
             static_assert(std::is_invocable<Key &, argument>::value,
@@ -112,7 +113,7 @@ template <class C, std::size_t D, class Make, class Key> shape<C> shape_of(const
 {
     static_assert(dimensions_of<C>::value == D, "the kind C has another number of dimensions: it says so by using index = tezgumi::index<2>");
     if constexpr (dimensions_of<C>::value == D) return shape<C>(extents, std::move(make), std::move(key));
-    else return std::declval<shape<C>>();
+    else return shape<C>(index_of<C>(), std::move(make), std::move(key));
 }
 
 } // namespace detail
@@ -220,6 +221,8 @@ private:
 
 // What a run of several kinds left.
 template <template <class> class Outcome, class... C> class outcome_of_kinds : public run_end {
+    static_assert(sizeof(kinds<C...>) != 0, "each kind stands once");
+
 public:
     template <class... A> explicit outcome_of_kinds(const A &...with) : elements(with...) {}
 
