@@ -101,7 +101,16 @@ namespace pup = tezgumi::pup;
 #undef AFTER
 #define AFTER end.elements.of<others>().size();
 #endif
+#if CASE == 23 // the kind C is only declared here
+#undef SENDS
+#define SENDS all.of<later>().extents();
+#endif
+#if CASE == 24 // the kind C is only declared here
+#undef SENDS
+#define SENDS all.of<later>().at(3);
+#endif
 
+struct later;
 struct pairs : tezgumi::chare {
     using messages = tezgumi::messages<char>;
     void pup(pup::er &) {}
@@ -119,6 +128,9 @@ struct cells : tezgumi::chare {
         SENDS
     }
     RECEIVE
+};
+struct later : pairs {
+    using index = tezgumi::index<3>;
 };
 
 int main()

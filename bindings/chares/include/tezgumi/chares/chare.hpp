@@ -446,12 +446,9 @@ public:
     }
 
     std::uint32_t size() const { return out_->all.size(kind_); } // how many elements the kind has
-    detail::index_of<C> extents() const { return out_->all.template extents<detail::dimensions_of<C>::value>(kind_); } // and in each dimension
-    // The coordinates of the element with this number in the kind.
-    detail::index_of<C> at(std::uint32_t number) const
-    {
-        return out_->all.template index_of<detail::dimensions_of<C>::value>(kind_, out_->number_of(kind_, number));
-    }
+    // How many in each dimension; and the coordinates of the element with this number in the kind. Each is an index of the kind.
+    auto extents() const { return out_->all.template extents<detail::dimensions_of<C>::value>(kind_); }
+    auto at(std::uint32_t number) const { return out_->all.template index_of<detail::dimensions_of<C>::value>(kind_, out_->number_of(kind_, number)); }
 
     // In resume after a round: what the contributions of that round came to. Which of them is said by its place among those of an element.
     bool has_result(std::size_t which = 0) const { return out_->results && kind_ < out_->results->size() && which < (*out_->results)[kind_].size(); }
@@ -505,7 +502,7 @@ public:
     using proxy<C>::at;
 
     std::uint32_t me() const { return this->out_->me; } // the number of the element whose handler this is
-    detail::index_of<C> at() const { return at(me()); } // and its coordinates
+    auto at() const { return at(me()); } // and its coordinates
     typename proxy<C>::element self() const { return this->at_number(me()); }
     std::uint32_t pe() const { return this->out_->pe; } // the PE where it runs
     std::uint32_t pes() const { return this->out_->pes; } // how many PEs there are

@@ -59,8 +59,13 @@ namespace detail {
 // The dimensions of a kind of chares: those of its type `index`, where it has one. Any other type of that name is its own.
 template <class T> struct dimensions_in : std::integral_constant<std::size_t, 1> {};
 template <std::size_t D> struct dimensions_in<index<D>> : std::integral_constant<std::size_t, D> {};
-template <class C, class = void> struct dimensions_of : std::integral_constant<std::size_t, 1> {};
-template <class C> struct dimensions_of<C, std::void_t<typename C::index>> : dimensions_in<typename C::index> {};
+template <class C, class = void> struct dimensions_named : std::integral_constant<std::size_t, 1> {};
+template <class C> struct dimensions_named<C, std::void_t<typename C::index>> : dimensions_in<typename C::index> {};
+template <class C, class = void> struct is_defined : std::false_type {};
+template <class C> struct is_defined<C, std::void_t<decltype(sizeof(C))>> : std::true_type {};
+template <class C> struct dimensions_of : dimensions_named<C> {
+    static_assert(is_defined<C>::value, "the kind C is only declared here: define the handler that asks for its indices behind it");
+};
 template <class C> using index_of = index<dimensions_of<C>::value>;
 template <class T> struct is_index : std::false_type {};
 template <std::size_t D> struct is_index<index<D>> : std::true_type {};
