@@ -466,9 +466,7 @@ struct guests : tezgumi::chare {
     void pup(pup::er &p) { p(kind, sum); }
     void resume(tezgumi::round r, tezgumi::array<guests> &all)
     {
-        if (r != 0 || all.me() != 0) return;
-        all.send(1);
-        all.when_quiet(2);
+        if (r == 0 && all.me() == 0) all.send(1);
     }
     void receive(int number, tezgumi::array<guests> &all);
 };
@@ -480,6 +478,7 @@ struct hosts : tezgumi::chare {
     void resume(tezgumi::round, tezgumi::array<hosts> &all)
     {
         if (kind == 9 || all.me() != 2) finish();
+        if (kind != 9 && all.me() == 0) all.of<guests>().when_quiet(2);
     }
     void receive(const std::string &text, tezgumi::array<hosts> &all)
     {
@@ -496,7 +495,7 @@ void guests::receive(int number, tezgumi::array<guests> &all)
 {
     sum += number;
     if (number == 2) {
-        all.of<hosts>()[2].send(std::string("h"));
+        all.of<hosts>().send(std::string("h"), std::vector<int>{2});
         return finish();
     }
     if (all.me() == 3) {
