@@ -263,7 +263,8 @@ void messages()
     expect(at("messages wait for an element that comes, and such for all do not"), good);
     // To one that never comes.
     const auto never = launch::run<waiter>(usual(), 3, [](std::uint32_t i) { return only<waiter>(i != 1, 1); });
-    good = is_well(never) && never.letters.held == 4 && never.collect([](const waiter &) { return 1; }).size() == (tests::prints() ? 2 : 0);
+    // The last message to all may still be on its way to where nobody is.
+    good = is_well(never) && never.letters.held >= 4 && never.letters.held <= 5 && never.collect([](const waiter &) { return 1; }).size() == (tests::prints() ? 2 : 0);
     expect(at("messages to an element that never comes"), good);
 }
 
@@ -600,6 +601,7 @@ struct gatherer : tezgumi::chare {
     void receive(const tezgumi::folded &of, tezgumi::array<gatherer> &all)
     {
         const std::uint32_t phase = static_cast<std::uint32_t>(of.key % 1000);
+        if (phase < born_in) return; // it was on its way as this one came
         std::vector<std::pair<std::uint32_t, std::uint32_t>> there;
         double sum = 0;
         for (std::uint32_t i = 0; i < all.size(); i++) {

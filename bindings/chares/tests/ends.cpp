@@ -202,12 +202,36 @@ void quiet_again()
     expect(at("a run is quiet once such messages have come"), good && word(5) == 1 && word(6) == 1);
 }
 
+// In each round another PE takes long, and no PE sends a message to another: that is not quiet.
+struct sleeper : tezgumi::chare {
+    using messages = tezgumi::messages<int>;
+    int kind = 0;
+    void pup(pup::er &p) { p(kind); }
+    void resume(tezgumi::round r, tezgumi::array<sleeper> &all)
+    {
+        if (r % all.pes() == all.pe()) tests::sleep(6);
+        if (r == 20) return finish();
+        at_sync();
+    }
+    void receive(int) {}
+};
+
+void slow_in_turn()
+{
+    tezgumi::settings how = usual();
+    how.every = 0;
+    const auto end = run_all<sleeper>(how, pes);
+    if (!end.is_good() && tests::prints()) std::cerr << end.met.text() << std::endl;
+    expect(at("a run whose PEs take long in turn"), end.is_good() && end.rounds.size() == (tests::prints() ? 20 : 0));
+}
+
 void all()
 {
     exits();
     none_exits();
     phases();
     quiet_again();
+    slow_in_turn();
 }
 
 } // namespace

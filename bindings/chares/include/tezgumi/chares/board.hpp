@@ -129,7 +129,7 @@ public:
     // way has not.
     bool is_complete()
     {
-        if (n_ == 0 || reported_count_ != n_ || coming_count_ != 0) return false;
+        if (reported_count_ != n_ || absent_count_ == n_ || coming_count_ != 0) return false;
         return !is_balanced() || absent_count_ != 0 || handle_.is_complete();
     }
 

@@ -19,7 +19,7 @@ class worker {
 public:
     worker(link &carrier, const settings &how, elements &objects)
         : link_(carrier), how_(how), objects_(objects), out_(objects.out), me_(out_.pe), pes_(out_.pes), n_(out_.n), room_(n_), outbound_(how, pes_),
-          held_own_(how.batch), held_others_(how.batch), unclaimed_(how.batch), bodiless_(how.batch), clock_(how.clock), patience_(pes_), bodies_(pes_), places_(n_)
+          held_own_(how.batch), held_others_(how.batch), unclaimed_(how.batch), arriving_(how.batch), bodiless_(how.batch), clock_(how.clock), patience_(pes_), bodies_(pes_), places_(n_)
     {
         own_.from = me_;
         out_.held = &bodies_.all();
@@ -300,12 +300,7 @@ private:
             bodiless_.add(next.its_ticket(), alone, next);
             return true;
         }
-        if (absent_here_ != 0 && lacks_element(next)) {
-            arrival alone;
-            alone.from = of.from;
-            unclaimed_.add(next.receiver(), alone, next);
-            return true;
-        }
+        if (absent_here_ != 0 && waits_at_index(of, next)) return true;
         const std::uint32_t on = times == 0 ? nobody : held_on(next.receiver(), times);
         if (on == nobody) return false;
         if (times == 1) {
@@ -597,17 +592,23 @@ private:
         of.round = at.waits_for;
         return of;
     }
-    // Whether this letter is for an index of this PE that has no element, and waits for one.
-    bool lacks_element(const parcel &of) const
+    // Puts aside a letter for an index of this PE that has no element, and an element for one that goes on after a round first. Whether it did.
+    bool waits_at_index(const arrival &of, const parcel &next)
     {
-        const std::uint32_t index = of.receiver();
+        const std::uint32_t index = next.receiver();
         addressed body;
-        return index < n_ && room_[index] && !room_[index]->exists && addressed::read(of.body(), of.body_len(), body) && body.waits();
+        if (index >= n_ || !room_[index] || room_[index]->exists || !addressed::read(next.body(), next.body_len(), body)) return false;
+        const bool is_due = room_[index]->waits && room_[index]->waits_for <= round_;
+        if (!body.waits() && !(body.is_element && is_due)) return false;
+        arrival alone;
+        alone.from = of.from;
+        (body.waits() ? unclaimed_ : arriving_).add(index, alone, next);
+        return true;
     }
-    // The letters that waited for an element here go on.
-    void claim(std::uint32_t index)
+    // Letters that waited here go on.
+    void claim(held_letters &of, std::uint32_t index)
     {
-        for (arrival &one : unclaimed_.take(index)) revived_.push_back(std::move(one));
+        for (arrival &one : of.take(index)) revived_.push_back(std::move(one));
     }
     // An answer without a handler, which sends nothing.
     void answer_nothing(std::uint32_t index, std::uint64_t units, bool at_sync)
@@ -649,7 +650,7 @@ private:
         notes_.push_back(note_of(change::comes, index, here(index)));
         std::vector<share_of_fold> told(1, changed(change::comes, index));
         link_.contribute(told);
-        claim(index);
+        claim(unclaimed_, index);
     }
     // The last handler inserts elements: no round is decided, and the run does not end, before they have come.
     void tell_inserted()
@@ -712,6 +713,7 @@ private:
         at.early = false;
         at.load = 0;
         if (!at.exists) wait(index, at);
+        claim(arriving_, index);
     }
 
     void resume(std::uint32_t index, slot &at)
@@ -804,7 +806,8 @@ private:
         if (!at.exists) absent_here_--;
         room_[index].reset();
         objects_.remove(index);
-        claim(index);
+        claim(arriving_, index);
+        claim(unclaimed_, index);
         if (trace_) trace_->left(index, round_);
     }
     // An element that came is unpacked.
@@ -912,6 +915,7 @@ private:
         held_own_.each(leave);
         held_others_.each(leave);
         unclaimed_.each(leave);
+        arriving_.each(leave);
         bodiless_.each(leave);
     }
     void leave_batch(batch &from)
@@ -954,7 +958,7 @@ private:
     // Letters that are held back, of this PE and of others; those without a body, and those whose body has come. The batch of the one in
     // the hand.
     held_letters held_own_, held_others_;
-    held_letters unclaimed_; // for indices of this PE that have no element, which are so many
+    held_letters unclaimed_, arriving_; // for indices of this PE that have no element, which are so many; and elements for such as go on first
     std::uint32_t absent_here_ = 0;
     bodiless_letters bodiless_;
     std::deque<arrival> revived_;
