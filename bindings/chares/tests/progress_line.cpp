@@ -6,16 +6,22 @@ namespace {
 
 struct walker : tezgumi::chare {
     using messages = tezgumi::messages<int>;
-    int rounds = 0;
-    void pup(pup::er &p) { p(rounds); }
+    int rounds = 0, sent = 0, got = 0;
+    void pup(pup::er &p) { p(rounds, sent, got); }
     void resume(tezgumi::round r, tezgumi::array<walker> &all)
     {
         work(10 + (all.me() + r) % 4);
         if (r == static_cast<std::uint32_t>(rounds)) return finish();
         all[(all.me() + 1) % all.size()].send(1);
+        sent++;
         if (rounds > 3) std::this_thread::sleep_for(std::chrono::milliseconds(3));
+        if (got == sent) at_sync();
     }
-    void receive(int) { at_sync(); }
+    // It may come before the element is resumed.
+    void receive(int)
+    {
+        if (++got == sent) at_sync();
+    }
 };
 
 } // namespace
