@@ -681,6 +681,7 @@ private:
         objects_.remove(index);
         absent_here_++;
         at.exists = at.early = false;
+        at.waits = has_waited;
         at.adds_to = nobody;
         at.bytes = at.load = 0;
         at.given.clear();
