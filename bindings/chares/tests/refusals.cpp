@@ -20,11 +20,11 @@ constexpr std::uint32_t count = 6;
 
 struct one : tezgumi::chare {
     using messages = tezgumi::messages<int, std::string, tezgumi::folded>;
-    int what = 0, got = 0;
+    int what = 0, got = 0, calls = 0;
     std::uint32_t life = 0;
     bool is_right = true;
     std::string ballast;
-    void pup(pup::er &p) { p(what, got, life, is_right, ballast); }
+    void pup(pup::er &p) { p(what, got, calls, life, is_right, ballast); }
     void resume(tezgumi::round r, tezgumi::array<one> &all)
     {
         work(1 + all.me());
@@ -66,6 +66,13 @@ struct one : tezgumi::chare {
         }
         all.send(int(r), others);
         all.send(std::string(2000 + all.me(), 'm'), others);
+        calls++;
+        is_called(all);
+    }
+    // Calls of the next round may come before the element is resumed.
+    void is_called(tezgumi::array<one> &all)
+    {
+        if (got == calls * 2 * int(all.size() - 1)) at_sync();
     }
     // The first sends once nothing is to be done, three times: to all, to one and to some.
     void wait(tezgumi::array<one> &all)
@@ -91,7 +98,8 @@ struct one : tezgumi::chare {
     }
     void called(tezgumi::array<one> &all)
     {
-        if (++got % (2 * int(all.size() - 1)) == 0) at_sync();
+        got++;
+        is_called(all);
     }
 
     // The odd ones come in each second round, and end behind it.

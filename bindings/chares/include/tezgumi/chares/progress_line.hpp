@@ -45,7 +45,7 @@ public:
         finished_ = finished;
         elements_ = elements;
         const point now = clock::now();
-        if (now - (shown_ == point() ? began_ : shown_) < between) return;
+        if (shown_ == point() ? now - began_ < first : now - shown_ < between) return;
         shown_ = now;
         write();
     }
@@ -53,7 +53,7 @@ public:
 private:
     using clock = std::chrono::steady_clock;
     using point = clock::time_point;
-    static constexpr std::chrono::milliseconds between{100};
+    static constexpr std::chrono::milliseconds first{500}, between{100};
 
     // One call of the system, with no more than the terminal has in a row.
     void write() const
