@@ -755,7 +755,7 @@ struct mayfly : tezgumi::chare {
 
 void short_lives()
 {
-    const std::uint32_t n = 150;
+    const std::uint32_t n = 40;
     const auto end = launch::run<mayfly>(usual(), n, [](std::uint32_t) { return only<mayfly>(true, 0); });
     bool good = is_well(end) && end.letters.held == 0 && end.letters.executed >= 2 * n * n + n;
     for (int one : end.collect([](const mayfly &of) { return of.got; })) good = good && one == 2 * int(n);
