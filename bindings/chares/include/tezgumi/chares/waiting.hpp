@@ -18,6 +18,7 @@ struct slot {
     std::uint32_t round = 0, waits_for = 0;
     std::uint32_t adds_to = nobody; // the PE to which it went on adding letters, where those were over the limit
     std::uint64_t bytes = 0;
+    std::uint64_t meanwhile = 0; // its work while it waits
     contributions given;
 };
 
@@ -130,6 +131,18 @@ public:
             send(letters_.front().first, next);
         }
         return did;
+    }
+
+    std::size_t count() const { return letters_.size(); }
+    // Each that is here, as a parcel.
+    template <class F> void each(F &&of) const
+    {
+        for (const auto &one : letters_) {
+            parcel next;
+            next.message = one.second.data();
+            next.len = one.second.size();
+            of(static_cast<const parcel &>(next));
+        }
     }
 
 private:

@@ -2,7 +2,7 @@
 #ifndef TEZGUMI_CHARES_WORKER_HPP
 #define TEZGUMI_CHARES_WORKER_HPP
 
-#include "bodies.hpp"
+#include "checkpoint.hpp"
 #include "events.hpp"
 #include "patience.hpp"
 #include "trace.hpp"
@@ -16,10 +16,13 @@ namespace detail {
 
 class worker {
 public:
-    worker(link &carrier, const settings &how, elements &objects)
+    // A run that is carried on begins with what is in `from`.
+    worker(link &carrier, const settings &how, elements &objects, restored_run *from = nullptr)
         : link_(carrier), how_(how), objects_(objects), out_(objects.out), me_(out_.pe), pes_(out_.pes), n_(out_.n), room_(n_), outbound_(how, pes_),
-          held_own_(how.batch), held_others_(how.batch), bodiless_(how.batch), clock_(how.clock), patience_(pes_), bodies_(pes_), places_(n_)
+          held_own_(how.batch), held_others_(how.batch), bodiless_(how.batch), clock_(how.clock), patience_(pes_), bodies_(pes_), places_(n_),
+          cuts_(how, me_, pes_, n_, from)
     {
+        out_.round = cuts_.before();
         own_.from = me_;
         out_.held = &bodies_.all();
         out_.results = &nothing_;
@@ -51,6 +54,9 @@ public:
         }
     }
 
+    // Once the run has ended, and checkpoints of so many rounds stand: what this PE has written of a later one is removed.
+    void forget_parts(std::uint32_t stands) noexcept { cuts_.forget(stands); }
+
     // At the end: takes in the elements that came, and counts the letters that are still anywhere here. Batches that come after the end are
     // given to it first. Where an element cannot be unpacked all others are there nevertheless. The file of events ends before that, and a
     // fault of it is told where there is no other.
@@ -67,7 +73,7 @@ public:
         for (auto &one : leaving_) leave_element(one.first, one.second->data(), one.second->size());
         if (hand_element_ != fault::no_element) leave_element(hand_element_, hand_object_->data(), hand_object_->size());
         held_ += inside_ - gone_ - executed_;
-        letters.add(account{posted_, executed_, held_, failed_});
+        letters.add(cuts_.counted(account{posted_, executed_, held_, failed_}));
         if (missed_) std::rethrow_exception(missed_);
         if (lost) std::rethrow_exception(lost);
     }
@@ -94,10 +100,12 @@ private:
         }
         if (!how_.trace.empty()) trace_ = std::make_unique<time_trace>(how_, me_);
         pe_ = std::make_unique<pe_handle>(me_, pes_, n_);
+        results_ = cuts_.results();
         for (std::uint32_t i = 0; i < n_; i++) {
             if (opening_place(i) != me_) continue;
             guarded(i, [&] { begin(i); });
             room_[i] = std::make_unique<slot>();
+            cuts_.begin(i, *room_[i]);
             due_.push_back(i);
         }
     }
@@ -258,7 +266,12 @@ private:
             inbox_ = arrival();
             if (!link_.receive(inbox_.from, inbox_.parcels)) return false;
             inbox_.is_whole = true;
-            if (inbox_.parcels.round() <= round_) return true;
+            cuts_.fetched(inbox_.from, inbox_.parcels.round());
+            if (inbox_.parcels.round() <= round_) {
+                has_inbox_ = true; // also where what follows is refused memory
+                if (cuts_.takes(inbox_.parcels.round())) save_under_way();
+                return true;
+            }
             later_.push_back(std::move(inbox_));
         }
         return false;
@@ -284,6 +297,10 @@ private:
         if (next.is_body()) {
             bodies_.take(me_, next, [this](std::uint32_t to, parcel &more, const beside &body) { put(to, more, body); });
             for (arrival &one : bodiless_.take(next.its_ticket())) revived_.push_back(std::move(one));
+            return true;
+        }
+        if (next.is_mark() || next.is_share() || next.is_whole()) {
+            take_own(of.from, next);
             return true;
         }
         if (!next.is_letter()) return false;
@@ -491,6 +508,7 @@ private:
         so.end(at.waits);
         const std::uint64_t measured = clock_.end(so.named), units = so.named ? so.units : measured;
         if (trace_) trace_->handler(index, kind);
+        if (at.waits) at.meanwhile = units < UINT64_MAX - at.meanwhile ? at.meanwhile + units : UINT64_MAX;
         if (so.at_sync && !at.waits) guarded(index, [&] { at.bytes = objects_.size(index); });
         out_.end(units, so.at_sync, so.finished, at.bytes);
     }
@@ -503,15 +521,17 @@ private:
         for (const auto &some : out_.late) late_.expect(posted_ + some.first, posted_ + some.second);
         posted_ += out_.letters;
         inside_ += out_.letters;
+        cuts_.posted(out_);
         if (so.exits) link_.exit(index, so.exits);
         for (const auto &one : out_.awaited) bodies_.await(one.first, one.second);
-        if (!out_.shares.empty()) link_.contribute(out_.shares);
+        if (!out_.shares.empty()) contribute();
         add_to_outbox(out_.letters, true);
         mark(at);
         if (so.finished) {
             at.finished = true;
         } else if (so.at_sync && !at.waits && !at.finished) {
             at.waits = true;
+            at.meanwhile = 0;
             at.waits_for = at.round + 1;
             at.given = std::move(so.given);
             so.given.clear();
@@ -536,6 +556,7 @@ private:
         if (len == 0) throw run_fault(fault_kind::mismatch, "a letter without a message came", index);
         slot &at = here(index);
         const std::uint8_t place = body[0];
+        if (place == call_place) return carry_on(index, at);
         beside longer;
         if (place & beside_bit) {
             if (len != ticket_bytes) throw run_fault(fault_kind::mismatch, "the ticket of a letter has another length", index);
@@ -553,15 +574,177 @@ private:
 
     void resume(std::uint32_t index, slot &at)
     {
-        out_.results = round_ == 0 ? &nothing_ : &results_;
-        at.waits = false;
-        at.round = round_;
-        handle(index, at, work_clock::resumption, [&] { objects_.resume(index, round_); });
+        if (round_ == 0 && (cuts_.has_letters(index) || at.finished || at.meanwhile != 0)) {
+            post_again(index, at);
+        } else {
+            run_resume(index, at);
+        }
         pe_->resume(index, round_, out_.answer);
         if (log_ && round_ == 0) log_->start(index);
         if (log_ && round_ != 0) log_->resume(index, round_);
         handled(index, at);
         out_.results = &nothing_;
+        if (index == 0 && round_ == 0) begin_folds();
+    }
+    void run_resume(std::uint32_t index, slot &at)
+    {
+        out_.results = &results_;
+        at.waits = false;
+        at.round = round_;
+        handle(index, at, work_clock::resumption, [&] { objects_.resume(index, cuts_.before() + round_); });
+    }
+
+    // ---- A run that is carried on ----
+
+    // In place of its handler an element posts letters that were under way, to itself. One behind them asks for more, and then for the handler: until
+    // that has run no round comes.
+    void post_again(std::uint32_t index, slot &at)
+    {
+        objects_.said_by(index).begin();
+        out_.begin(index);
+        cuts_.post(index, out_);
+        out_.post_call();
+        out_.end(at.meanwhile, false, at.finished, 0);
+        at.meanwhile = 0;
+        at.waits = true; // so that it is not at sync before its handler
+        at.round = round_;
+    }
+    void carry_on(std::uint32_t index, slot &at)
+    {
+        if (cuts_.has_letters(index)) {
+            post_again(index, at);
+        } else {
+            run_resume(index, at);
+        }
+        pe_->execute(index, out_.answer);
+        if (log_) log_->act();
+        executed_++;
+        cuts_.called();
+        handled(index, at);
+        out_.results = &nothing_;
+        if (index == 0) begin_folds();
+    }
+
+    // ---- Folds of a run that is saved, or carried on ----
+
+    // They are parcels, as letters are: what is contributed goes to PE 0, and what a fold came to from there to the PE of its letters.
+    void contribute()
+    {
+        if (!cuts_.has_folds()) return link_.contribute(out_.shares);
+        const std::uint8_t message = 4;
+        for (const share_of_fold &one : out_.shares) {
+            auto packed = std::make_shared<pup::bytes>();
+            pup::pack(one, *packed);
+            parcel next;
+            next.message = &message;
+            next.len = 1;
+            put(0, next, packed);
+        }
+    }
+    // Once the first element has posted the letters that wait for folds, PE 0 has these folds.
+    void begin_folds()
+    {
+        if (!cuts_.begin_folds([this](const share_of_fold &whole) { send_whole(whole); })) return;
+        for (const whole_fold &one : cuts_.wholes()) fill(one.key, cuts_.now(one.of), std::make_shared<const pup::bytes>(one.value));
+        empty_outbox();
+    }
+    void send_whole(const share_of_fold &whole)
+    {
+        auto packed = std::make_shared<pup::bytes>();
+        pup::pack(whole.of, *packed);
+        std::uint8_t message[ticket_bytes + 8] = {5};
+        pup::detail::write_word<std::uint32_t>(message + 1, whole.pe);
+        pup::detail::write_word<std::uint64_t>(message + 5, whole.number);
+        pup::detail::write_word<std::uint64_t>(message + ticket_bytes, whole.of.key);
+        parcel next;
+        next.message = message;
+        next.len = sizeof message;
+        put(whole.pe, next, packed);
+    }
+    void fill(std::uint64_t key, const ticket &of, const beside &bytes)
+    {
+        bodies_.fill(key, of, bytes);
+        for (arrival &one : bodiless_.take(of)) revived_.push_back(std::move(one));
+    }
+    // A parcel that is this header's own.
+    void take_own(std::uint32_t from, const parcel &next)
+    {
+        if (next.is_mark()) {
+            cuts_.told(from, pup::detail::read_word<std::uint32_t>(next.message + 1), pup::detail::read_word<std::uint64_t>(next.message + 5));
+            end_cut();
+        } else if (next.is_share()) {
+            share_of_fold of;
+            pup::unpack(of, next.object(), next.object_len());
+            cuts_.take(std::move(of), [this](const share_of_fold &whole) { send_whole(whole); });
+        } else {
+            const std::uint64_t key = pup::detail::read_word<std::uint64_t>(next.message + ticket_bytes);
+            fill(key, ticket_in(next.message), next.kept());
+        }
+    }
+
+    // ---- Checkpoints ----
+
+    // The decision of a round is about to be taken up: all elements of this PE wait for it. What is here is saved: before letters that leave once
+    // nothing is to be done, as those have left that this PE has heard of.
+    void save(const decision &next)
+    {
+        send_late();
+        const std::uint64_t inside = inside_ - gone_ - executed_;
+        if (inside != (has_hand_ ? 1u : 0u) + late_.count() || hand_element_ != fault::no_element || !leaving_.empty()) {
+            throw run_fault(fault_kind::mismatch, "a parcel is where no checkpoint finds it");
+        }
+        part_file &part = cuts_.begin(next, account{posted_, executed_, 0, failed_});
+        for (std::uint32_t i = 0; i < n_; i++) {
+            if (!room_[i]) continue;
+            if (!room_[i]->waits) throw run_fault(fault_kind::mismatch, "a round was decided without an element", i);
+            part.element(i, room_[i]->finished, room_[i]->meanwhile, [&](pup::er &p) { guarded(i, [&] { objects_.pack(i, p); }); });
+        }
+        if (has_hand_) part.parcel_of(hand_letter_, bodies_, false);
+        late_.each([&](const parcel &one) { part.parcel_of(one, bodies_, true); });
+        const auto save_all = [&](batch &of) { part.parcels(of, bodies_); };
+        for (arrival &one : later_) {
+            if (one.parcels.round() < next.saved) save_all(one.parcels);
+            else cuts_.is_later(one.from);
+        }
+        for (arrival &one : revived_) save_all(one.parcels);
+        if (has_inbox_) save_all(inbox_.parcels);
+        save_all(own_.parcels);
+        for (batch &one : own_ready_) save_all(one);
+        save_all(own_next_);
+        outbound_.each(save_all);
+        held_own_.each(save_all);
+        held_others_.each(save_all);
+        bodiless_.each(save_all);
+        for (const auto &one : bodies_.all()) {
+            if (one.first.is_shared() && one.second.bytes) part.body(one.first, one.second.bytes->data(), one.second.bytes->size());
+        }
+        for (const auto &one : bodies_.awaited()) {
+            for (const ticket &of : one.second) part.awaited(one.first, of);
+        }
+        cuts_.save_folds(part);
+        // All others are told how many batches were sent to them up to now.
+        for (std::uint32_t to = 0; to < pes_; to++) {
+            if (to == me_) continue;
+            std::uint8_t message[13] = {3};
+            pup::detail::write_word<std::uint32_t>(message + 1, next.saved);
+            pup::detail::write_word<std::uint64_t>(message + 5, outbound_.sent(to));
+            parcel mark;
+            mark.message = message;
+            mark.len = sizeof message;
+            put(to, mark, nullptr);
+        }
+        end_cut();
+    }
+    // A batch came that was sent before the cut.
+    void save_under_way()
+    {
+        cuts_.part().parcels(inbox_.parcels, bodies_);
+        end_cut();
+    }
+    void end_cut()
+    {
+        if (!cuts_.is_complete()) return;
+        link_.saved(cuts_.end(static_cast<std::uint32_t>(objects_.kinds())));
     }
 
     // ---- Rounds ----
@@ -571,11 +754,13 @@ private:
         if (next.cuts.size() != pes_ + 1u || next.names.size() != pes_ || next.cuts[pes_] != n_) {
             throw run_fault(fault_kind::mismatch, "a decision of other numbers");
         }
+        if (cuts_.is_new(next)) save(next);
         for (std::uint32_t b = 0; b < pes_; b++) {
             for (std::uint32_t i = next.cuts[b]; i < next.cuts[b + 1]; i++) places_[i] = next.names[b];
         }
         round_ = next.round;
-        if (trace_) trace_->round(round_);
+        out_.round = cuts_.before() + round_;
+        if (trace_) trace_->round(cuts_.before() + round_);
         results_ = next.results;
         std::sort(waiting_.begin(), waiting_.end());
         // Those that leave go first, and letters of the others then follow them.
@@ -805,6 +990,7 @@ private:
     std::uint64_t idle_ = 0;
     bool has_failed_ = false;
     std::exception_ptr missed_; // why an element is missing at the end
+    cuts_of_pe cuts_; // the run as it is saved, and as it is carried on
 };
 
 } // namespace detail
