@@ -141,7 +141,7 @@ public:
             const ssize_t some = ::pread(file_, to, std::min(count, std::size_t(1) << 30), static_cast<off_t>(at));
             if (some < 0 && errno == EINTR) continue;
             if (some < 0) refuse("cannot be read: " + system_words(errno));
-            if (some == 0) refuse("ends too early");
+            if (some == 0) refuse("is damaged: it ends too early");
             at += static_cast<std::uint64_t>(some);
             to += some;
             count -= static_cast<std::size_t>(some);
@@ -606,7 +606,7 @@ private:
         // The heads of all records come first. Where one was altered nothing of the file is taken.
         std::uint64_t sum = sum_of(head, file_head), at = file_head;
         for (; at < file.size();) {
-            if (file.size() - at < record_head) file.refuse("ends too early");
+            if (file.size() - at < record_head) file.refuse("is damaged: it ends too early");
             file.read(at, about, record_head);
             sum = sum_of(about, record_head, sum);
             const std::uint64_t len = pup::detail::read_word<std::uint64_t>(about + 1);
@@ -626,7 +626,7 @@ private:
             file.read(at, bytes.data(), begin);
             bool is_needed = true;
             if (is_element) {
-                if (len < 4) file.refuse("has an element that is too short");
+                if (len < 4) file.refuse("is damaged: an element is too short");
                 const std::uint32_t index = pup::detail::read_word<std::uint32_t>(bytes.data());
                 is_needed = index >= of_.n || is_here(index);
                 if (is_needed) {
@@ -694,7 +694,7 @@ private:
     {
         std::uint32_t index = 0;
         p(index);
-        if (index >= of_.n || seen_[index]) file.refuse("has an element that is none, or is there twice");
+        if (index >= of_.n || seen_[index]) file.refuse("is damaged: an element is none, or is there twice");
         seen_[index] = 1;
         elements_++;
         if (!is_needed) return;
