@@ -69,7 +69,8 @@ template <class F> void refusals(const std::string &name, std::uint32_t pes, std
         bool good = is_well(run, right, ended_early) && !ended_early;
         const long count = requests.load();
         long early = 0, tried = 0, stood = 0;
-        for (long k = 1; k < count; k += 1 + k / (launch::are_ranks ? 6 : 30)) {
+        constexpr long part = launch::are_ranks ? 6 : 30;
+        for (long k = 1; k < count; k += 1 + k / part) {
             requests = 0;
             refused_at = me == victim ? k : 0;
             ended_early = false;
@@ -83,7 +84,7 @@ template <class F> void refusals(const std::string &name, std::uint32_t pes, std
                 const auto again = tests::restart<keeper>(prefix, usual(pes));
                 good = tests::everywhere(again.is_good() && (!tests::prints() || tests::digest(tests::states(again)) == right)) && good;
             }
-            if (!tests::everywhere(k + 1 + k / 6 < count)) break;
+            if (!tests::everywhere(k + 1 + k / part < count)) break;
         }
         tests::expect(name + " with requests refused on PE " + std::to_string(victim) + " of " + std::to_string(pes) + ", " + std::to_string(stood) + " checkpoints stood",
             good && early > tried / 3 && stood > 0);

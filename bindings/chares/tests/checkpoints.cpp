@@ -3,6 +3,7 @@
 //     checkpoints FOLDER                     all tests; it writes its files into the folder
 //     checkpoints write PREFIX ROUND PES     a run that is saved in this round alone: prints what its elements have at the end
 //     checkpoints restart PREFIX PES         carries it on, and prints that
+//     checkpoints alone - -                  a long run that is not saved: prints that
 //     checkpoints live PREFIX PES            begins a long run, or carries it on, and prints that; it is saved in each round, and may be killed
 #include "saved.hpp"
 
@@ -662,7 +663,10 @@ int one(int argc, char **argv)
     }
     if (what == "restart") return print(tests::restart<keeper>(prefix, usual()));
     tests::now = tests::plan{31, 60, false};
-    if (what == "alone") return print(begin(usual()));
+    if (what == "alone") {
+        pes = 1;
+        return print(begin(usual()));
+    }
     const bool is_there = tests::has_checkpoint(prefix);
     return print(is_there ? tests::restart<keeper>(prefix, saving(prefix)) : begin(saving(prefix)));
 }
