@@ -81,19 +81,16 @@ public:
 
     void write(const std::uint8_t *at, std::size_t count)
     {
-        while (count > 0) {
-            const ssize_t some = ::write(file_, at, std::min(count, std::size_t(1) << 30));
-            if (some < 0 && errno == EINTR) continue;
-            if (some <= 0) not_written(path_, some < 0 ? errno : ENOSPC);
-            at += some;
-            count -= static_cast<std::size_t>(some);
-            bytes_ += static_cast<std::uint64_t>(some);
-        }
+        bytes_ += count;
+        if (count >= many_bytes || buffer_.size() + count > many_bytes) empty();
+        if (count >= many_bytes) return put(at, count);
+        buffer_.insert(buffer_.end(), at, at + count);
     }
     std::uint64_t bytes() const { return bytes_; }
     // Ends it. Then its bytes, and its name in its folder, are on the disk.
     void close()
     {
+        empty();
         if (::fsync(file_) != 0) not_written(path_, errno);
         const int file = file_;
         file_ = -1;
@@ -113,8 +110,27 @@ public:
     }
 
 private:
+    static constexpr std::size_t many_bytes = 64 * 1024;
+
+    void empty()
+    {
+        put(buffer_.data(), buffer_.size());
+        buffer_.clear();
+    }
+    void put(const std::uint8_t *at, std::size_t count)
+    {
+        while (count > 0) {
+            const ssize_t some = ::write(file_, at, std::min(count, std::size_t(1) << 30));
+            if (some < 0 && errno == EINTR) continue;
+            if (some <= 0) not_written(path_, some < 0 ? errno : ENOSPC);
+            at += some;
+            count -= static_cast<std::size_t>(some);
+        }
+    }
+
     const std::string path_;
     int file_;
+    pup::bytes buffer_;
     std::uint64_t bytes_ = 0;
 };
 
@@ -449,10 +465,15 @@ private:
     {
         const std::string path = manifest_path(how_.checkpoint), other = path + ".new";
         const pup::bytes bytes = open_.packed();
-        written_file file(other);
-        file.write(bytes.data(), bytes.size());
-        file.close();
-        if (std::rename(other.c_str(), path.c_str()) != 0) not_written(path, errno);
+        try {
+            written_file file(other);
+            file.write(bytes.data(), bytes.size());
+            file.close();
+            if (std::rename(other.c_str(), path.c_str()) != 0) not_written(path, errno);
+        } catch (...) {
+            ::unlink(other.c_str());
+            throw;
+        }
         written_file::sync_folder(path);
         const std::uint32_t count = is_first_ ? TEZGUMI_PE_PES : pes_;
         for (std::uint32_t pe = 0; pe < count; pe++) ::unlink(part_path(how_.checkpoint, slot_, pe).c_str());
@@ -472,17 +493,29 @@ private:
 
 // ---- Folds of a run that is saved ----
 
-// What elements contribute to folds that wait for no round, on PE 0, where the run may be saved: there they come by batches, as letters do. So one
-// of a later round may come before one of an earlier round, and then is for the next fold of that key.
+// What elements contribute to folds that wait for no round, on PE 0, where the run may be saved: there they come by batches, as letters do, in any
+// order. Those of one element are taken in the order in which it gave them. One of a later round may come before those of other elements of an earlier
+// round, and then is for the next fold of that key.
 class kept_folds {
 public:
-    explicit kept_folds(std::uint32_t n) : n_(n), folds_(n) {}
+    explicit kept_folds(std::uint32_t n) : n_(n), folds_(n), taken_(n) {}
 
-    // Takes one. For each fold that has all of them, tell(element 0's share, what it came to).
+    // Takes one that came. For each fold that has all of them, tell(what it came to).
     template <class F> void take(share_of_fold &&of, F &&tell)
     {
+        const std::uint32_t index = of.index;
+        if (index >= n_ || of.count <= taken_[index]) throw run_fault(fault_kind::mismatch, "what no element contributes came");
+        early_.emplace(std::make_pair(index, of.count), std::move(of));
+        for (auto next = early_.find({index, taken_[index] + 1}); next != early_.end(); next = early_.find({index, taken_[index] + 1})) {
+            taken_[index]++;
+            put(std::move(next->second), tell);
+            early_.erase(next);
+        }
+    }
+    // Takes one whose turn it is.
+    template <class F> void put(share_of_fold &&of, F &&tell)
+    {
         const std::uint64_t key = of.of.key;
-        if (of.index >= n_) throw run_fault(fault_kind::mismatch, "what no element contributes came");
         use &now = uses_[key];
         if (now.rounds.empty()) now.rounds.resize(n_);
         if (now.rounds[of.index] != 0 && of.round >= now.rounds[of.index]) {
@@ -498,11 +531,12 @@ public:
         std::vector<share_of_fold> later = std::move(now.later);
         uses_.erase(key);
         tell(whole);
-        for (share_of_fold &one : later) take(std::move(one), tell);
+        for (share_of_fold &one : later) put(std::move(one), tell);
     }
     // All that wait.
     template <class F> void each(F &&of) const
     {
+        for (const auto &one : early_) of(one.second);
         for (const auto &one : uses_) {
             for (const share_of_fold &more : one.second.given) of(more);
             for (const share_of_fold &more : one.second.later) of(more);
@@ -519,6 +553,8 @@ private:
     const std::uint32_t n_;
     folds folds_;
     std::map<std::uint64_t, use> uses_;
+    std::vector<std::uint64_t> taken_; // of each element
+    std::map<std::pair<std::uint32_t, std::uint64_t>, share_of_fold> early_; // by element and count, before their turn
 };
 
 // ---- What is read ----
@@ -846,13 +882,15 @@ public:
     {
         if (!from_ || !folds_ || are_begun_ || awaited_ < from_->awaited.size()) return false;
         are_begun_ = true;
+        std::sort(from_->shares.begin(), from_->shares.end(), [](const share_of_fold &a, const share_of_fold &b) { return a.count < b.count; });
         for (share_of_fold &one : from_->shares) {
             if (one.index == 0) {
                 const ticket its = now(ticket{one.pe, one.number});
                 one.pe = its.pe;
                 one.number = its.number;
             }
-            folds_->take(std::move(one), tell);
+            if (one.index >= n_) throw run_fault(fault_kind::mismatch, "the checkpoint has what no element contributes");
+            folds_->put(std::move(one), tell);
         }
         for (share_of_fold &one : early_) folds_->take(std::move(one), tell);
         from_->shares.clear();

@@ -19,6 +19,7 @@ struct slot {
     std::uint32_t adds_to = nobody; // the PE to which it went on adding letters, where those were over the limit
     std::uint64_t bytes = 0;
     std::uint64_t meanwhile = 0; // its work while it waits
+    std::uint64_t shares = 0; // how often it has contributed to folds that wait for no round, where the run may be saved
     contributions given;
 };
 

@@ -296,10 +296,11 @@ struct note {
 // What an element on a PE contributes to a fold that waits for no round.
 struct share_of_fold {
     std::uint32_t index = 0, pe = 0, round = 0; // by which round its PE went on
+    std::uint64_t count = 0; // where the run may be saved: how many it has contributed, with this one
     std::uint64_t number = 0; // of the first element: the number of the ticket of its letters
     folded of;
 
-    void pup(pup::er &p) { p(index, pe, round, number, of); }
+    void pup(pup::er &p) { p(index, pe, round, count, number, of); }
 };
 
 // The decision of a round: block b is the elements cuts[b] .. cuts[b + 1] - 1, and goes to PE names[b]. And the last round of which the run is

@@ -524,7 +524,7 @@ private:
         cuts_.posted(out_);
         if (so.exits) link_.exit(index, so.exits);
         for (const auto &one : out_.awaited) bodies_.await(one.first, one.second);
-        if (!out_.shares.empty()) contribute();
+        if (!out_.shares.empty()) contribute(at);
         add_to_outbox(out_.letters, true);
         mark(at);
         if (so.finished) {
@@ -628,11 +628,12 @@ private:
     // ---- Folds of a run that is saved, or carried on ----
 
     // They are parcels, as letters are: what is contributed goes to PE 0, and what a fold came to from there to the PE of its letters.
-    void contribute()
+    void contribute(slot &at)
     {
         if (!cuts_.has_folds()) return link_.contribute(out_.shares);
         const std::uint8_t message = 4;
-        for (const share_of_fold &one : out_.shares) {
+        for (share_of_fold &one : out_.shares) {
+            one.count = ++at.shares;
             auto packed = std::make_shared<pup::bytes>();
             pup::pack(one, *packed);
             parcel next;
@@ -815,7 +816,7 @@ private:
         if (trace_) trace_->begin();
         const auto packed = std::make_shared<pup::bytes>();
         pup::er p(*packed);
-        p(index, at.finished, at.waits_for);
+        p(index, at.finished, at.waits_for, at.shares);
         guarded(index, [&] { objects_.pack(index, p); });
         if (packed->size() > longest_beside) throw run_fault(fault_kind::toolong, "an element packs into more than 2^30 bytes", index);
         pe_->depart(index, places_[index]);
@@ -834,7 +835,7 @@ private:
         std::uint32_t packed_index = 0;
         pup::er p(from, len);
         guarded(index, [&] {
-            p(packed_index, at.finished, at.waits_for);
+            p(packed_index, at.finished, at.waits_for, at.shares);
             if (packed_index != index) throw run_fault(fault_kind::mismatch, "an element came with the object of another");
             objects_.unpack(index, p);
         });
