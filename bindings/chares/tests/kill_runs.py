@@ -2,11 +2,13 @@
 
 usage: kill_runs.py KILLS SEED PREFIX EXPECTED PROGRAM COMMAND..
 
-The command begins a run, or carries it on where there is a checkpoint with this prefix, and prints what its elements have at the end. It is killed by
-SIGKILL at moments that a generator of random numbers names, so often; of several processes, as of ranks, one that runs PROGRAM. A run that has ended
-before must have printed what is expected, and is begun anew. The last one is left to end.
+The command begins a run, or carries it on where there is a checkpoint with this prefix, and prints what its elements have at the end. The first one is
+left to end, and says how long a run takes. Then it is killed by SIGKILL, so often, at moments that a generator of random numbers names; of several
+processes, as of ranks, one that runs PROGRAM. A run that has ended before must have printed what is expected, and is begun anew. The last one is left to
+end.
 """
 
+import contextlib
 import glob
 import os
 import random
@@ -50,22 +52,29 @@ def victim(started, program, it):
 
 def main():
     kills, seed, prefix, expected, program = int(sys.argv[1]), int(sys.argv[2]), *sys.argv[3:6]
-    it, killed, ended, carried, rounds = random.Random(seed), 0, 0, 0, set()
+    it, killed, ended, carried, rounds, takes = random.Random(seed), 0, 0, 0, set(), None
     program, good = os.path.realpath(program), True
     for path in glob.glob(prefix + ".*"):
         os.remove(path)
     while good and (killed < kills or ended == 0):
         carried += os.path.exists(prefix + ".manifest")
         started = subprocess.Popen(sys.argv[6:], stdin=subprocess.DEVNULL, stdout=subprocess.PIPE, stderr=subprocess.PIPE, text=True)
-        if killed < kills:
+        began = time.monotonic()
+        while not victim(started, program, it) and started.poll() is None and time.monotonic() - began < 60:
+            time.sleep(0.005)
+        if takes is None:
             began = time.monotonic()
-            while not victim(started, program, it) and started.poll() is None and time.monotonic() - began < 20:
-                time.sleep(0.005)
-            time.sleep(it.random() * it.choice((0.05, 0.2, 0.6)))
-            one = victim(started, program, it)
-            if one is not None and started.poll() is None:
-                os.kill(one, signal.SIGKILL)
+        elif killed < kills:
+            try:
+                started.wait(it.random() * it.choice((0.1, 0.3, 0.6)) * takes)
+            except subprocess.TimeoutExpired:
+                one = victim(started, program, it)
+                if one is not None:
+                    with contextlib.suppress(ProcessLookupError):
+                        os.kill(one, signal.SIGKILL)
         out, errors = started.communicate(timeout=200)
+        if takes is None:
+            takes = time.monotonic() - began
         if started.returncode == 0:
             ended += 1
             good = out.strip() == expected

@@ -452,7 +452,6 @@ public:
         write();
         const std::lock_guard<std::mutex> lock(mutex_);
         slot_ = open_.slot;
-        stands_ = round_;
         is_open_ = false;
     }
     // The last round, of this run, of which a checkpoint stands. Once no PE runs any more.
@@ -470,6 +469,7 @@ private:
             file.write(bytes.data(), bytes.size());
             file.close();
             if (std::rename(other.c_str(), path.c_str()) != 0) not_written(path, errno);
+            stands_ = round_; // whatever comes now: nothing removes its files
         } catch (...) {
             ::unlink(other.c_str());
             throw;
@@ -913,8 +913,8 @@ public:
     part_file &begin(const decision &next, const account &here)
     {
         if (part_) throw run_fault(fault_kind::mismatch, "two checkpoints are written at a time");
-        cut_ = next.saved;
         path_ = part_path(how_.checkpoint, next.slot, me_);
+        cut_ = next.saved;
         at_cut_ = counted(here);
         came_ = fetched_;
         std::fill(told_.begin(), told_.end(), UINT64_MAX);
