@@ -577,7 +577,7 @@ void foreign()
     bool good = make_checkpoint(prefix, 5);
     good = good && said_of<foreigner>(prefix, usual()) == "the checkpoint is of a chare with 6 types of messages, and this one has 1";
     const std::string text = said_of<stranger>(prefix, usual());
-    good = good && text.find("that this chare does not unpack: pup: bytes are left over") != std::string::npos;
+    good = good && text.find("that this chare does not unpack: ") != std::string::npos;
     tezgumi::settings past = usual();
     past.window = 0;
     good = good && said_of<keeper>(prefix, past) == "refused: a window is 1 to 2^20 batches";
