@@ -3,7 +3,7 @@
 #define TEZGUMI_CHARES_THREADS_HPP
 
 #include "board.hpp"
-#include "worker.hpp"
+#include "crew.hpp"
 
 #include <atomic>
 #include <mutex>

@@ -18,13 +18,18 @@ class worker {
 public:
     worker(link &carrier, const settings &how, elements &objects)
         : link_(carrier), how_(how), objects_(objects), out_(objects.out), me_(out_.pe), pes_(out_.pes), n_(out_.n), room_(n_), outbound_(how, pes_),
-          held_own_(how.batch), held_others_(how.batch), bodiless_(how.batch), clock_(how.clock), patience_(pes_), bodies_(pes_), places_(n_)
+          held_own_(how.batch), held_others_(how.batch), bodiless_(how.batch), clock_(how.clock), patience_(pes_), bodies_(pes_), places_(n_),
+          has_crew_(how.threads > 1)
     {
         own_.from = me_;
         out_.held = &bodies_.all();
         out_.results = &nothing_;
         for (std::uint32_t i = 0; i < n_; i++) places_[i] = opening_place(i);
     }
+
+    virtual ~worker() = default;
+    worker(const worker &) = delete;
+    worker &operator=(const worker &) = delete;
 
     // Runs the PE to the end of all, with elements that `begin` makes. What it meets is a fault of the link, and then it waits for the end.
     template <class Begin> void run(Begin &&begin)
@@ -34,6 +39,7 @@ public:
         } catch (...) {
             fail();
         }
+        if (has_crew_) return run_crew();
         while (!link_.ended()) {
             try {
                 if (has_failed_) {
@@ -67,12 +73,28 @@ public:
         for (auto &one : leaving_) leave_element(one.first, one.second->data(), one.second->size());
         if (hand_element_ != fault::no_element) leave_element(hand_element_, hand_object_->data(), hand_object_->size());
         held_ += inside_ - gone_ - executed_;
-        letters.add(account{posted_, executed_, held_, failed_});
+        letters.add(account{posted_, executed_, held_, tools_.failed});
         if (missed_) std::rethrow_exception(missed_);
         if (lost) std::rethrow_exception(lost);
     }
 
-private:
+protected:
+    // What a thread runs handlers with: the answer that they make, a clock, and room for an element that is to be restored. And of those that it
+    // ran how many ended by an exception, and when the last one began and ended, where that is written down.
+    struct tools {
+        tools(outgoing &to, work_clock &by, pup::bytes &room) : out(to), clock(by), copy(room) {}
+        outgoing &out;
+        work_clock &clock;
+        pup::bytes &copy;
+        std::uint64_t failed = 0;
+        time_trace::point began{}, ended{};
+    };
+
+    // What a crew does in place of one thread, or beside it. See crew.hpp.
+    virtual void run_crew() {}
+    virtual bool deal(arrival &, const parcel &) { return false; }
+    virtual void leave_tasks() {}
+
     static constexpr int steps_a_turn = 64;
     static constexpr std::uint64_t unknown = UINT64_MAX;
     static constexpr std::size_t copied_extra = 16 * 1024; // shorter bytes beside parcels are copied into batches
@@ -98,6 +120,7 @@ private:
             if (opening_place(i) != me_) continue;
             guarded(i, [&] { begin(i); });
             room_[i] = std::make_unique<slot>();
+            room_[i]->has_to_start = true;
             due_.push_back(i);
         }
     }
@@ -269,13 +292,15 @@ private:
     {
         parcel next;
         if (!of.parcels.front(next)) return false;
-        const bool waits = put_aside(of, next, times);
-        if (!waits) {
+        bool is_taken = !put_aside(of, next, times);
+        if (is_taken && has_crew_) {
+            is_taken = deal(of, next);
+        } else if (is_taken) {
             take_in(next);
             if (log_) log_->deliver(of.from, next);
         }
         of.parcels.pop(next);
-        return !waits;
+        return is_taken;
     }
     // A body that letters name is taken in. A letter waits for its body, or where its element goes on adding letters for a PE that has
     // more of them to come than so many times the limit.
@@ -466,33 +491,33 @@ private:
 
     // Runs a handler, which makes its answer. Where it ends by an exception, the element is as it was, if it asks for that by `restores`,
     // and the answer is empty; otherwise that is a fault. Want of memory is a fault in any case.
-    template <class F> void handle(std::uint32_t index, slot &at, std::size_t kind, F &&handler)
+    template <class F> void handle(tools &with, std::uint32_t index, slot &at, std::size_t kind, F &&handler)
     {
         objects_.said_by(index).begin();
         if (objects_.restores()) {
-            copy_.clear();
-            pup::er p(copy_);
+            with.copy.clear();
+            pup::er p(with.copy);
             guarded(index, [&] { objects_.pack(index, p); });
         }
-        out_.begin(index);
-        if (trace_) trace_->begin();
-        clock_.start(kind);
+        with.out.begin(index);
+        if (trace_) with.began = time_trace::now();
+        with.clock.start(kind);
         try {
             guarded(index, handler);
         } catch (const run_fault &met) {
             if (!objects_.restores() || met.kind == fault_kind::memory) throw;
-            pup::er p(copy_.data(), copy_.size());
+            pup::er p(with.copy.data(), with.copy.size());
             guarded(index, [&] { objects_.unpack(index, p); });
-            out_.begin(index);
-            failed_++;
+            with.out.begin(index);
+            with.failed++;
             tell(how_.on_failed, index, std::string(met.what()));
         }
         said &so = objects_.said_by(index);
         so.end(at.waits);
-        const std::uint64_t measured = clock_.end(so.named), units = so.named ? so.units : measured;
-        if (trace_) trace_->handler(index, kind);
+        const std::uint64_t measured = with.clock.end(so.named), units = so.named ? so.units : measured;
+        if (trace_) with.ended = time_trace::now();
         if (so.at_sync && !at.waits) guarded(index, [&] { at.bytes = objects_.size(index); });
-        out_.end(units, so.at_sync, so.finished, at.bytes);
+        with.out.end(units, so.at_sync, so.finished, at.bytes);
     }
 
     // The answer was taken: what the element said holds.
@@ -533,18 +558,34 @@ private:
 
     void execute(std::uint32_t index, const std::uint8_t *body, std::size_t len)
     {
-        if (len == 0) throw run_fault(fault_kind::mismatch, "a letter without a message came", index);
+        const beside longer = beside_letter(index, body, len);
         slot &at = here(index);
-        const std::uint8_t place = body[0];
+        receive(tools_, index, at, body, len, longer);
+        executed(tools_, index, at, body[0] & 0x7f);
+    }
+    // The body of a letter, where that goes beside it.
+    beside beside_letter(std::uint32_t index, const std::uint8_t *body, std::size_t len)
+    {
+        if (len == 0) throw run_fault(fault_kind::mismatch, "a letter without a message came", index);
         beside longer;
-        if (place & beside_bit) {
+        if (body[0] & beside_bit) {
             if (len != ticket_bytes) throw run_fault(fault_kind::mismatch, "the ticket of a letter has another length", index);
             longer = bodies_.look(ticket_in(body));
             bodies_.drop(ticket_in(body), 1);
         }
-        handle(index, at, place & 0x7f, [&] {
-            objects_.receive(index, place & 0x7f, longer ? longer->data() : body + 1, longer ? longer->size() : len - 1);
+        return longer;
+    }
+    void receive(tools &with, std::uint32_t index, slot &at, const std::uint8_t *body, std::size_t len, const beside &longer)
+    {
+        const std::size_t place = body[0] & 0x7f;
+        handle(with, index, at, place, [&] {
+            objects_.receive(index, place, longer ? longer->data() : body + 1, longer ? longer->size() : len - 1, with.out);
         });
+    }
+    // The PE executes the letter in its hand, with the answer of the handler that was run for it.
+    void executed(const tools &with, std::uint32_t index, slot &at, std::size_t place)
+    {
+        if (trace_) trace_->handler(index, place, with.began, with.ended);
         pe_->execute(index, out_.answer);
         if (log_) log_->act();
         executed_++;
@@ -556,12 +597,22 @@ private:
         out_.results = round_ == 0 ? &nothing_ : &results_;
         at.waits = false;
         at.round = round_;
-        handle(index, at, work_clock::resumption, [&] { objects_.resume(index, round_); });
-        pe_->resume(index, round_, out_.answer);
-        if (log_ && round_ == 0) log_->start(index);
-        if (log_ && round_ != 0) log_->resume(index, round_);
-        handled(index, at);
+        resume(tools_, index, at);
+        resumed(tools_, index, at);
         out_.results = &nothing_;
+    }
+    void resume(tools &with, std::uint32_t index, slot &at)
+    {
+        handle(with, index, at, work_clock::resumption, [&] { objects_.resume(index, at.round, with.out); });
+    }
+    // The PE resumes the element, with the answer of the handler that was run for that.
+    void resumed(const tools &with, std::uint32_t index, slot &at)
+    {
+        if (trace_) trace_->handler(index, work_clock::resumption, with.began, with.ended);
+        pe_->resume(index, at.round, out_.answer);
+        if (log_ && at.round == 0) log_->start(index);
+        if (log_ && at.round != 0) log_->resume(index, at.round);
+        handled(index, at);
     }
 
     // ---- Rounds ----
@@ -699,11 +750,12 @@ private:
         // The longer nothing comes the longer it sleeps, so that waiting takes little of the processor.
         idle_++;
         if (idle_ > 256) {
-            std::this_thread::sleep_for(std::chrono::microseconds(std::min<std::uint64_t>(50 + (idle_ - 256), 500)));
+            std::this_thread::sleep_for(a_while());
         } else if (idle_ > 64) {
             std::this_thread::yield();
         }
     }
+    std::chrono::microseconds a_while() const { return std::chrono::microseconds(std::min<std::uint64_t>(50 + (idle_ - 256), 500)); }
     void wake()
     {
         if (idle_ != 0) link_.wake();
@@ -733,6 +785,7 @@ private:
         held_own_.each(leave);
         held_others_.each(leave);
         bodiless_.each(leave);
+        leave_tasks();
     }
     void leave_batch(batch &from)
     {
@@ -793,6 +846,7 @@ private:
     std::uint32_t hand_element_ = fault::no_element;
     beside hand_object_;
     pup::bytes copy_;
+    tools tools_{out_, clock_, copy_};
     // Rounds: where each element is, by the last decision, and those that start, go on or wait.
     std::vector<std::uint32_t> places_;
     std::uint32_t round_ = 0;
@@ -801,9 +855,10 @@ private:
     std::vector<std::uint32_t> waiting_;
     std::vector<note> notes_;
     // The letters: those inside of the PE are `inside_ - gone_ - executed_`.
-    std::uint64_t posted_ = 0, executed_ = 0, failed_ = 0, inside_ = 0, gone_ = 0, held_ = 0;
+    std::uint64_t posted_ = 0, executed_ = 0, inside_ = 0, gone_ = 0, held_ = 0;
     std::uint64_t idle_ = 0;
     bool has_failed_ = false;
+    const bool has_crew_; // whether several threads run its handlers
     std::exception_ptr missed_; // why an element is missing at the end
 };
 
