@@ -91,7 +91,7 @@ inline void must_fit(const settings &how, std::uint32_t pes, std::uint32_t n)
 {
     if (pes < 1 || pes > TEZGUMI_PE_PES) throw std::invalid_argument("there are 1 to " + std::to_string(TEZGUMI_PE_PES) + " PEs");
     if (how.threads < 1 || how.threads > most_threads) throw std::invalid_argument("a PE has 1 to " + std::to_string(most_threads) + " threads");
-    if (how.threads > 1 && !how.events.empty()) throw std::invalid_argument("events are written down of PEs with one thread: their order is that of handlers");
+    if (how.threads > 1 && !how.events.empty()) throw std::invalid_argument("events are written down only where a PE has one thread: with several letters overtake others");
     if (n > TEZGUMI_PE_ELEMENTS) throw std::invalid_argument("there are at most " + std::to_string(TEZGUMI_PE_ELEMENTS) + " elements");
     if (!how.within && how.tolerance != 0) throw std::invalid_argument("a tolerance is for rounds that are decided within it: set within");
     if (how.within && how.tolerance > TEZGUMI_BOARD_TOLERANCE) throw std::invalid_argument("a tolerance is at most 1000 thousandths");
