@@ -1,5 +1,5 @@
-// Several threads that run the handlers of a PE: 1, 2 and 4 of them on each of 1, 2 and 4 PEs, as threads or on the ranks of MPI. With a word:
-// the prefix of traces, or the refusal of a rank whose MPI may be called by one thread alone.
+// Several threads that run the handlers of a PE: 1, 2 and 4 of them on each of 1, 2 and 4 PEs, as threads or on the ranks of MPI. With two numbers
+// so many threads on so many PEs alone. With a word: the prefix of traces, or the refusal of a rank whose MPI may be called by one thread alone.
 #include "page.hpp"
 
 #include <random>
@@ -535,14 +535,16 @@ int main(int argc, char **argv)
 #endif
     launch::program program(argc, argv);
     tests::clear_page();
-    const std::string prefix = argc > 1 ? argv[1] : "";
-    std::vector<std::uint32_t> counts = {1, 2, 4};
+    const std::string prefix = argc == 2 ? argv[1] : "";
+    std::vector<std::uint32_t> counts = {1, 2, 4}, threads_each = {1, 2, 4};
+    if (argc == 3) threads_each = {static_cast<std::uint32_t>(std::atoi(argv[1]))};
+    if (argc == 3) counts = {static_cast<std::uint32_t>(std::atoi(argv[2]))};
 #ifdef WITH_MPI
     counts = {program.pes(1)};
 #endif
     for (std::uint32_t of_pes : counts) {
         pes = of_pes;
-        for (std::uint32_t of_threads : {1u, 2u, 4u}) {
+        for (std::uint32_t of_threads : threads_each) {
             threads = of_threads;
             if (prefix.empty()) all();
         }
