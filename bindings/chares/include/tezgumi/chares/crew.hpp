@@ -211,24 +211,28 @@ private:
         mine.has_task = at.is_busy = true;
         running_++;
     }
-    // The next of the letters that were parked, for an element that is no longer busy, or no longer here.
+    // The next of the letters that were parked, for an element that is no longer busy, or no longer here. One that is busy again, since it goes on,
+    // stands here anew once it is not.
     bool fetch_parked()
     {
         while (!ready_.empty()) {
             const std::uint32_t index = ready_.front();
+            ready_.pop_front();
+            if (is_busy(index)) continue;
             unparked_ = parked_.first_of(index);
+            if (!unparked_) continue;
             const bool is_taken = take_front(*unparked_, unparked_->from == me_ ? 1 : 2);
             if (!unparked_->parcels.has_next()) {
                 spent_ = parked_.take_first();
                 used_up(spent_);
             }
             unparked_ = nullptr;
-            ready_.pop_front();
-            if (parked_.has(index) && !(room_[index] && room_[index]->is_busy)) ready_.push_back(index);
+            if (parked_.has(index) && !is_busy(index)) ready_.push_back(index);
             if (is_taken) return true;
         }
         return false;
     }
+    bool is_busy(std::uint32_t index) const { return room_[index] && room_[index]->is_busy; }
     // A letter is for this thread to run its handler, or is parked. Other parcels are taken into the hand, as letters whose element is not here.
     // Whether no other is to be looked for.
     bool deal(arrival &of, const parcel &next) override
@@ -341,7 +345,7 @@ private:
     std::vector<std::unique_ptr<desk>> desks_;
     desk *dealing_ = nullptr; // who looks for a handler
     std::size_t running_ = 0; // handlers
-    // Letters of elements that are busy, or that have not started; and the elements that no longer are, with letters there.
+    // Letters of elements that are busy, or that have not started; and elements that were, with letters there, some of them more than once.
     parked_letters parked_;
     std::deque<std::uint32_t> ready_;
     arrival *unparked_ = nullptr; // where the letter was parked that is being dealt
