@@ -1,5 +1,6 @@
 // Several threads that run the handlers of a PE: 1, 2 and 4 of them on each of 1, 2 and 4 PEs, as threads or on the ranks of MPI. With two numbers
-// so many threads on so many PEs alone. With a word: the prefix of traces, or the refusal of a rank whose MPI may be called by one thread alone.
+// so many threads on so many PEs alone. With a word: the prefix of traces, or `one`, the refusal of a rank whose MPI may be called by one thread
+// alone, or `gain`, how long handlers take that compute for a millisecond.
 #include "page.hpp"
 
 #include <random>
@@ -509,6 +510,51 @@ void traces(const std::string &prefix)
     expect(at("a run with traces"), traced.is_good && traced.elements == act(how, 14).elements);
 }
 
+// ---- What several threads gain ----
+
+std::uint64_t steps = 1000000; // that take about a millisecond
+
+std::uint64_t computed(std::uint64_t from)
+{
+    for (std::uint64_t i = 0; i < steps; i++) from = from * 6364136223846793005u + 1442695040888963407u;
+    return from;
+}
+
+// Each element sends to itself, and computes.
+struct computer : tezgumi::chare {
+    using messages = tezgumi::messages<int>;
+    std::uint64_t value = 1;
+    void pup(pup::er &p) { p(value); }
+    void resume(tezgumi::round, tezgumi::array<computer> &all) { all.self().send(200); }
+    void receive(int left, tezgumi::array<computer> &all)
+    {
+        value = computed(value);
+        if (left == 1) return finish();
+        all.self().send(left - 1);
+    }
+};
+
+// The times of one PE of four elements. They are told, and not judged.
+void gain()
+{
+    using milliseconds = std::chrono::duration<double, std::milli>;
+    const auto time_of = [](auto &&run) {
+        const auto start = std::chrono::steady_clock::now();
+        run();
+        return milliseconds(std::chrono::steady_clock::now() - start).count();
+    };
+    std::uint64_t value = 0;
+    double least = 1e9;
+    for (int i = 0; i < 20; i++) least = std::min(least, time_of([&] { value += computed(value); }));
+    steps = static_cast<std::uint64_t>(double(steps) / least);
+    for (std::uint32_t of : {1u, 2u, 4u}) {
+        threads = of;
+        bool good = value != 0;
+        const double time = time_of([&] { good = launch::run<computer>(usual(), 4 * pes, [](std::uint32_t) { return computer(); }).is_good() && good; });
+        expect(at("200 handlers of 1 ms of each of " + std::to_string(4 * pes) + " elements take " + std::to_string(int(time)) + " ms"), good);
+    }
+}
+
 void all()
 {
     if (threads > 1) meetings();
@@ -542,6 +588,11 @@ int main(int argc, char **argv)
 #ifdef WITH_MPI
     counts = {program.pes(1)};
 #endif
+    if (prefix == "gain") {
+        pes = launch::are_ranks ? counts[0] : 1;
+        gain();
+        return tests::failed != 0;
+    }
     for (std::uint32_t of_pes : counts) {
         pes = of_pes;
         for (std::uint32_t of_threads : threads_each) {

@@ -17,7 +17,7 @@ namespace detail {
 // goes on, and its letters are parked, in the order in which they were taken. So an answer is that to the next entry of its element.
 class crew final : public worker {
 public:
-    crew(link &carrier, const settings &how, elements &objects) : worker(carrier, how, objects), parked_(how.batch)
+    crew(link &carrier, const settings &how, elements &objects) : worker(carrier, how, objects, true), parked_(how.batch)
     {
         for (std::uint32_t i = 0; i < how.threads; i++) desks_.push_back(std::make_unique<desk>(how, out_, i));
     }

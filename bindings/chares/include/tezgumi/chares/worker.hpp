@@ -16,10 +16,10 @@ namespace detail {
 
 class worker {
 public:
-    worker(link &carrier, const settings &how, elements &objects)
+    worker(link &carrier, const settings &how, elements &objects, bool has_crew = false)
         : link_(carrier), how_(how), objects_(objects), out_(objects.out), me_(out_.pe), pes_(out_.pes), n_(out_.n), room_(n_), outbound_(how, pes_),
           held_own_(how.batch), held_others_(how.batch), bodiless_(how.batch), clock_(how.clock), patience_(pes_), bodies_(pes_), places_(n_),
-          has_crew_(how.threads > 1)
+          has_crew_(has_crew)
     {
         own_.from = me_;
         out_.held = &bodies_.all();
