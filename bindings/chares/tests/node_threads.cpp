@@ -53,6 +53,14 @@ private:
     const std::uint32_t index_;
 };
 
+// An element that knows its index before it starts.
+template <class C> C made(std::uint32_t index)
+{
+    C one;
+    one.index = index;
+    return one;
+}
+
 // Some time goes by, or none.
 void dawdle()
 {
@@ -141,19 +149,18 @@ void talks()
 struct crowd : tezgumi::chare {
     using messages = tezgumi::messages<std::array<std::uint32_t, 2>, std::string>;
     static constexpr std::uint32_t each = 40, rounds = 3;
-    std::uint32_t index = 0, got = 0, texts = 0;
+    std::uint32_t index = 0, texts = 0;
     bool is_ordered = true;
     std::vector<std::uint32_t> last; // of each element, the last number that came from it
     void pup(pup::er &p)
     {
         const std::unique_ptr<alone> here(p.is_unpacking() ? nullptr : new alone(index));
-        p(index, got, texts, is_ordered, last);
+        p(index, texts, is_ordered, last);
         if (!p.is_unpacking()) dawdle();
     }
     void resume(tezgumi::round r, tezgumi::array<crowd> &all)
     {
         const alone here(all.me());
-        index = all.me();
         work(1);
         dawdle();
         if (r == rounds) return finish();
@@ -170,7 +177,6 @@ struct crowd : tezgumi::chare {
         dawdle();
         if (of[1] <= last[of[0]]) is_ordered = false;
         last[of[0]] = of[1];
-        got++;
     }
     void receive(const std::string &, tezgumi::array<crowd> &all)
     {
@@ -190,15 +196,10 @@ void crowds()
         how.every = 0;
         how.on_turn = [](std::uint32_t) { dawdle(); };
         const std::uint32_t n = 4 * pes;
-        const auto end = launch::run<crowd>(how, n, [](std::uint32_t) { return crowd(); });
-        bool good = end.is_good() && is_balanced(end.letters), are_ordered = true;
-        std::uint64_t got = 0;
-        for (const auto &one : end.collect([](const crowd &of) { return std::make_tuple(of.got, of.is_ordered); })) {
-            got += std::get<0>(one);
-            are_ordered = are_ordered && std::get<1>(one);
-        }
-        (void)got;
-        good = good && clashes == 0;
+        const auto end = launch::run<crowd>(how, n, [](std::uint32_t i) { return made<crowd>(i); });
+        const bool good = end.is_good() && is_balanced(end.letters) && clashes == 0;
+        bool are_ordered = true;
+        for (bool one : end.collect([](const crowd &of) { return of.is_ordered; })) are_ordered = are_ordered && one;
         if (kind == 0) expect(at("never two handlers of an element at once"), good);
         if (kind == 0) expect(at("letters of an element come in the order in which they were taken"), are_ordered);
         if (kind == 1) expect(at("never a handler of an element while it is packed"), good);
@@ -234,7 +235,6 @@ struct actor : tezgumi::chare {
     std::size_t expected() const { return 2 + 2 + (index % 2 == 0 ? 1u : 0u) + 1; }
     void resume(tezgumi::round r, tezgumi::array<actor> &all)
     {
-        index = all.me();
         const alone here(index);
         n = all.size();
         now = r;
@@ -316,7 +316,7 @@ found act(const tezgumi::settings &of, std::uint32_t n)
     std::atomic<std::uint64_t> told{0};
     how.on_failed = [&](std::uint32_t, const std::string &what) { told += what == "of the test"; };
     found all;
-    const auto end = launch::run<actor>(how, n, [](std::uint32_t) { return actor(); });
+    const auto end = launch::run<actor>(how, n, [](std::uint32_t i) { return made<actor>(i); });
     all.is_good = end.is_good() && is_balanced(end.letters) && end.letters.held == 0 && end.letters.failed == in_all(told);
     if (!all.is_good && tests::prints()) std::cerr << end.met.text() << " held " << end.letters.held << " failed " << end.letters.failed << std::endl;
     for (const auto &one : end.rounds) {
@@ -329,6 +329,16 @@ found act(const tezgumi::settings &of, std::uint32_t n)
     });
     all.letters = end.letters;
     return all;
+}
+
+void tell_difference(const found &many, const found &one)
+{
+    std::cerr << "rounds " << (many.rounds == one.rounds) << ", posted " << many.letters.posted << " and " << one.letters.posted << ", failed " << many.letters.failed
+              << " and " << one.letters.failed << ", clashes " << clashes << ", elements";
+    for (std::size_t i = 0; i < many.elements.size() && i < one.elements.size(); i++) {
+        if (many.elements[i] != one.elements[i]) std::cerr << " " << i;
+    }
+    std::cerr << std::endl;
 }
 
 void results()
@@ -348,10 +358,11 @@ void results()
         const found many = act(how, n);
         how.threads = 1;
         const found one = act(how, n);
-        const bool good = many.is_good && one.is_good && many.rounds == one.rounds && many.elements == one.elements && clashes == 0;
-        const bool are_counted = many.letters.posted == one.letters.posted && many.letters.failed == std::uint64_t(n) * actor::rounds;
+        const bool are_same = many.rounds == one.rounds && many.elements == one.elements && many.letters.posted == one.letters.posted;
+        const bool good = many.is_good && one.is_good && are_same && clashes == 0 && many.letters.failed == std::uint64_t(n) * actor::rounds;
         const char *const names[] = {"what a run comes to", "what it comes to where all elements move", "what it comes to with little room"};
-        expect(at(names[kind]), good && are_counted && (!tests::prints() || one.rounds.size() == 5 * actor::rounds));
+        expect(at(names[kind]), good && (!tests::prints() || one.rounds.size() == 5 * actor::rounds));
+        if (!good) tell_difference(many, one);
         // On threads also that of one PE.
         if (launch::are_ranks) continue;
         how.pes = 1;
