@@ -92,7 +92,7 @@ struct meeter : tezgumi::chare {
     {
         std::atomic<std::uint64_t> &there = word(10 * when + all.pe());
         there++;
-        if (tests::waits_for([&] { return there >= threads; })) met++;
+        if (tests::waits_for([&] { return there >= threads; }, 60)) met++;
     }
 };
 
@@ -124,7 +124,7 @@ struct talker : tezgumi::chare {
     }
     void receive(int)
     {
-        is_late = !tests::waits_for([] { return word(0) >= 20; });
+        is_late = !tests::waits_for([] { return word(0) >= 20; }, 60);
         finish();
     }
     void receive(const std::string &text, tezgumi::array<talker> &all)
