@@ -318,8 +318,9 @@ private:
 };
 
 // Whether all PEs have nothing to do: each is asked by a number, and answers once it has nothing to do, with how many messages it has
-// sent and received. Nothing is left where two questions in a row are answered by the same numbers, as many sent as received. Letters may be
-// there that leave only then.
+// sent and received. Nothing is left where two questions in a row are answered by the same numbers, as many sent as received. What PEs hand
+// in without a message may give another PE something to do, so nothing of that may come in between either. Letters may be there that leave
+// only then.
 class quiet_question {
 public:
     explicit quiet_question(std::uint32_t pes) : pes_(pes) {}
@@ -332,8 +333,8 @@ public:
         sent_ = received_ = late_ = 0;
         return ++number_;
     }
-    // Takes an answer, and says whether nothing is left to do.
-    bool answer(std::uint32_t number, std::uint64_t sent, std::uint64_t received, std::uint64_t late)
+    // Takes an answer, and how often PEs have handed something in by now, and says whether nothing is left to do.
+    bool answer(std::uint32_t number, std::uint64_t sent, std::uint64_t received, std::uint64_t late, std::uint64_t handed_in = 0)
     {
         if (number != number_) return false;
         answers_++;
@@ -341,9 +342,10 @@ public:
         sent_ += sent;
         received_ += received;
         if (answers_ != pes_) return false;
-        const bool same = sent_ == received_ && sent_ == sent_before_ && received_ == received_before_;
+        const bool same = sent_ == received_ && sent_ == sent_before_ && received_ == received_before_ && handed_in == handed_in_before_;
         sent_before_ = sent_;
         received_before_ = received_;
+        handed_in_before_ = handed_in;
         return same;
     }
     // How many letters leave now, as nothing is left to do.
@@ -353,7 +355,7 @@ private:
     const std::uint32_t pes_;
     std::uint32_t number_ = 0, answers_ = 0;
     std::uint64_t sent_ = 0, received_ = 0, late_ = 0;
-    std::uint64_t sent_before_ = UINT64_MAX, received_before_ = UINT64_MAX;
+    std::uint64_t sent_before_ = UINT64_MAX, received_before_ = UINT64_MAX, handed_in_before_ = 0;
 };
 
 } // namespace detail

@@ -52,7 +52,7 @@ public:
 
     void contribute(std::vector<share_of_fold> &shares)
     {
-        told_++;
+        handed_in_++;
         for (share_of_fold &one : shares) {
             share_of_fold whole;
             const std::lock_guard<std::mutex> lock(folds_mutex_);
@@ -84,7 +84,7 @@ public:
         std::vector<note> mine;
         {
             const std::lock_guard<std::mutex> lock(mutex_);
-            told_++;
+            handed_in_++;
             notes_.insert(notes_.end(), std::make_move_iterator(notes.begin()), std::make_move_iterator(notes.end()));
             if (is_deciding_) return;
             is_deciding_ = true;
@@ -149,12 +149,7 @@ public:
         const std::lock_guard<std::mutex> lock(mutex_);
         if (is_deciding_ || decided_.load() != of.round || asked_.load() == answered) return;
         answered = asked_.load();
-        const bool is_nothing = question_.answer(answered, of.sent, of.received, of.late);
-        if (question_.is_open()) return;
-        // A PE that answered may have got something to do since by a note or a share, which are no batches.
-        const std::uint64_t before = told_before_;
-        told_before_ = told_.load();
-        if (!is_nothing || told_before_ != before || ended_.load()) return;
+        if (!question_.answer(answered, of.sent, of.received, of.late, handed_in_.load()) || ended_.load()) return;
         if (question_.late() != 0) {
             quiets_++;
             return;
@@ -219,8 +214,7 @@ private:
     std::atomic<bool> ended_{false};
     quiet_question question_;
     std::atomic<std::uint32_t> asked_{0}, quiets_{0};
-    std::atomic<std::uint64_t> told_{0}; // how often notes or shares were handed in
-    std::uint64_t told_before_ = 0; // and as the last question was answered
+    std::atomic<std::uint64_t> handed_in_{0}; // how often a PE handed in notes, or shares of folds
     fault fault_;
     exited exit_;
     std::vector<round_report> rounds_;
