@@ -173,7 +173,7 @@ void marks()
         });
         taken[kind] = memory.at_most();
         good = good && end.is_good();
-        if (tests::prints()) good = good && end.rounds.size() == rounds && sizeof end.rounds[0] == 40 && end.rounds.capacity() <= 2 * rounds;
+        if (tests::prints()) good = good && end.rounds.size() == rounds && sizeof end.rounds[0] == 104 && end.rounds.capacity() <= 2 * rounds;
     }
     const long here = launch::are_ranks ? n / pes : n, each = (taken[1] - taken[0]) / (500 * here);
     expect(at("a round leaves " + std::to_string(each) + " bytes with each element"), good && each > 30 && each < 70);

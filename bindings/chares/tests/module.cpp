@@ -23,6 +23,7 @@ module;
 #include <map>
 #include <memory>
 #include <new>
+#include <numeric>
 #include <optional>
 #include <queue>
 #include <set>
@@ -38,6 +39,8 @@ module;
 #include <utility>
 #include <variant>
 #include <vector>
+#include <sys/ioctl.h>
+#include <unistd.h>
 #include <stdlib.h>
 #include <string.h>
 #include <stdbool.h>

@@ -2,6 +2,8 @@
 // on each rank, and where there are results. On threads, or on the ranks of MPI.
 #include "harness.hpp"
 
+#include <numeric>
+
 using tests::expect;
 
 namespace {
@@ -26,7 +28,7 @@ void settings()
 {
     const tezgumi::settings how;
     bool good = how.pes == 1 && how.clock == tezgumi::clock_kind::wall && how.every == 1 && !how.within && how.tolerance == 0 && how.quiet == 20;
-    good = good && how.dumps.empty() && how.events.empty() && !how.on_round && !how.on_failed && !how.on_turn && !how.moves_all;
+    good = good && how.dumps.empty() && how.events.empty() && !how.on_round && !how.on_failed && !how.on_turn && !how.moves_all && how.progress;
     good = good && how.batch == 64 * 1024 && how.window == 4 && how.backlog == 16 * 1024 * 1024;
     expect(at("the usual settings"), good);
 }
@@ -84,7 +86,15 @@ void reports()
                 // What the first did while it waited is of the second round.
                 good = of.round == i + 1 && of.total == sum + (i == 1 ? 1000 : 0) && of.balanced == (every == 1) && !of.past_limit && told[i].total == of.total;
                 good = good && of.bottleneck <= of.greatest && of.greatest <= of.total && of.bottleneck * pes >= of.total;
-                if (every == 0) good = good && of.bottleneck == of.greatest && of.moved == 0;
+                if (every == 0) good = good && of.bottleneck == of.greatest && of.moved == 0 && of.moves == 0;
+                // The loads of the PEs are told, and not kept.
+                const auto sum_of = [](const std::vector<std::uint64_t> &all) { return std::accumulate(all.begin(), all.end(), std::uint64_t(0)); };
+                const auto &before = told[i].before, &after = told[i].after;
+                good = good && before.size() == pes && after.size() == pes && of.before.empty() && of.after.empty();
+                good = good && sum_of(before) == of.total && sum_of(after) == of.total && (every != 0 || before == after);
+                good = good && *std::max_element(before.begin(), before.end()) == of.greatest && *std::max_element(after.begin(), after.end()) == of.bottleneck;
+                good = good && told[i].moves == of.moves && of.moves <= n && told[i].seconds == of.seconds && of.seconds > 0 && of.seconds < 1000;
+                good = good && (i == 0 || of.seconds >= end.rounds[i - 1].seconds);
             }
             // The same loads in the third round as in the first come to what was decided for them, where nothing moved in between.
             if (every == 0) good = good && end.rounds[0].greatest == end.rounds[2].greatest && end.rounds[0].greatest == n * 4 - 10;

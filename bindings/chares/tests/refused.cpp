@@ -130,9 +130,9 @@ struct releaser {
 #undef FIELD
 #define FIELD const int field = 0
 #endif
-#if CASE == 23 // contributions are numbers of up to 64 bits
+#if CASE == 23 // pup: this type has no public member pup(tezgumi::pup::er &)
 #undef SEND
-#define SEND all.result<std::string>();
+#define SEND all.result<without_pup>();
 #endif
 #if CASE == 24 // pup: this type has no public member pup(tezgumi::pup::er &)
 #undef FIELD
@@ -141,6 +141,14 @@ struct releaser {
 #if CASE == 25 // pup: this type has no public member pup(tezgumi::pup::er &)
 #undef FIELD
 #define FIELD std::mt19937 field
+#endif
+#if CASE == 26 // the operation of a fold makes one value of two
+#undef SEND
+#define SEND contribute(tezgumi::fold<std::plus<int>>(std::string("text")));
+#endif
+#if CASE == 27 // pup: a pointer means nothing on another PE
+#undef SEND
+#define SEND contribute(tezgumi::concat("text"));
 #endif
 
 struct one BASE {

@@ -110,9 +110,10 @@ public:
         if (past) std::rethrow_exception(past);
         if (told[0] == 0) throw std::invalid_argument("another rank names a number that is past its limit");
         if (told[1] != -told[2]) throw std::invalid_argument("the ranks name different numbers of elements");
-        int good = take_memory(more) ? 1 : 0;
-        MPI_Allreduce(MPI_IN_PLACE, &good, 1, MPI_INT, MPI_MIN, comm_);
-        if (!good) throw std::bad_alloc();
+        int good[2] = {take_memory(more) ? 1 : 0, !board_ || board_->is_shown() ? 1 : 0};
+        MPI_Allreduce(MPI_IN_PLACE, good, 2, MPI_INT, MPI_MIN, comm_);
+        if (!good[0]) throw std::bad_alloc();
+        counts_letters = good[1] != 0;
         if (me_ == 0 && board_->all_finished()) end();
     }
 
@@ -539,26 +540,30 @@ private:
             must_fit_a_message(bytes->size());
             make_room(ranks_);
             for (std::uint32_t to = 1; to < ranks_; to++) start(to, round_decided, sending{{}, bytes});
-            rounds_.push_back(board_->report());
+            rounds_.push_back(board_->short_report());
             board_->write();
-            tezgumi::detail::tell(how_.on_round, rounds_.back());
+            tezgumi::detail::tell(how_.on_round, board_->report());
         }
         if (board_->all_finished()) end();
+        board_->show();
     }
     void take_shares(std::vector<share_of_fold> &given)
     {
         for (share_of_fold &one : given) {
-            share_of_fold all;
-            if (!folds_->take(one, all)) continue;
-            pup::bytes packed, bytes;
-            pup::pack(all.of, packed);
-            if (all.pe == 0) {
-                folded_.emplace_back(all.of.key, std::make_shared<const pup::bytes>(std::move(packed)));
-                continue;
-            }
-            pup::pack(std::make_pair(all.of.key, packed), bytes);
-            post(all.pe, whole, std::move(bytes));
+            folds_->take(one, [this](std::uint32_t pe, const tezgumi::folded &of) { tell_whole(pe, of); });
         }
+    }
+    // What a fold came to, for this rank.
+    void tell_whole(std::uint32_t pe, const tezgumi::folded &of)
+    {
+        pup::bytes packed, bytes;
+        pup::pack(of, packed);
+        if (pe == 0) {
+            folded_.emplace_back(of.key, std::make_shared<const pup::bytes>(std::move(packed)));
+            return;
+        }
+        pup::pack(std::make_pair(of.key, packed), bytes);
+        post(pe, whole, std::move(bytes));
     }
     // An element ends the run. The first one that is heard of does.
     void hear_exit(std::uint32_t element, const pup::bytes &value)

@@ -5,6 +5,7 @@
 #ifndef TEZGUMI_CHARES_BOARD_HPP
 #define TEZGUMI_CHARES_BOARD_HPP
 
+#include "progress_line.hpp"
 #include "words.hpp"
 
 #include <tezgumi_board.h>
@@ -93,7 +94,8 @@ private:
 class board {
 public:
     board(const settings &how, std::uint32_t pes, std::uint32_t n)
-        : how_(how), pes_(pes), n_(n), handle_(how, pes, n), loads_(n), places_(n), reported_(n), finished_(n), given_(n), bytes_(n)
+        : how_(how), pes_(pes), n_(n), handle_(how, pes, n), line_(how, pes), loads_(n), places_(n), reported_(n), finished_(n), absent_(n), told_(n),
+          given_(n), coming_(n), bytes_(n)
     {
         present_.cuts.resize(pes + 1);
         present_.names.resize(pes);
@@ -102,30 +104,34 @@ public:
         for (std::uint64_t b = 0; b <= pes; b++) present_.cuts[b] = static_cast<std::uint32_t>((b * n + pes - 1) / pes);
     }
 
-    // Takes a note, and what was contributed by it: the first of an element in the round that is under way, or that it has finished.
+    // Takes a note, and what was contributed by it: the first of an element in the round that is under way, or that it has finished. Others tell of
+    // elements that come and go.
     void take(note &of)
     {
+        if (of.what == change::letters) return line_.count(of.pe, of.load);
         if (of.index >= n_ || of.pe >= pes_) throw run_fault(fault_kind::mismatch, "a note of no element or no PE");
+        if (of.what != change::none && of.what != change::absent) return alter(of);
         if (of.finished) {
             handle_.finish(of.index);
-            finished_[of.index] = 1;
+            finish(of.index, true, absent_[of.index] != 0);
             return;
         }
         if (of.round != present_.round + 1 || reported_[of.index]) {
             throw run_fault(fault_kind::mismatch, "an element reported for a round that is not under way", of.index);
         }
-        if (is_balanced()) handle_.report(of);
-        reported_[of.index] = 1;
-        reported_count_++;
-        loads_[of.index] = std::min(of.load, TEZGUMI_BOARD_LOAD);
-        places_[of.index] = of.pe;
-        bytes_[of.index] = of.bytes;
-        given_[of.index] = std::move(of.given);
+        finish(of.index, finished_[of.index] != 0, of.what == change::absent);
+        report(of);
     }
 
-    bool all_finished() { return handle_.all_finished(); }
-    // Whether every element has reported for the round that is under way.
-    bool is_complete() { return n_ != 0 && (is_balanced() ? handle_.is_complete() : reported_count_ == n_); }
+    // Whether all elements that there are have finished, and none is on its way.
+    bool all_finished() { return coming_count_ == 0 && (done_count_ == finished_count_ ? handle_.all_finished() : done_count_ == n_); }
+    // Whether every element has reported for the round that is under way. An index without an element has, and one to which an element is on its
+    // way has not.
+    bool is_complete()
+    {
+        if (reported_count_ != n_ || absent_count_ == n_ || coming_count_ != 0) return false;
+        return !is_balanced() || absent_count_ != 0 || handle_.is_complete();
+    }
 
     // Decides the round, for which every element has reported.
     const decision &decide()
@@ -134,6 +140,7 @@ public:
         next.round = present_.round + 1;
         next.results.clear();
         join(next.results);
+        if (is_balanced()) tell_absent();
         report_ = round_report();
         report_.round = next.round;
         report_.balanced = is_balanced() || how_.moves_all;
@@ -144,14 +151,20 @@ public:
         } else if (report_.balanced) {
             balance(next);
         }
+        tell_loads(next);
         present_ = next;
         reported_count_ = 0;
         std::fill(reported_.begin(), reported_.end(), std::uint8_t(0));
+        std::fill(told_.begin(), told_.end(), std::uint8_t(0));
         std::fill(given_.begin(), given_.end(), contributions());
         return present_;
     }
-    // What is known of the round that was decided last.
+    // What is known of the round that was decided last; and without the loads of PEs, as it is kept.
     const round_report &report() const { return report_; }
+    const round_report &short_report() const { return short_report_; }
+    // Shows how far the run is, where anyone looks.
+    bool is_shown() const { return line_.is_on(); }
+    void show() { line_.show(report_, finished_count_, n_ - absent_count_); }
     // Writes the dump of that round, where there is to be one, by its number in the run.
     void write()
     {
@@ -170,7 +183,7 @@ public:
     {
         met.kind = fault_kind::quiet;
         for (std::uint32_t i = n_; i-- > 0;) {
-            if (!finished_[i]) met.element = i;
+            if (!finished_[i] && !absent_[i]) met.element = i;
         }
         if (met.element == fault::no_element) return;
         for (std::uint32_t b = 0; b < pes_; b++) {
@@ -190,15 +203,16 @@ private:
         std::uint32_t count = 0, at_sync = 0;
         std::string first;
         for (std::uint32_t i = 0; i < n_; i++) {
-            if (finished_[i]) continue;
+            if (finished_[i] || absent_[i]) continue;
             at_sync += reported_[i];
             if (count++ >= told) continue;
             first += (count == 1 ? ": element " : ", element ") + std::to_string(i);
             first += reported_[i] ? " waits for round " + std::to_string(present_.round + 1) : std::string(" waits for a message");
         }
-        std::string text = std::to_string(count) + " of " + std::to_string(n_) + " elements have not finished" + first;
+        const std::uint32_t all = n_ - absent_count_;
+        std::string text = std::to_string(count) + " of " + std::to_string(all) + " elements have not finished" + first;
         if (count > told) text += ", and " + std::to_string(count - told) + " more";
-        if (at_sync != 0 && count != n_) text += "; no round is decided without an element that has finished";
+        if (at_sync != 0 && count != all) text += "; no round is decided without an element that has finished";
         return text;
     }
     // Whether the round that is under way is one in which elements may move.
@@ -207,29 +221,99 @@ private:
         const std::uint32_t round = present_.round + 1;
         return !how_.moves_all && how_.every != 0 && round % how_.every == 0 && round < last_balanced_round;
     }
+    // An element waits for the end of the round.
+    void report(note &of)
+    {
+        // The board behind the handle is told of an index without an element as the round is decided, since one may come until then.
+        if (is_balanced() && of.what != change::absent && !told_[of.index]) {
+            handle_.report(of);
+            told_[of.index] = 1;
+        }
+        reported_[of.index] = 1;
+        reported_count_++;
+        loads_[of.index] = std::min(of.load, TEZGUMI_BOARD_LOAD);
+        places_[of.index] = of.pe;
+        bytes_[of.index] = of.bytes;
+        given_[of.index] = std::move(of.given);
+    }
+    // An element comes or goes.
+    void alter(note &of)
+    {
+        const std::uint32_t i = of.index;
+        if (of.what == change::asks || of.what == change::comes) {
+            coming_count_ -= coming_[i] != 0 ? 1 : 0;
+            coming_[i] += of.what == change::asks ? 1 : -1;
+            coming_count_ += coming_[i] != 0 ? 1 : 0;
+        }
+        if (of.what == change::comes) {
+            finish(i, finished_[i] != 0, false);
+            if (reported_[i]) reported_count_--;
+            reported_[i] = 0;
+        } else if (of.what == change::goes) {
+            finish(i, finished_[i] != 0, true);
+            const bool has_reported = reported_[i] != 0;
+            of.load = of.bytes = 0;
+            of.given.clear();
+            of.what = change::absent;
+            if (has_reported) given_[i].clear();
+            if (has_reported) loads_[i] = bytes_[i] = 0;
+            else if (of.round == present_.round + 1) report(of);
+        } else if (of.what == change::late && of.round == present_.round + 1 && !reported_[i]) {
+            report(of); // it takes part in the round; and in the next one, where it comes too late
+        }
+    }
+    void finish(std::uint32_t i, bool has_finished, bool is_absent)
+    {
+        const bool was_done = finished_[i] || absent_[i], is_done = has_finished || is_absent;
+        finished_count_ += (has_finished ? 1 : 0) - (finished_[i] ? 1 : 0);
+        absent_count_ += (is_absent ? 1 : 0) - (absent_[i] ? 1 : 0);
+        done_count_ += (is_done ? 1 : 0) - (was_done ? 1 : 0);
+        finished_[i] = has_finished;
+        absent_[i] = is_absent;
+    }
+    void tell_absent()
+    {
+        for (std::uint32_t i = 0; absent_count_ != 0 && i < n_; i++) {
+            if (told_[i]) continue;
+            note of;
+            of.index = i;
+            of.pe = places_[i];
+            handle_.report(of);
+        }
+    }
     // Folds what the elements contributed, in the order of the indices. All contribute to a round as often, or it is a fault, which names
     // one of each.
     void join(contributions &results) const
     {
+        std::vector<std::uint32_t> all;
         for (std::uint32_t i = 0; i < n_; i++) {
-            if (given_[i].size() != given_[0].size()) throw run_fault(fault_kind::input, uneven(i), i);
-            if (i == 0) results.resize(given_[0].size());
-            for (std::size_t k = 0; k < results.size(); k++) {
-                try {
-                    results[k].join(given_[i][k]);
-                } catch (const std::invalid_argument &met) {
-                    throw run_fault(fault_kind::input, met.what(), i);
-                }
+            if (absent_[i]) continue;
+            if (all.empty()) all.reserve(n_ - absent_count_);
+            all.push_back(i);
+            if (given_[i].size() != given_[all[0]].size()) throw run_fault(fault_kind::input, uneven(all[0], i), i);
+        }
+        if (all.empty()) return;
+        results.resize(given_[all[0]].size());
+        std::vector<const contribution *> values(results.empty() ? 0 : all.size());
+        for (std::size_t k = 0; k < results.size(); k++) {
+            for (std::size_t at = 0; at < all.size(); at++) values[at] = &given_[all[at]][k];
+            std::size_t place = 0;
+            try {
+                results[k] = contribution::joined(values, place);
+            } catch (const std::invalid_argument &met) {
+                throw run_fault(fault_kind::input, met.what(), all[place]);
+            } catch (const operation_failed &met) {
+                throw run_fault(fault_kind::handler, std::string("the operation of a contribution: ") + met.what());
             }
         }
     }
-    std::string uneven(std::uint32_t i) const
+    std::string uneven(std::uint32_t first, std::uint32_t i) const
     {
         const auto gave = [this](std::uint32_t of) {
             const std::size_t count = given_[of].size();
             return "element " + std::to_string(of) + " contributes " + (count == 0 ? "nothing" : count == 1 ? "a value" : std::to_string(count) + " values");
         };
-        return gave(0) + " to round " + std::to_string(present_.round + 1) + ", and " + gave(i);
+        return gave(first) + " to round " + std::to_string(present_.round + 1) + ", and " + gave(i);
     }
     void weigh()
     {
@@ -240,6 +324,22 @@ private:
             report_.greatest = std::max(report_.greatest, load);
         }
         report_.bottleneck = report_.greatest;
+        report_.before = std::move(on);
+    }
+    // What the decision makes of these loads, and when it was made.
+    void tell_loads(const decision &next)
+    {
+        std::vector<std::uint64_t> before = std::move(report_.before), after(pes_, 0);
+        for (std::uint32_t b = 0; b < pes_; b++) {
+            for (std::uint32_t i = next.cuts[b]; i < next.cuts[b + 1]; i++) {
+                after[next.names[b]] += loads_[i];
+                report_.moves += next.names[b] != places_[i] ? 1 : 0;
+            }
+        }
+        report_.seconds = line_.seconds();
+        short_report_ = report_;
+        report_.before = std::move(before);
+        report_.after = std::move(after);
     }
     // For tests: each block goes to the PE behind the one that it is on.
     void move_all(decision &next)
@@ -266,55 +366,18 @@ private:
     const settings how_;
     const std::uint32_t pes_, n_;
     board_handle handle_;
+    progress_line line_;
     std::vector<std::uint64_t> loads_;
     std::vector<std::uint32_t> places_;
-    std::vector<std::uint8_t> reported_, finished_;
+    // Of each element: whether it has reported, and finished; whether its index has none; and whether the board behind the handle knows of its report.
+    std::vector<std::uint8_t> reported_, finished_, absent_, told_;
     std::vector<contributions> given_;
+    std::vector<std::int32_t> coming_; // how many elements are on their way to each index; less than none where one came before it was told of
     std::vector<std::uint64_t> bytes_; // that each element packs into
-    std::uint32_t reported_count_ = 0;
+    std::uint32_t reported_count_ = 0, finished_count_ = 0, absent_count_ = 0, done_count_ = 0, coming_count_ = 0; // done: finished, or without an element
     decision present_;
-    round_report report_;
+    round_report report_, short_report_;
     pup::bytes dump_; // of the round that was decided last, until it is written
-};
-
-// Folds that wait for no round: of each what its elements have contributed so far.
-class folds {
-public:
-    explicit folds(std::uint32_t n) : n_(n) {}
-
-    // Takes what an element contributes. Whether it was the last; then this is what they came to, for the PE of the first element.
-    bool take(share_of_fold &of, share_of_fold &whole)
-    {
-        shares &all = open_[of.of.key];
-        if (all.given.empty()) all.given.resize(n_);
-        if (of.index >= n_) throw run_fault(fault_kind::mismatch, "what no element contributes came");
-        if (all.given[of.index].is_there()) {
-            throw run_fault(fault_kind::input, "the element contributes twice to fold " + std::to_string(of.of.key), of.index);
-        }
-        all.given[of.index] = std::move(of.of.value);
-        if (of.index == 0) all.pe = of.pe;
-        if (++all.count != n_) return false;
-        whole.pe = all.pe;
-        whole.of.key = of.of.key;
-        whole.of.value = contribution();
-        for (std::uint32_t i = 0; i < n_; i++) {
-            try {
-                whole.of.value.join(all.given[i]);
-            } catch (const std::invalid_argument &) {
-                throw run_fault(fault_kind::input, "contributions to fold " + std::to_string(of.of.key) + " differ in kind or in length", i);
-            }
-        }
-        open_.erase(of.of.key);
-        return true;
-    }
-
-private:
-    struct shares {
-        std::vector<contribution> given;
-        std::uint32_t count = 0, pe = 0;
-    };
-    const std::uint32_t n_;
-    std::map<std::uint64_t, shares> open_;
 };
 
 // Whether all PEs have nothing to do: each is asked by a number, and answers once it has nothing to do, with how many messages it has

@@ -10,6 +10,7 @@
 #include <map>
 #include <memory>
 #include <new>
+#include <optional>
 #include <type_traits>
 #include <unordered_map>
 
@@ -34,7 +35,7 @@ namespace detail {
 // What a handler said besides what it sent; and what the element contributes to the round that it is not yet at sync for, of which so many
 // stood there before this handler.
 struct said {
-    bool at_sync = false, finished = false, named = false;
+    bool at_sync = false, finished = false, named = false, destroyed = false;
     std::uint64_t units = 0;
     std::shared_ptr<const pup::bytes> exits; // the value with which all end
     contributions given;
@@ -42,7 +43,7 @@ struct said {
 
     void begin()
     {
-        at_sync = finished = named = false;
+        at_sync = finished = named = destroyed = false;
         units = 0;
         exits.reset();
         given_before = given.size();
@@ -82,8 +83,12 @@ inline constexpr std::uint64_t most_letters = std::uint64_t(1) << 20;
 inline constexpr std::size_t most_answered = std::size_t(1) << 20;
 using beside = std::shared_ptr<const pup::bytes>;
 
-// The number of a ticket, by which its body is kept. Of a body that several letters name the number has this bit.
-inline constexpr std::uint64_t shared_bit = std::uint64_t(1) << 63;
+// In place of the number of a message: before that of one for all, which an index without an element passes over; and twice before an element.
+inline constexpr std::uint8_t no_message = 0x7f;
+
+// The number of a ticket, by which its body is kept. Of a body that several letters name the number has the first of these bits, and of one for all
+// elements the other too.
+inline constexpr std::uint64_t shared_bit = std::uint64_t(1) << 63, all_bit = std::uint64_t(1) << 62;
 struct ticket {
     std::uint32_t pe = 0;
     std::uint64_t number = 0;
@@ -176,7 +181,7 @@ public:
     }
     // Sends it to so many elements, whose indices are to(0), to(1) and so on; or to none where that throws. A body that is long, for all together, is
     // there once, and all these letters name it.
-    template <class F> void post_to_each(std::size_t count, F &&to, bool is_awaited = false)
+    template <class F> void post_to_each(std::size_t count, F &&to, bool is_awaited = false, bool is_to_all = false)
     {
         if (count == 0) return;
         const std::size_t len = answer.len;
@@ -185,8 +190,9 @@ public:
         if (is_short && body.size() > copied_body && body.size() > copied_bodies / count) {
             put_beside(std::make_shared<const pup::bytes>(body.begin() + 1, body.end()));
         }
+        if (is_to_all && !is_awaited) mark();
         const bool is_beside = shared || is_awaited;
-        const ticket made = is_beside ? keep(shared_bit, count) : ticket();
+        const ticket made = is_beside ? keep(is_to_all ? shared_bit | all_bit : shared_bit, count) : ticket();
         try {
             for (std::size_t i = 0; i < count; i++) add(to(i));
         } catch (...) {
@@ -199,7 +205,7 @@ public:
         }
     }
     // Contributes to a fold. The first element posts the letters with what that comes to, as a message of this type: their body comes later.
-    template <class F> void contribute(std::uint64_t key, const contribution &value, std::size_t place, std::size_t count, F &&to)
+    template <class F> void contribute(std::uint64_t key, const contribution &value, std::size_t place, std::size_t count, F &&to, bool is_to_all)
     {
         share_of_fold mine;
         mine.index = me;
@@ -211,19 +217,40 @@ public:
         if (me == 0) {
             body.assign(1, static_cast<std::uint8_t>(place));
             put_beside(nullptr);
-            post_to_each(count, to, true);
+            post_to_each(count, to, true, is_to_all);
             awaited.emplace_back(key, tickets.back());
         }
         shares.push_back(std::move(mine));
     }
     void post_to_all()
     {
-        post_to_each(n, [](std::size_t i) { return static_cast<std::uint32_t>(i); });
+        post_to_each(
+            n, [](std::size_t i) { return static_cast<std::uint32_t>(i); }, false, true);
+    }
+    // Sends an object to an index, where it becomes the element.
+    template <class C> void insert(std::uint32_t to, const C &object)
+    {
+        must_be_there(to);
+        reserve_one(shares);
+        pack(no_message, object);
+        mark();
+        post(to);
+        share_of_fold asked;
+        asked.what = change::asks;
+        asked.index = to;
+        asked.by = me;
+        shares.push_back(std::move(asked));
     }
     template <class I> void post_to_some(const std::vector<I> &indices)
     {
         for (const I &to : indices) must_be_there(to);
         post_to_each(indices.size(), [&indices](std::size_t i) { return static_cast<std::uint32_t>(indices[i]); });
+    }
+    // A letter that was posted before goes on as it is, and what is beside it stays.
+    void add_again(std::uint32_t to, const std::uint8_t *of, std::size_t len)
+    {
+        body.assign(of, of + len);
+        add(to);
     }
     template <class I> void must_be_there(I to) const
     {
@@ -249,6 +276,13 @@ private:
     static void check(std::int32_t status)
     {
         if (status != TEZGUMI_PE_OK) throw std::bad_alloc();
+    }
+    // Marks a body that was packed as one for all, or as an element. That of a ticket is marked otherwise.
+    void mark()
+    {
+        if (shared) return;
+        if (body.size() >= longest_body) return put_beside(std::make_shared<const pup::bytes>(body.begin() + 1, body.end()));
+        body.insert(body.begin(), no_message);
     }
     // The body that was packed goes beside its letters, which have a ticket in its place.
     void put_beside(beside packed)
@@ -315,6 +349,8 @@ protected:
     void at_sync() { said_.at_sync = true; }
     // The element has finished. It goes on receiving. Once all have finished the run ends.
     void finish() { said_.finished = true; }
+    // There is no such element any more. What this handler sent is sent.
+    void destroy() { said_.destroyed = true; }
     // The run ends for all elements, finished or not. The value is there in the outcome.
     template <class T> void exit(const T &value)
     {
@@ -379,6 +415,15 @@ public:
         {
             if (detail::pack<C>(*out_, message)) out_->when_quiet([this] { out_->post(index_); });
         }
+        // Makes this element, which is not there: of an object, or of what a constructor is given. The object is packed, and starts where the index is.
+        template <class... Of> void insert(const Of &...of) const
+        {
+            if constexpr (sizeof...(Of) == 1 && (std::is_same<Of, C>::value && ...)) {
+                out_->insert(index_, of...);
+            } else {
+                out_->insert(index_, C(of...));
+            }
+        }
         std::uint32_t index() const { return index_; }
 
     private:
@@ -387,7 +432,8 @@ public:
         void contribute(std::uint64_t key, const contribution &value) const
         {
             out_->must_be_there(index_);
-            out_->contribute(key, value, place_of_folds(), 1, [this](std::size_t) { return index_; });
+            out_->contribute(
+                key, value, place_of_folds(), 1, [this](std::size_t) { return index_; }, false);
         }
         element(detail::outgoing *out, std::uint32_t index) : out_(out), index_(index) {}
         detail::outgoing *out_;
@@ -429,6 +475,9 @@ public:
         if (detail::pack<C>(*out_, message)) out_->when_quiet([this, &to] { out_->post_to_some(to); });
     }
 
+    // Makes an element that is not there.
+    template <class I> void insert(const I &i, const C &object) const { (*this)[i].insert(object); }
+
     std::uint32_t me() const { return out_->me; } // the index of the element whose handler this is
     std::uint32_t size() const { return out_->n; } // how many elements there are
     std::uint32_t pe() const { return out_->pe; } // the PE where it runs
@@ -458,7 +507,8 @@ private:
     }
     void contribute(std::uint64_t key, const contribution &value) const
     {
-        out_->contribute(key, value, place_of_folds(), out_->n, [](std::size_t i) { return static_cast<std::uint32_t>(i); });
+        out_->contribute(
+            key, value, place_of_folds(), out_->n, [](std::size_t i) { return static_cast<std::uint32_t>(i); }, true);
     }
     template <class I> static constexpr void must_be_indices()
     {
@@ -541,9 +591,15 @@ public:
     // Makes the object anew of these bytes, all of which it takes. Where that throws the object is as it was.
     virtual void unpack(std::uint32_t index, pup::er &p) = 0;
     virtual void remove(std::uint32_t index) = 0;
+    // Whether there is such an object here; and makes one of an object's bytes alone.
+    virtual bool has(std::uint32_t index) const = 0;
+    virtual void insert(std::uint32_t index, const std::uint8_t *from, std::size_t len) = 0;
 
     outgoing out;
 };
+
+template <class T> struct is_optional : std::false_type {};
+template <class T> struct is_optional<std::optional<T>> : std::true_type {};
 
 template <class C> class elements_of final : public elements {
     static_assert(std::is_base_of<chare, C>::value, "a chare C is a struct C : tezgumi::chare");
@@ -556,7 +612,14 @@ public:
     // What makes the elements as they begin, by the function of the program.
     template <class Make> auto beginning(Make &make)
     {
-        return [this, &make](std::uint32_t index) { objects_[index] = std::unique_ptr<C>(new C(make(index))); };
+        return [this, &make](std::uint32_t index) {
+            if constexpr (is_optional<typename std::decay<decltype(make(index))>::type>::value) {
+                auto made = make(index);
+                if (made) objects_[index] = std::make_unique<C>(*std::move(made));
+            } else {
+                objects_[index] = std::unique_ptr<C>(new C(make(index)));
+            }
+        };
     }
     said &said_by(std::uint32_t index) override { return said_of::in(*objects_[index]); }
     void receive(std::uint32_t index, std::size_t place, const std::uint8_t *body, std::size_t len) override
@@ -580,6 +643,13 @@ public:
         objects_[index] = std::move(object);
     }
     void remove(std::uint32_t index) override { objects_[index].reset(); }
+    bool has(std::uint32_t index) const override { return objects_[index] != nullptr; }
+    void insert(std::uint32_t index, const std::uint8_t *from, std::size_t len) override
+    {
+        auto object = std::make_unique<C>();
+        pup::unpack(*object, from, len);
+        objects_[index] = std::move(object);
+    }
 
     // At the end.
     void leave(std::map<std::uint32_t, std::unique_ptr<C>> &found)

@@ -120,6 +120,8 @@ public:
     virtual ~link() = default;
     // Where the events of this PE are written down, or nothing.
     event_log *log = nullptr;
+    // Whether notes tell how many letters the PE has executed, for the line of progress.
+    bool counts_letters = false;
     // Lets messages come in and go out. Whether something came.
     virtual bool poll() = 0;
     // Whether a batch is here, or what a fold came to, or a decision of a round after this one.

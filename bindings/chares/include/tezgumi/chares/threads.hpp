@@ -3,6 +3,7 @@
 #define TEZGUMI_CHARES_THREADS_HPP
 
 #include "board.hpp"
+#include "folds.hpp"
 #include "worker.hpp"
 
 #include <atomic>
@@ -52,15 +53,15 @@ public:
 
     void contribute(std::vector<share_of_fold> &shares)
     {
+        const std::lock_guard<std::mutex> lock(folds_mutex_);
         told_++;
         for (share_of_fold &one : shares) {
-            share_of_fold whole;
-            const std::lock_guard<std::mutex> lock(folds_mutex_);
-            if (!folds_.take(one, whole)) continue;
-            auto packed = std::make_shared<pup::bytes>();
-            pup::pack(whole.of, *packed);
-            boxes_[whole.pe]->folded.emplace_back(whole.of.key, std::move(packed));
-            boxes_[whole.pe]->folds_there++;
+            folds_.take(one, [this](std::uint32_t pe, const tezgumi::folded &whole) {
+                auto packed = std::make_shared<pup::bytes>();
+                pup::pack(whole, *packed);
+                boxes_[pe]->folded.emplace_back(whole.key, std::move(packed));
+                boxes_[pe]->folds_there++;
+            });
         }
     }
     bool folded(std::uint32_t me, std::uint64_t &key, beside &whole)
@@ -164,6 +165,7 @@ public:
     }
     std::uint32_t quiets() const { return quiets_.load(); }
 
+    bool is_shown() const { return board_.is_shown(); }
     // Once no thread uses it any more.
     const fault &met() const { return fault_; }
     const exited &exit() const { return exit_; }
@@ -189,12 +191,13 @@ private:
                 const std::lock_guard<std::mutex> lock(mutex_);
                 latest_ = std::move(next);
                 decided_ = latest_->round;
-                rounds_.push_back(board_.report());
+                rounds_.push_back(board_.short_report());
             }
             board_.write();
             tell(how_.on_round, board_.report());
         }
         if (board_.all_finished()) ended_ = true;
+        board_.show();
     }
 
     struct box {
@@ -229,7 +232,7 @@ private:
 // The link of one thread.
 class thread_link final : public link {
 public:
-    thread_link(field &shared, const settings &how, std::uint32_t me) : field_(shared), how_(how), me_(me) {}
+    thread_link(field &shared, const settings &how, std::uint32_t me) : field_(shared), how_(how), me_(me) { counts_letters = shared.is_shown(); }
 
     bool poll() override { return false; }
     bool has_news(std::uint32_t round) override { return field_.has_news(me_, round); }

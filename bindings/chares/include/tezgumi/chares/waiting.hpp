@@ -12,12 +12,14 @@ namespace detail {
 
 inline constexpr std::uint32_t nobody = UINT32_MAX;
 
-// An element of a PE: whether it waits for a round, and the size and the contribution that it told for that.
+// An element of a PE: whether it waits for a round, and the size and the contribution that it told for that. Or an index without an element,
+// which waits for each round from the start. An element that comes there is early until it is at sync, or the index goes on after the round.
 struct slot {
-    bool waits = false, finished = false;
+    bool waits = false, finished = false, exists = true, early = false;
     std::uint32_t round = 0, waits_for = 0;
     std::uint32_t adds_to = nobody; // the PE to which it went on adding letters, where those were over the limit
     std::uint64_t bytes = 0;
+    std::uint64_t load = 0; // of an early one: its work so far
     contributions given;
 };
 
@@ -138,7 +140,7 @@ private:
     std::uint64_t told_ = 0;
 };
 
-// By the PE to which their elements go on adding; and by the body that they name.
+// By the PE to which their elements go on adding, or by the index without an element; and by the body that they name.
 using held_letters = waiting_letters<std::uint32_t, std::map<std::uint32_t, std::deque<arrival>>>;
 using bodiless_letters = waiting_letters<ticket, std::unordered_map<ticket, std::deque<arrival>, ticket_hash>>;
 

@@ -2,7 +2,7 @@
 #ifndef TEZGUMI_CHARES_WORDS_HPP
 #define TEZGUMI_CHARES_WORDS_HPP
 
-#include "../pup.hpp"
+#include "operations.hpp"
 
 #include <cmath>
 #include <cstdint>
@@ -33,6 +33,10 @@ struct round_report {
     std::uint64_t total = 0; // the load of all
     std::uint64_t bottleneck = 0; // the greatest load of a PE as it was decided, for the same loads
     std::uint64_t moved = 0; // the bytes that move
+    std::uint32_t moves = 0; // how many elements move
+    double seconds = 0; // from the start of the run until it was decided
+    // The load of each PE in the round, and as it was decided for the same loads. These are there in on_round alone.
+    std::vector<std::uint64_t> before, after;
 };
 
 // How a run goes. All PEs are given the same.
@@ -53,6 +57,7 @@ struct settings {
     std::size_t backlog = 16 * 1024 * 1024;
     std::uint32_t quiet = 20; // after so many milliseconds without anything to do it is asked whether all PEs have nothing
     bool moves_all = false; // for tests: in each round every element goes to the next PE, and on one PE it is packed and unpacked anew
+    bool progress = true; // a line of progress on standard error, where that is a terminal
     std::function<void(const round_report &)> on_round; // after each round, on the PE or the rank that decides
     // A handler ended by an exception, and its element was restored: which element, and the text of the exception. On the PE's own thread.
     std::function<void(std::uint32_t element, const std::string &what)> on_failed;
@@ -70,13 +75,14 @@ enum class fault_kind : std::uint32_t {
     quiet = 6, // nothing was left to do, and an element had not finished
     mismatch = 7, // what was carried is not what was sent: an error in the driver or below
     dump = 8, // a dump was not written, or the events or the trace
-    input = 9 // the settings, the planner or the PE refused something
+    input = 9, // the settings, the planner or the PE refused something
+    taken = 10 // an element was inserted where one is
 };
 
 inline const char *fault_word(fault_kind kind)
 {
-    static const char *const words[] = {"none", "memory", "stranger", "toolong", "worn", "handler", "quiet", "mismatch", "dump", "input"};
-    return words[static_cast<std::uint32_t>(kind) % 10];
+    static const char *const words[] = {"none", "memory", "stranger", "toolong", "worn", "handler", "quiet", "mismatch", "dump", "input", "taken"};
+    return words[static_cast<std::uint32_t>(kind) % 11];
 }
 
 // Why a run ended early, and where.
@@ -129,7 +135,7 @@ struct account {
 // A value that each element contributes at a sync, to be folded with those of the others, in the order of the indices.
 class contribution {
 public:
-    enum class fold : std::uint8_t { none, sum, least, greatest };
+    enum class fold : std::uint8_t { none, sum, least, greatest, own, together };
     enum class kind : std::uint8_t { f64, i64, u64 };
 
     contribution() = default;
@@ -139,10 +145,68 @@ public:
         for (std::size_t i = 0; i < count; i++) bits_[i] = pup::detail::bits_of(static_cast<wide<T>>(values[i]));
     }
 
-    bool is_there() const { return how_ != fold::none; }
-    void pup(pup::er &p) { p(how_, kind_, bits_); }
+    // Values that pack, folded by an operation of the program, or put together where there is none.
+    template <class T> contribution(std::uint64_t operation, const std::vector<T> &values) : how_(operation == 0 ? fold::together : fold::own)
+    {
+        auto packed = std::make_shared<detail::packed_values>();
+        packed->type = detail::number_of_type<T>();
+        packed->operation = operation;
+        pup::pack(values, packed->list);
+        packed_ = std::move(packed);
+    }
 
-    // Folds another one into this, which may be empty.
+    bool is_there() const { return how_ != fold::none; }
+    void pup(pup::er &p)
+    {
+        p(how_, kind_, bits_);
+        if (how_ == fold::own || how_ == fold::together) return (void)p(packed_);
+        if (p.is_unpacking()) packed_.reset();
+    }
+
+    // All of these folded, in this order. The empty ones are passed over. Where one does not fit the others, `at` is its place.
+    static contribution joined(const std::vector<const contribution *> &all, std::size_t &at)
+    {
+        contribution whole;
+        detail::packed_lists lists;
+        for (at = 0; at < all.size(); at++) {
+            whole.join(*all[at]);
+            if (all[at]->packed_) lists.push_back(&all[at]->packed_->list);
+        }
+        if (lists.size() < 2) return whole;
+        auto packed = std::make_shared<detail::packed_values>();
+        packed->type = whole.packed_->type;
+        packed->operation = whole.packed_->operation;
+        packed->list = detail::folded_lists(packed->operation, lists);
+        whole.packed_ = std::move(packed);
+        return whole;
+    }
+
+    // The values, as this type. A sum of int or unsigned may be past that type: ask for 64 bits then.
+    template <class T> std::vector<T> values() const
+    {
+        std::vector<T> found;
+        if (packed_) {
+            if (packed_->type != detail::number_of_type<T>()) throw std::logic_error("no contribution of this type came");
+            pup::unpack(found, packed_->list.data(), packed_->list.size());
+            return found;
+        }
+        if constexpr (std::is_arithmetic<T>::value) {
+            must_be_number<T>();
+            if (!is_there() || kind_ != kind_of<T>()) throw std::logic_error("no contribution of this type came");
+            for (const std::uint64_t bits : bits_) {
+                const auto number = as<wide<T>>(bits);
+                found.push_back(static_cast<T>(number));
+                if (std::is_integral<T>::value && static_cast<wide<T>>(static_cast<T>(number)) != number) {
+                    throw std::range_error("a contribution is past the type that is asked for");
+                }
+            }
+            return found;
+        }
+        throw std::logic_error("no contribution of this type came");
+    }
+
+private:
+    // Folds another one into this, which may be empty. What is packed is folded later, all together.
     void join(const contribution &other)
     {
         if (!other.is_there()) return;
@@ -150,31 +214,18 @@ public:
             *this = other;
             return;
         }
-        if (how_ != other.how_ || kind_ != other.kind_ || bits_.size() != other.bits_.size()) {
+        if (how_ != other.how_ || kind_ != other.kind_ || bits_.size() != other.bits_.size() || (packed_ && !fits(*packed_, *other.packed_))) {
             throw std::invalid_argument("contributions of one sync differ in kind or in length");
         }
         for (std::size_t i = 0; i < bits_.size(); i++) bits_[i] = joined(bits_[i], other.bits_[i]);
     }
 
-    // The values, as this type. A sum of int or unsigned may be past that type: ask for 64 bits then.
-    template <class T> std::vector<T> values() const
+    bool fits(const detail::packed_values &a, const detail::packed_values &b) const
     {
-        must_be_number<T>();
-        if (!is_there() || kind_ != kind_of<T>()) throw std::logic_error("no contribution of this type came");
-        std::vector<T> found(bits_.size());
-        if constexpr (std::is_arithmetic<T>::value) {
-            for (std::size_t i = 0; i < bits_.size(); i++) {
-                const auto number = as<wide<T>>(bits_[i]);
-                found[i] = static_cast<T>(number);
-                if (std::is_integral<T>::value && static_cast<wide<T>>(found[i]) != number) {
-                    throw std::range_error("a contribution is past the type that is asked for");
-                }
-            }
-        }
-        return found;
+        if (a.type != b.type || a.operation != b.operation) return false;
+        return how_ == fold::together || detail::count_of_list(a.list) == detail::count_of_list(b.list);
     }
 
-private:
     // Numbers are folded as a double, or in 64 bits.
     template <class T>
     using wide = typename std::conditional<std::is_floating_point<T>::value, double,
@@ -225,6 +276,7 @@ private:
     fold how_ = fold::none;
     kind kind_ = kind::f64;
     std::vector<std::uint64_t> bits_;
+    std::shared_ptr<const detail::packed_values> packed_; // in place of numbers
 };
 
 // What an element contributes to a round, in order.
@@ -256,6 +308,24 @@ template <class T> contribution greatest(const std::vector<T> &values)
 }
 
 namespace detail {
+template <class Op, class T> contribution folded_by(const T &value)
+{
+    if constexpr (!Op::template takes<T> && is_list<T>::value) {
+        return contribution(operation_of<Op, typename T::value_type>::number, value);
+    } else {
+        return contribution(operation_of<Op, T>::number, std::vector<T>(1, value));
+    }
+}
+} // namespace detail
+
+// A value of any type with a pup, folded by an operation of the program: a type or a function that makes one value of two, and is associative.
+// A list is folded place by place, unless the operation takes lists.
+template <class Op, class T> contribution fold(T value) { return detail::folded_by<detail::called<Op>>(value); }
+template <auto Op, class T> contribution fold(T value) { return detail::folded_by<detail::called_function<Op>>(value); }
+// The values of all, in the order of the indices, come as a list.
+template <class T> contribution concat(T value) { return contribution(std::uint64_t(0), std::vector<T>(1, value)); }
+
+namespace detail {
 
 // A fault on its way to the end of a run.
 class run_fault : public std::runtime_error {
@@ -281,22 +351,35 @@ template <class... T> void tell(const std::function<void(T...)> &of, const typen
     }
 }
 
+// What a note or a share tells besides, in runs whose elements come and go.
+enum class change : std::uint8_t {
+    none,
+    absent, // an index without an object waits for the end of the round
+    asks, // an element inserts one at this index
+    comes, // the index has an object now
+    late, // that is at sync, in the round for which its index waited before it came
+    goes, // the index has none any more
+    letters // how many letters the PE has executed
+};
+
 // What a PE owes the board: that an element waits for the end of a round, or has finished.
 struct note {
     bool finished = false;
+    change what = change::none;
     std::uint32_t index = 0, round = 0, pe = 0;
     std::uint64_t load = 0, bytes = 0;
     contributions given;
 
-    void pup(pup::er &p) { p(finished, index, round, pe, load, bytes, given); }
+    void pup(pup::er &p) { p(finished, what, index, round, pe, load, bytes, given); }
 };
 
-// What an element on a PE contributes to a fold that waits for no round.
+// What an element on a PE contributes to a fold that waits for no round; or what tells of elements that come and go.
 struct share_of_fold {
-    std::uint32_t index = 0, pe = 0;
+    change what = change::none;
+    std::uint32_t index = 0, pe = 0, by = 0; // by which element one is inserted
     folded of;
 
-    void pup(pup::er &p) { p(index, pe, of); }
+    void pup(pup::er &p) { p(what, index, pe, by, of); }
 };
 
 // The decision of a round: block b is the elements cuts[b] .. cuts[b + 1] - 1, and goes to PE names[b].

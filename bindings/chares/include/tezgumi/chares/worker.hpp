@@ -2,6 +2,7 @@
 #ifndef TEZGUMI_CHARES_WORKER_HPP
 #define TEZGUMI_CHARES_WORKER_HPP
 
+#include "addressed.hpp"
 #include "bodies.hpp"
 #include "events.hpp"
 #include "patience.hpp"
@@ -18,7 +19,7 @@ class worker {
 public:
     worker(link &carrier, const settings &how, elements &objects)
         : link_(carrier), how_(how), objects_(objects), out_(objects.out), me_(out_.pe), pes_(out_.pes), n_(out_.n), room_(n_), outbound_(how, pes_),
-          held_own_(how.batch), held_others_(how.batch), bodiless_(how.batch), clock_(how.clock), patience_(pes_), bodies_(pes_), places_(n_)
+          held_own_(how.batch), held_others_(how.batch), unclaimed_(how.batch), arriving_(how.batch), bodiless_(how.batch), clock_(how.clock), patience_(pes_), bodies_(pes_), places_(n_)
     {
         own_.from = me_;
         out_.held = &bodies_.all();
@@ -94,12 +95,18 @@ private:
         }
         if (!how_.trace.empty()) trace_ = std::make_unique<time_trace>(how_, me_);
         pe_ = std::make_unique<pe_handle>(me_, pes_, n_);
+        std::vector<share_of_fold> absent;
         for (std::uint32_t i = 0; i < n_; i++) {
             if (opening_place(i) != me_) continue;
             guarded(i, [&] { begin(i); });
             room_[i] = std::make_unique<slot>();
             due_.push_back(i);
+            if (objects_.has(i)) continue;
+            room_[i]->exists = false;
+            absent_here_++;
+            absent.push_back(changed(change::goes, i));
         }
+        if (!absent.empty()) link_.contribute(absent);
     }
 
     // ---- A turn ----
@@ -293,6 +300,7 @@ private:
             bodiless_.add(next.its_ticket(), alone, next);
             return true;
         }
+        if (absent_here_ != 0 && waits_at_index(of, next)) return true;
         const std::uint32_t on = times == 0 ? nobody : held_on(next.receiver(), times);
         if (on == nobody) return false;
         if (times == 1) {
@@ -492,7 +500,9 @@ private:
         const std::uint64_t measured = clock_.end(so.named), units = so.named ? so.units : measured;
         if (trace_) trace_->handler(index, kind);
         if (so.at_sync && !at.waits) guarded(index, [&] { at.bytes = objects_.size(index); });
-        out_.end(units, so.at_sync, so.finished, at.bytes);
+        if (so.destroyed) return out_.end(units, true, false, 0); // its index waits from now on
+        if (at.early) at.load += units;
+        out_.end(at.early ? 0 : units, so.at_sync && !at.early, so.finished, at.bytes);
     }
 
     // The answer was taken: what the element said holds.
@@ -505,11 +515,16 @@ private:
         inside_ += out_.letters;
         if (so.exits) link_.exit(index, so.exits);
         for (const auto &one : out_.awaited) bodies_.await(one.first, one.second);
+        tell_inserted();
         if (!out_.shares.empty()) link_.contribute(out_.shares);
         add_to_outbox(out_.letters, true);
         mark(at);
-        if (so.finished) {
+        if (so.destroyed) {
+            remove(index, at);
+        } else if (so.finished) {
             at.finished = true;
+        } else if (so.at_sync && at.early) {
+            report_late(index, at);
         } else if (so.at_sync && !at.waits && !at.finished) {
             at.waits = true;
             at.waits_for = at.round + 1;
@@ -533,26 +548,178 @@ private:
 
     void execute(std::uint32_t index, const std::uint8_t *body, std::size_t len)
     {
-        if (len == 0) throw run_fault(fault_kind::mismatch, "a letter without a message came", index);
+        addressed of;
+        if (!addressed::read(body, len, of)) throw run_fault(fault_kind::mismatch, "a letter without a message came", index);
         slot &at = here(index);
-        const std::uint8_t place = body[0];
+        if (!at.exists && of.waits()) return pass_on(index, body, len);
         beside longer;
-        if (place & beside_bit) {
-            if (len != ticket_bytes) throw run_fault(fault_kind::mismatch, "the ticket of a letter has another length", index);
+        if (of.is_beside) {
             longer = bodies_.look(ticket_in(body));
             bodies_.drop(ticket_in(body), 1);
+            of.from = longer->data();
+            of.len = longer->size();
         }
-        handle(index, at, place & 0x7f, [&] {
-            objects_.receive(index, place & 0x7f, longer ? longer->data() : body + 1, longer ? longer->size() : len - 1);
-        });
+        if (of.is_element) {
+            insert(index, at, of.from, of.len);
+        } else if (at.exists) {
+            handle(index, at, of.place, [&] { objects_.receive(index, of.place, of.from, of.len); });
+        } else {
+            answer_nothing(index, 0, false); // it is for all, and here is none
+        }
         pe_->execute(index, out_.answer);
         if (log_) log_->act();
         executed_++;
-        handled(index, at);
+        if (of.is_element) inserted(index);
+        if (at.exists) handled(index, at);
+        else out_.taken();
+    }
+
+    // ---- Elements that come and go ----
+
+    static share_of_fold changed(change what, std::uint32_t index)
+    {
+        share_of_fold of;
+        of.what = what;
+        of.index = index;
+        return of;
+    }
+    note note_of(change what, std::uint32_t index, const slot &at) const
+    {
+        note of;
+        of.what = what;
+        of.index = index;
+        of.pe = me_;
+        of.round = at.waits_for;
+        return of;
+    }
+    // Puts aside a letter for an index of this PE that has no element, and an element for one that goes on after a round first. Whether it did.
+    bool waits_at_index(const arrival &of, const parcel &next)
+    {
+        const std::uint32_t index = next.receiver();
+        addressed body;
+        if (index >= n_ || !room_[index] || room_[index]->exists || !addressed::read(next.body(), next.body_len(), body)) return false;
+        const bool is_due = room_[index]->waits && room_[index]->waits_for <= round_;
+        if (!body.waits() && !(body.is_element && is_due)) return false;
+        arrival alone;
+        alone.from = of.from;
+        (body.waits() ? unclaimed_ : arriving_).add(index, alone, next);
+        return true;
+    }
+    // Letters that waited here go on.
+    void claim(held_letters &of, std::uint32_t index)
+    {
+        for (arrival &one : of.take(index)) revived_.push_back(std::move(one));
+    }
+    // An answer without a handler, which sends nothing.
+    void answer_nothing(std::uint32_t index, std::uint64_t units, bool at_sync)
+    {
+        out_.begin(index);
+        out_.end(units, at_sync, false, 0);
+    }
+    // A letter that was in the hand as its element started and was destroyed by that: it is posted anew, and waits.
+    void pass_on(std::uint32_t index, const std::uint8_t *body, std::size_t len)
+    {
+        out_.begin(index);
+        out_.add_again(index, body, len);
+        out_.end(0, false, false, 0);
+        pe_->execute(index, out_.answer);
+        if (log_) log_->act();
+        executed_++;
+        posted_++;
+        inside_++;
+        out_.taken();
+        add_to_outbox(1, true);
+    }
+
+    // An object comes to its index, and starts.
+    void insert(std::uint32_t index, slot &at, const std::uint8_t *from, std::size_t len)
+    {
+        if (at.exists) throw run_fault(fault_kind::taken, "element " + std::to_string(index) + " is inserted, and there is one", index);
+        if (at.finished) throw run_fault(fault_kind::taken, "element " + std::to_string(index) + " is inserted where one has finished", index);
+        collect_notes();
+        guarded(index, [&] { objects_.insert(index, from, len); });
+        absent_here_--;
+        at.exists = at.early = true;
+        at.waits = false;
+        at.load = at.bytes = 0;
+        handle(index, at, work_clock::resumption, [&] { objects_.resume(index, 0); });
+    }
+    // That is told before what its handler said.
+    void inserted(std::uint32_t index)
+    {
+        notes_.push_back(note_of(change::comes, index, here(index)));
+        std::vector<share_of_fold> told(1, changed(change::comes, index));
+        link_.contribute(told);
+        claim(unclaimed_, index);
+    }
+    // The last handler inserts elements: no round is decided, and the run does not end, before they have come.
+    void tell_inserted()
+    {
+        for (const share_of_fold &one : out_.shares) {
+            if (one.what == change::asks) notes_.push_back(note_of(change::asks, one.index, slot()));
+        }
+    }
+    // An early element is at sync.
+    void report_late(std::uint32_t index, slot &at)
+    {
+        said &so = objects_.said_by(index);
+        note of = note_of(change::late, index, at);
+        of.load = at.load;
+        of.bytes = at.bytes;
+        of.given = std::move(so.given);
+        so.given.clear();
+        notes_.push_back(std::move(of));
+        at.early = false;
+        at.waits = true;
+        at.load = 0;
+    }
+    // The element of the last handler is no more. Its index waits, for the round for which that element did, or for the next.
+    void remove(std::uint32_t index, slot &at)
+    {
+        const bool has_waited = at.waits || at.early;
+        if (has_waited) collect_notes();
+        objects_.remove(index);
+        absent_here_++;
+        at.exists = at.early = false;
+        at.waits = has_waited;
+        at.adds_to = nobody;
+        at.bytes = at.load = 0;
+        at.given.clear();
+        if (has_waited || at.finished) {
+            notes_.push_back(note_of(change::goes, index, at));
+        } else {
+            wait(index, at);
+        }
+        std::vector<share_of_fold> told(1, changed(change::goes, index));
+        link_.contribute(told);
+    }
+    // An index without an element waits for the next round.
+    void wait(std::uint32_t index, slot &at)
+    {
+        at.waits = true;
+        at.waits_for = at.round + 1;
+        waiting_.push_back(index);
+        collect_notes();
+    }
+    // An index goes on after a round, or starts, and has no element; or one that came meanwhile, and was not at sync.
+    void go_on_quietly(std::uint32_t index, slot &at)
+    {
+        at.waits = false;
+        at.round = round_;
+        answer_nothing(index, at.load, !at.exists);
+        pe_->resume(index, round_, out_.answer);
+        if (log_ && round_ == 0) log_->start(index);
+        if (log_ && round_ != 0) log_->resume(index, round_);
+        out_.taken();
+        at.early = false;
+        at.load = 0;
+        if (!at.exists) wait(index, at);
+        claim(arriving_, index);
     }
 
     void resume(std::uint32_t index, slot &at)
     {
+        if (!at.exists || at.early) return go_on_quietly(index, at);
         out_.results = round_ == 0 ? &nothing_ : &results_;
         at.waits = false;
         at.round = round_;
@@ -608,7 +775,7 @@ private:
                 due_.push_back(index);
                 continue;
             } else {
-                if (how_.moves_all && pes_ == 1 && round_ > 0) make_anew(index);
+                if (how_.moves_all && pes_ == 1 && round_ > 0 && at.exists) make_anew(index);
                 resume(index, at);
             }
             did = true;
@@ -630,15 +797,18 @@ private:
         if (trace_) trace_->begin();
         const auto packed = std::make_shared<pup::bytes>();
         pup::er p(*packed);
-        p(index, at.finished, at.waits_for);
-        guarded(index, [&] { objects_.pack(index, p); });
+        p(index, at.finished, at.waits_for, at.exists, at.early, at.load);
+        if (at.exists) guarded(index, [&] { objects_.pack(index, p); });
         if (packed->size() > longest_beside) throw run_fault(fault_kind::toolong, "an element packs into more than 2^30 bytes", index);
         pe_->depart(index, places_[index]);
         if (log_) log_->depart(index, places_[index], round_);
         add_to_outbox(1);
         leaving_.emplace(index, packed);
+        if (!at.exists) absent_here_--;
         room_[index].reset();
         objects_.remove(index);
+        claim(arriving_, index);
+        claim(unclaimed_, index);
         if (trace_) trace_->left(index, round_);
     }
     // An element that came is unpacked.
@@ -649,11 +819,12 @@ private:
         std::uint32_t packed_index = 0;
         pup::er p(from, len);
         guarded(index, [&] {
-            p(packed_index, at.finished, at.waits_for);
+            p(packed_index, at.finished, at.waits_for, at.exists, at.early, at.load);
             if (packed_index != index) throw run_fault(fault_kind::mismatch, "an element came with the object of another");
-            objects_.unpack(index, p);
+            if (at.exists) objects_.unpack(index, p);
         });
-        at.waits = true;
+        at.waits = !at.early;
+        if (!at.exists) absent_here_++;
         room_[index] = std::make_unique<slot>(std::move(at));
         return *room_[index];
     }
@@ -669,13 +840,28 @@ private:
     // Hands in all notes that are owed.
     bool report()
     {
-        note owed;
+        collect_notes();
+        if (notes_.empty()) return false;
+        if (link_.counts_letters) {
+            notes_.push_back(note_of(change::letters, 0, slot()));
+            notes_.back().load = executed_;
+        }
+        link_.report(notes_);
         notes_.clear();
+        return true;
+    }
+    void collect_notes()
+    {
+        note owed;
         while (pe_->next_note(owed)) {
             owed.pe = me_;
+            owed.what = change::none;
             owed.bytes = 0;
             owed.given.clear();
-            if (!owed.finished) {
+            if (!owed.finished && !here(owed.index).exists) {
+                owed.what = change::absent;
+                owed.load = 0;
+            } else if (!owed.finished) {
                 slot &at = here(owed.index);
                 if (owed.round != at.waits_for) throw run_fault(fault_kind::mismatch, "a note of another round", owed.index);
                 owed.bytes = at.bytes;
@@ -685,9 +871,6 @@ private:
             pe_->note_done();
             if (log_) log_->report(notes_.back());
         }
-        if (notes_.empty()) return false;
-        link_.report(notes_);
-        return true;
     }
 
     // ---- Rest, faults, the end ----
@@ -732,6 +915,8 @@ private:
         outbound_.each(leave);
         held_own_.each(leave);
         held_others_.each(leave);
+        unclaimed_.each(leave);
+        arriving_.each(leave);
         bodiless_.each(leave);
     }
     void leave_batch(batch &from)
@@ -774,6 +959,8 @@ private:
     // Letters that are held back, of this PE and of others; those without a body, and those whose body has come. The batch of the one in
     // the hand.
     held_letters held_own_, held_others_;
+    held_letters unclaimed_, arriving_; // for indices of this PE that have no element, which are so many; and elements for such as go on first
+    std::uint32_t absent_here_ = 0;
     bodiless_letters bodiless_;
     std::deque<arrival> revived_;
     arrival spent_;
