@@ -95,7 +95,7 @@ int main(int argc, char **argv)
     launch::delays(words, how);
     launch::bounds(words, how);
     if (!words.is_good() || !words.rest().empty()) {
-        if (program.prints()) std::fputs("heat [--elements N] [--pes P] [--steps S] [--every K] [--small E]\n", stderr);
+        if (program.prints()) std::fputs("heat [--elements N] [--pes P] [--threads N] [--steps S] [--every K] [--small E]\n", stderr);
         return 2;
     }
     const auto end = launch::run<strip>(how, n, [&of](std::uint32_t i) {

@@ -112,7 +112,7 @@ int main(int argc, char **argv)
     launch::delays(words, how);
     launch::bounds(words, how);
     if (!words.is_good() || !words.rest().empty()) {
-        if (program.prints()) std::fputs("hot_spot [--elements N] [--pes P] [--rounds R] [--work W] [--cells C] [--tolerance T] [--static] [--measured] [--quiet] [--dump PREFIX] [--trace PREFIX]\n", stderr);
+        if (program.prints()) std::fputs("hot_spot [--elements N] [--pes P] [--threads N] [--rounds R] [--work W] [--cells C] [--tolerance T] [--static] [--measured] [--quiet] [--dump PREFIX] [--trace PREFIX]\n", stderr);
         return 2;
     }
     const std::uint32_t pes = how.pes;

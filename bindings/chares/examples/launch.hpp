@@ -22,7 +22,12 @@ constexpr bool are_ranks = true;
 template <class C> using outcome = tezgumi::mpi::outcome<C>;
 class program {
 public:
-    program(int &argc, char **&argv) { MPI_Init(&argc, &argv); }
+    // One thread at a time calls MPI: so a rank may have several.
+    program(int &argc, char **&argv)
+    {
+        int provided = 0;
+        MPI_Init_thread(&argc, &argv, MPI_THREAD_SERIALIZED, &provided);
+    }
     ~program() { MPI_Finalize(); }
     std::uint32_t pes(std::uint32_t) const
     {
@@ -113,9 +118,10 @@ inline void delays(words &given, tezgumi::settings &how)
     };
 }
 
-// For tests: what bounds the memory of messages.
+// How many threads a PE has; and for tests what bounds the memory of messages.
 inline void bounds(words &given, tezgumi::settings &how)
 {
+    how.threads = given.number("--threads", 1, 1, 256);
     how.batch = given.number("--batch", 64 * 1024, 1, 1u << 30);
     how.window = given.number("--window", 4, 1, 1000000);
     how.backlog = given.number("--backlog", 16 * 1024 * 1024, 0, 1u << 30);

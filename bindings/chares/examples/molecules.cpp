@@ -154,7 +154,7 @@ int main(int argc, char **argv)
     launch::delays(words, how);
     launch::bounds(words, how);
     if (!words.is_good() || !words.rest().empty()) {
-        if (program.prints()) std::fputs("molecules [--pes P] [--side CELLS] [--atoms MOST] [--steps S] [--sync STEPS] [--every ROUNDS]\n", stderr);
+        if (program.prints()) std::fputs("molecules [--pes P] [--threads N] [--side CELLS] [--atoms MOST] [--steps S] [--sync STEPS] [--every ROUNDS]\n", stderr);
         return 2;
     }
     std::vector<std::uint32_t> first(of.cells() + 1);

@@ -97,7 +97,7 @@ int main(int argc, char **argv)
     launch::delays(words, how);
     launch::bounds(words, how);
     if (!words.is_good() || !words.rest().empty() || of.side % 2 != 0 || of.side / n < of.columns_a_step()) {
-        if (program.prints()) std::fputs("particles [--pes P] [--strips N] [--side CELLS] [--particles COUNT] [--stride K] [--falls THOUSANDTHS] [--steps S] [--sync STEPS] [--every ROUNDS]\n", stderr);
+        if (program.prints()) std::fputs("particles [--pes P] [--threads N] [--strips N] [--side CELLS] [--particles COUNT] [--stride K] [--falls THOUSANDTHS] [--steps S] [--sync STEPS] [--every ROUNDS]\n", stderr);
         return 2;
     }
     const std::vector<std::uint32_t> counts = particles::counts(of);

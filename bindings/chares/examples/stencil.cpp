@@ -162,7 +162,7 @@ int main(int argc, char **argv)
     launch::delays(words, how);
     launch::bounds(words, how);
     if (!words.is_good() || !words.rest().empty() || (tiles & (tiles - 1)) != 0 || of.side % tiles != 0) {
-        if (program.prints()) std::fputs("stencil [--pes P] [--tiles N] [--side CELLS] [--steps S] [--period STEPS] [--parts WORK] [--sync STEPS] [--every ROUNDS]\n", stderr);
+        if (program.prints()) std::fputs("stencil [--pes P] [--threads N] [--tiles N] [--side CELLS] [--steps S] [--period STEPS] [--parts WORK] [--sync STEPS] [--every ROUNDS]\n", stderr);
         return 2;
     }
     const auto end = launch::run<tile>(how, tiles * tiles, [&](std::uint32_t i) {

@@ -1,5 +1,5 @@
 // Elements that come and go: how they begin, end and come again, what rounds, messages, folds and the end of a run are with some missing. On 1 to 4
-// PEs as threads, or on the ranks of MPI, with delays at random.
+// PEs as threads, or on the ranks of MPI, with delays at random; with --threads on PEs of so many threads.
 #include "page.hpp"
 
 #include <set>
@@ -9,7 +9,7 @@ using tests::word;
 
 namespace {
 
-std::uint32_t pes = 1; // of the runs that come
+std::uint32_t pes = 1, threads = 1; // of the runs that come
 std::string prefix; // of the files of events, if there are to be any
 std::uint32_t seed = 0; // of the delays, if there are to be any
 
@@ -17,6 +17,7 @@ tezgumi::settings usual()
 {
     tezgumi::settings how;
     how.pes = pes;
+    how.threads = threads;
     how.clock = tezgumi::clock_kind::none;
     how.quiet = 2;
     how.events = prefix;
@@ -32,7 +33,8 @@ tezgumi::settings usual()
 
 std::string at(const std::string &name)
 {
-    return name + ", " + std::to_string(pes) + " PEs" + (seed == 0 ? "" : ", delays " + std::to_string(seed));
+    return name + ", " + std::to_string(pes) + " PEs" + (threads == 1 ? "" : " with " + std::to_string(threads) + " threads") +
+           (seed == 0 ? "" : ", delays " + std::to_string(seed));
 }
 
 template <class C> std::optional<C> only(bool is_there, int kind)
@@ -788,6 +790,7 @@ int main(int argc, char **argv)
     launch::program program(argc, argv);
     launch::words given(argc, argv);
     const std::uint32_t seeds = given.number("--delays", 1, 0, 1000);
+    threads = given.number("--threads", 1, 1, 256);
     if (!given.rest().empty()) prefix = given.rest()[0];
     tests::clear_page();
     for (seed = 0; seed <= seeds; seed++) {

@@ -46,10 +46,13 @@ struct mover : tezgumi::chare {
     }
 };
 
+std::uint32_t threads = 1; // in each PE of the runs that come
+
 tezgumi::settings usual(std::uint32_t pes)
 {
     tezgumi::settings how;
     how.pes = pes;
+    how.threads = threads;
     how.clock = tezgumi::clock_kind::none;
     how.batch = 500;
     return how;
@@ -97,7 +100,8 @@ void refusals(std::uint32_t pes, std::uint32_t me)
             tried++;
             if (!tests::everywhere(k + 1 + k / 8 < count)) break;
         }
-        tests::expect("requests refused on PE " + std::to_string(victim) + " of " + std::to_string(pes), good && early > tried / 2);
+        const std::string with = threads == 1 ? "" : " with " + std::to_string(threads) + " threads";
+        tests::expect("requests refused on PE " + std::to_string(victim) + " of " + std::to_string(pes) + with, good && early > tried / 2);
     }
 }
 
@@ -320,6 +324,9 @@ int main(int argc, char **argv)
     MPI_Comm_rank(MPI_COMM_WORLD, &rank);
     me = static_cast<std::uint32_t>(rank);
     if (argc == 1) refusals(program.pes(1), me);
+    threads = 3;
+    if (argc == 1 && program.pes(1) < 3) refusals(program.pes(1), me);
+    threads = 1;
     if (program.pes(1) > 1) flood(program.pes(1));
     for (std::uint32_t n : {40u, 1024u}) broadcast(program.pes(1), n);
     if (program.pes(1) > 4) talk(program.pes(1));
@@ -327,6 +334,11 @@ int main(int argc, char **argv)
     for (std::uint32_t pes : {1u, 3u}) {
         if (argc == 1) refusals(pes, me);
     }
+    threads = 3;
+    for (std::uint32_t pes : {1u, 2u}) {
+        if (argc == 1) refusals(pes, me);
+    }
+    threads = 1;
     flood(4);
     for (std::uint32_t n : {40u, 1024u}) broadcast(2, n);
     broadcast(5, 200);

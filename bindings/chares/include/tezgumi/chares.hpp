@@ -81,6 +81,7 @@ public:
 
 namespace detail {
 
+inline constexpr std::uint32_t most_threads = 256;
 inline constexpr std::size_t most_batch = std::size_t(1) << 30;
 inline constexpr std::uint32_t most_window = std::uint32_t(1) << 20;
 inline constexpr std::uint64_t most_backlog = std::uint64_t(1) << 40;
@@ -89,6 +90,8 @@ inline constexpr std::uint64_t most_backlog = std::uint64_t(1) << 40;
 inline void must_fit(const settings &how, std::uint32_t pes, std::uint32_t n)
 {
     if (pes < 1 || pes > TEZGUMI_PE_PES) throw std::invalid_argument("there are 1 to " + std::to_string(TEZGUMI_PE_PES) + " PEs");
+    if (how.threads < 1 || how.threads > most_threads) throw std::invalid_argument("a PE has 1 to " + std::to_string(most_threads) + " threads");
+    if (how.threads > 1 && !how.events.empty()) throw std::invalid_argument("events are written down only where a PE has one thread: with several letters overtake others");
     if (n > TEZGUMI_PE_ELEMENTS) throw std::invalid_argument("there are at most " + std::to_string(TEZGUMI_PE_ELEMENTS) + " elements");
     if (!how.within && how.tolerance != 0) throw std::invalid_argument("a tolerance is for rounds that are decided within it: set within");
     if (how.within && how.tolerance > TEZGUMI_BOARD_TOLERANCE) throw std::invalid_argument("a tolerance is at most 1000 thousandths");
@@ -114,7 +117,7 @@ public:
         for (std::uint32_t pe = 0; pe < how.pes; pe++) {
             links_.push_back(std::make_unique<thread_link>(field_, how, pe));
             objects_.push_back(std::make_unique<elements_of<C>>(pe, how.pes, n));
-            workers_.push_back(std::make_unique<worker>(*links_[pe], how, *objects_[pe]));
+            workers_.push_back(make_worker(*links_[pe], how, *objects_[pe]));
         }
     }
     outcome<C> run()

@@ -102,6 +102,7 @@ public:
         std::exception_ptr past;
         try {
             tezgumi::detail::must_fit(how_, ranks_, n_);
+            must_allow_threads();
         } catch (...) {
             past = std::current_exception();
         }
@@ -287,6 +288,15 @@ public:
     std::vector<round_report> &rounds() { return rounds_; }
 
 private:
+    // One thread of a rank at a time calls MPI, but not always the same.
+    void must_allow_threads() const
+    {
+        int allowed = MPI_THREAD_SINGLE;
+        MPI_Query_thread(&allowed);
+        if (how_.threads > 1 && allowed < MPI_THREAD_SERIALIZED) {
+            throw std::invalid_argument("several threads of a rank call MPI: initialize it by MPI_Init_thread, with MPI_THREAD_SERIALIZED");
+        }
+    }
     template <class F> bool take_memory(F &&more) noexcept
     {
         try {
@@ -761,7 +771,7 @@ template <class C, class Make> outcome<C> run(MPI_Comm comm, const settings &how
     std::unique_ptr<tezgumi::detail::worker> one;
     link.open([&] {
         objects = std::make_unique<tezgumi::detail::elements_of<C>>(link.me(), link.ranks(), n);
-        one = std::make_unique<tezgumi::detail::worker>(link, how, *objects);
+        one = tezgumi::detail::make_worker(link, how, *objects);
     });
     outcome<C> end(comm);
     one->run(objects->beginning(make));

@@ -144,6 +144,24 @@ public:
     }
     // The answer was taken: what it sent is no longer its own.
     void taken() { tickets.clear(); }
+    // Gives its answer, and all that the handler said beside it, for that of another one.
+    void trade(outgoing &with) noexcept
+    {
+        std::swap(me, with.me);
+        std::swap(letters, with.letters);
+        receivers.swap(with.receivers);
+        shares.swap(with.shares);
+        awaited.swap(with.awaited);
+        late.swap(with.late);
+        std::swap(answer, with.answer);
+        tickets.swap(with.tickets);
+    }
+    // Its tickets get each so manieth number, from this one on: so several threads of a PE give none twice.
+    void number_tickets(std::uint64_t first, std::uint64_t each)
+    {
+        next_ticket = first;
+        next_by = each;
+    }
 
     // Packs a message: a long one once, into the bytes that go beside its letters.
     template <class M> void pack(std::size_t place, const M &message)
@@ -300,7 +318,7 @@ private:
         held->emplace(made, kept_body{shared, count});
         pup::detail::write_word<std::uint64_t>(&body[5], made.number);
         tickets.push_back(made);
-        next_ticket++;
+        next_ticket += next_by;
         return made;
     }
     void let_go(const ticket &made)
@@ -329,7 +347,7 @@ private:
     pup::bytes body;
     beside shared;
     std::vector<ticket> tickets;
-    std::uint64_t next_ticket = 0;
+    std::uint64_t next_ticket = 0, next_by = 1;
 };
 
 } // namespace detail
@@ -576,15 +594,16 @@ void dispatch(messages<M...>, C &object, std::size_t place, const std::uint8_t *
     calls[place](object, body, len, all);
 }
 
-// The objects of the elements of one PE, of whatever type they are; and the answer that their handlers make.
+// The objects of the elements of one PE, of whatever type they are; and the answer that their handlers make. A handler of another thread makes
+// another answer.
 class elements {
 public:
     elements(std::uint32_t pe, std::uint32_t pes, std::uint32_t n) : out(pe, pes, n) {}
     virtual ~elements() = default;
 
     virtual said &said_by(std::uint32_t index) = 0;
-    virtual void receive(std::uint32_t index, std::size_t place, const std::uint8_t *body, std::size_t len) = 0;
-    virtual void resume(std::uint32_t index, round r) = 0;
+    virtual void receive(std::uint32_t index, std::size_t place, const std::uint8_t *body, std::size_t len, outgoing &onto) = 0;
+    virtual void resume(std::uint32_t index, round r, outgoing &onto) = 0;
     virtual bool restores() const = 0;
     virtual std::uint64_t size(std::uint32_t index) const = 0;
     virtual void pack(std::uint32_t index, pup::er &p) = 0;
@@ -607,7 +626,7 @@ template <class C> class elements_of final : public elements {
     static_assert(std::is_default_constructible<C>::value, "the chare C is unpacked where it arrives, so it needs a constructor without arguments");
 
 public:
-    elements_of(std::uint32_t pe, std::uint32_t pes, std::uint32_t n) : elements(pe, pes, n), all_(out), objects_(n) {}
+    elements_of(std::uint32_t pe, std::uint32_t pes, std::uint32_t n) : elements(pe, pes, n), objects_(n) {}
 
     // What makes the elements as they begin, by the function of the program.
     template <class Make> auto beginning(Make &make)
@@ -622,11 +641,16 @@ public:
         };
     }
     said &said_by(std::uint32_t index) override { return said_of::in(*objects_[index]); }
-    void receive(std::uint32_t index, std::size_t place, const std::uint8_t *body, std::size_t len) override
+    void receive(std::uint32_t index, std::size_t place, const std::uint8_t *body, std::size_t len, outgoing &onto) override
     {
-        dispatch(typename C::messages(), *objects_[index], place, body, len, all_);
+        array<C> all(onto);
+        dispatch(typename C::messages(), *objects_[index], place, body, len, all);
     }
-    void resume(std::uint32_t index, round r) override { call_resume(*objects_[index], r, all_); }
+    void resume(std::uint32_t index, round r, outgoing &onto) override
+    {
+        array<C> all(onto);
+        call_resume(*objects_[index], r, all);
+    }
     bool restores() const override { return detail::restores<C>::value; }
     std::uint64_t size(std::uint32_t index) const override { return pup::size_of(*objects_[index]); }
     void pack(std::uint32_t index, pup::er &p) override
@@ -660,7 +684,6 @@ public:
     }
 
 private:
-    array<C> all_;
     std::vector<std::unique_ptr<C>> objects_; // of each element that is here
 };
 

@@ -3,8 +3,8 @@
 #define TEZGUMI_CHARES_THREADS_HPP
 
 #include "board.hpp"
+#include "crew.hpp"
 #include "folds.hpp"
-#include "worker.hpp"
 
 #include <atomic>
 #include <mutex>

@@ -18,10 +18,15 @@ public:
     static constexpr std::uint64_t most_events = 1000000;
 
     time_trace(const settings &how, std::uint32_t pe)
-        : pe_(pe), path_(how.trace + "." + std::to_string(pe)), file_(std::fopen(path_.c_str(), "wb")), round_began_(now()), rests_from_(round_began_)
+        : pe_(pe), first_row_(pe * how.threads), row_(first_row_), path_(how.trace + "." + std::to_string(pe)), file_(std::fopen(path_.c_str(), "wb")),
+          round_began_(now()), rests_from_(round_began_)
     {
         if (!file_) lost();
-        std::fprintf(file_, "[\n{\"ph\":\"M\",\"pid\":0,\"tid\":%" PRIu32 ",\"name\":\"thread_name\",\"args\":{\"name\":\"PE %" PRIu32 "\"}}", pe, pe);
+        for (std::uint32_t i = 0; i < how.threads; i++) {
+            std::fprintf(file_, "%s{\"ph\":\"M\",\"pid\":0,\"tid\":%" PRIu32 ",\"name\":\"thread_name\",\"args\":{\"name\":\"PE %" PRIu32, i == 0 ? "[\n" : ",\n", first_row_ + i, pe);
+            if (i != 0) std::fprintf(file_, ", thread %" PRIu32, i);
+            std::fputs("\"}}", file_);
+        }
     }
     ~time_trace()
     {
@@ -30,13 +35,16 @@ public:
     time_trace(const time_trace &) = delete;
     time_trace &operator=(const time_trace &) = delete;
 
+    static point now() { return std::chrono::steady_clock::now(); }
+    // What comes is of this thread of the PE.
+    void is_of(std::uint32_t thread) noexcept { row_ = first_row_ + thread; }
     // Something begins; and what it was, once it has ended.
     void begin() noexcept { began_ = now(); }
-    void handler(std::uint32_t element, std::size_t kind) noexcept
+    void handler(std::uint32_t element, std::size_t kind, point from, point to) noexcept
     {
         char name[24] = "resume";
         if (kind != work_clock::resumption) std::snprintf(name, sizeof name, "receive %zu", kind);
-        slice(name, "handler", element);
+        slice(name, "handler", element, from, to);
     }
     void left(std::uint32_t element, std::uint32_t round) noexcept { moved("pack", "s", element, round); }
     void came(std::uint32_t element, std::uint32_t round) noexcept { moved("unpack", "f", element, round); }
@@ -85,7 +93,6 @@ public:
 private:
     [[noreturn]] void lost() const { throw run_fault(fault_kind::dump, "the trace " + path_ + " was not written"); }
 
-    static point now() { return std::chrono::steady_clock::now(); }
     static double microseconds(point::duration time) { return std::chrono::duration<double, std::micro>(time).count(); }
 
     // Begins an event, which is ended by who asks for it; false where there are too many.
@@ -93,25 +100,25 @@ private:
     {
         if (!file_ || events_ >= most_events) return false;
         events_++;
-        std::fprintf(file_, ",\n{\"ph\":\"%s\",\"pid\":0,\"tid\":%" PRIu32 ",\"ts\":%.3f", phase, pe_, microseconds(at.time_since_epoch()));
+        std::fprintf(file_, ",\n{\"ph\":\"%s\",\"pid\":0,\"tid\":%" PRIu32 ",\"ts\":%.3f", phase, row_, microseconds(at.time_since_epoch()));
         return true;
     }
-    void slice(const char *name, const char *category, std::uint32_t element) noexcept
+    void slice(const char *name, const char *category, std::uint32_t element, point from, point to) noexcept
     {
-        const point end = now();
-        if (event("X", began_)) {
-            std::fprintf(file_, ",\"dur\":%.3f,\"cat\":\"%s\",\"name\":\"%s\",\"args\":{\"element\":%" PRIu32 "}}", microseconds(end - began_), category, name, element);
+        if (event("X", from)) {
+            std::fprintf(file_, ",\"dur\":%.3f,\"cat\":\"%s\",\"name\":\"%s\",\"args\":{\"element\":%" PRIu32 "}}", microseconds(to - from), category, name, element);
         }
     }
     void moved(const char *name, const char *phase, std::uint32_t element, std::uint32_t round) noexcept
     {
-        slice(name, "move", element);
+        slice(name, "move", element, began_, now());
         if (event(phase, began_)) {
             std::fprintf(file_, ",\"cat\":\"element\",\"name\":\"element %" PRIu32 "\",\"id\":\"%" PRIu32 ".%" PRIu32 "\"}", element, element, round);
         }
     }
 
-    const std::uint32_t pe_;
+    const std::uint32_t pe_, first_row_;
+    std::uint32_t row_; // of the thread of which events come
     const std::string path_;
     std::FILE *file_;
     std::uint64_t events_ = 0;

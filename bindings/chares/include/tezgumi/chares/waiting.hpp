@@ -21,6 +21,13 @@ struct slot {
     std::uint64_t bytes = 0;
     std::uint64_t load = 0; // of an early one: its work so far
     contributions given;
+    // On a PE of several threads: whether one of them runs a handler of it, it has not started, and it is to go on once that handler has ended;
+    // and after how many reports it got a note that it still owes.
+    bool is_busy = false, has_to_start = false, is_due = false;
+    std::uint64_t owes = 0;
+
+    // Whether its handler runs as it goes on after a round.
+    bool is_resumed() const { return exists && !early; }
 };
 
 // A batch whose letters wait in several parts. Once all these are used up its sender is told that the batch is.
@@ -64,6 +71,15 @@ public:
         }
         return nullptr;
     }
+    // The first of the letters that wait for this, where there are any.
+    arrival *first_of(const Key &key)
+    {
+        const auto at = queues_.find(key);
+        if (at == queues_.end()) return nullptr;
+        key_ = key;
+        return &at->second.front();
+    }
+    bool has(const Key &key) const { return queues_.count(key) != 0; }
     // What the first letters wait for, where there are any.
     Key first_key() const { return queues_.begin()->first; }
     // Takes these away.
@@ -140,8 +156,10 @@ private:
     std::uint64_t told_ = 0;
 };
 
-// By the PE to which their elements go on adding, or by the index without an element; and by the body that they name.
+// By the PE to which their elements go on adding, or by the index without an element; by the body that they name; and by their element, of which a
+// handler runs.
 using held_letters = waiting_letters<std::uint32_t, std::map<std::uint32_t, std::deque<arrival>>>;
+using parked_letters = waiting_letters<std::uint32_t, std::unordered_map<std::uint32_t, std::deque<arrival>>>;
 using bodiless_letters = waiting_letters<ticket, std::unordered_map<ticket, std::deque<arrival>, ticket_hash>>;
 
 } // namespace detail

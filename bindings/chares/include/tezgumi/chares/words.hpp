@@ -42,6 +42,7 @@ struct round_report {
 // How a run goes. All PEs are given the same.
 struct settings {
     std::uint32_t pes = 1; // on how many PEs, each with a thread; under MPI there is one on each rank
+    std::uint32_t threads = 1; // so many threads, 1 to 256, run the handlers of a PE
     clock_kind clock = clock_kind::wall;
     std::uint32_t every = 1; // each so many rounds the elements are balanced, or never where it is 0
     bool within = false; // true: the fewest bytes move within the tolerance; false: the least greatest load

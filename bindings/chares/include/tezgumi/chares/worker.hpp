@@ -17,15 +17,20 @@ namespace detail {
 
 class worker {
 public:
-    worker(link &carrier, const settings &how, elements &objects)
+    worker(link &carrier, const settings &how, elements &objects, bool has_crew = false)
         : link_(carrier), how_(how), objects_(objects), out_(objects.out), me_(out_.pe), pes_(out_.pes), n_(out_.n), room_(n_), outbound_(how, pes_),
-          held_own_(how.batch), held_others_(how.batch), unclaimed_(how.batch), arriving_(how.batch), bodiless_(how.batch), clock_(how.clock), patience_(pes_), bodies_(pes_), places_(n_)
+          held_own_(how.batch), held_others_(how.batch), unclaimed_(how.batch), arriving_(how.batch), bodiless_(how.batch), clock_(how.clock),
+          patience_(pes_), bodies_(pes_), places_(n_), has_crew_(has_crew)
     {
         own_.from = me_;
         out_.held = &bodies_.all();
         out_.results = &nothing_;
         for (std::uint32_t i = 0; i < n_; i++) places_[i] = opening_place(i);
     }
+
+    virtual ~worker() = default;
+    worker(const worker &) = delete;
+    worker &operator=(const worker &) = delete;
 
     // Runs the PE to the end of all, with elements that `begin` makes. What it meets is a fault of the link, and then it waits for the end.
     template <class Begin> void run(Begin &&begin)
@@ -35,6 +40,7 @@ public:
         } catch (...) {
             fail();
         }
+        if (has_crew_) return run_crew();
         while (!link_.ended()) {
             try {
                 if (has_failed_) {
@@ -68,12 +74,29 @@ public:
         for (auto &one : leaving_) leave_element(one.first, one.second->data(), one.second->size());
         if (hand_element_ != fault::no_element) leave_element(hand_element_, hand_object_->data(), hand_object_->size());
         held_ += inside_ - gone_ - executed_;
-        letters.add(account{posted_, executed_, held_, failed_});
+        letters.add(account{posted_, executed_, held_, tools_.failed});
         if (missed_) std::rethrow_exception(missed_);
         if (lost) std::rethrow_exception(lost);
     }
 
-private:
+protected:
+    // What a thread runs handlers with: the answer that they make, a clock, and room for an element that is to be restored. And of those that it
+    // ran how many ended by an exception; of which kind the last one was, and when it began and ended, where that is written down.
+    struct tools {
+        tools(outgoing &to, work_clock &by, pup::bytes &room) : out(to), clock(by), copy(room) {}
+        outgoing &out;
+        work_clock &clock;
+        pup::bytes &copy;
+        std::uint64_t failed = 0;
+        std::size_t kind = work_clock::resumption;
+        time_trace::point began{}, ended{};
+    };
+
+    // What a crew does in place of one thread, or beside it. See crew.hpp.
+    virtual void run_crew() {}
+    virtual bool deal(arrival &, const parcel &) { return false; }
+    virtual void leave_tasks() {}
+
     static constexpr int steps_a_turn = 64;
     static constexpr std::uint64_t unknown = UINT64_MAX;
     static constexpr std::size_t copied_extra = 16 * 1024; // shorter bytes beside parcels are copied into batches
@@ -100,6 +123,7 @@ private:
             if (opening_place(i) != me_) continue;
             guarded(i, [&] { begin(i); });
             room_[i] = std::make_unique<slot>();
+            room_[i]->has_to_start = true;
             due_.push_back(i);
             if (objects_.has(i)) continue;
             room_[i]->exists = false;
@@ -276,13 +300,15 @@ private:
     {
         parcel next;
         if (!of.parcels.front(next)) return false;
-        const bool waits = put_aside(of, next, times);
-        if (!waits) {
+        bool is_taken = !put_aside(of, next, times);
+        if (is_taken && has_crew_) {
+            is_taken = deal(of, next);
+        } else if (is_taken) {
             take_in(next);
             if (log_) log_->deliver(of.from, next);
         }
         of.parcels.pop(next);
-        return !waits;
+        return is_taken;
     }
     // A body that letters name is taken in. A letter waits for its body, or where its element goes on adding letters for a PE that has
     // more of them to come than so many times the limit.
@@ -474,41 +500,43 @@ private:
 
     // Runs a handler, which makes its answer. Where it ends by an exception, the element is as it was, if it asks for that by `restores`,
     // and the answer is empty; otherwise that is a fault. Want of memory is a fault in any case.
-    template <class F> void handle(std::uint32_t index, slot &at, std::size_t kind, F &&handler)
+    template <class F> void handle(tools &with, std::uint32_t index, slot &at, std::size_t kind, F &&handler)
     {
         objects_.said_by(index).begin();
         if (objects_.restores()) {
-            copy_.clear();
-            pup::er p(copy_);
+            with.copy.clear();
+            pup::er p(with.copy);
             guarded(index, [&] { objects_.pack(index, p); });
         }
-        out_.begin(index);
-        if (trace_) trace_->begin();
-        clock_.start(kind);
+        with.out.begin(index);
+        with.kind = kind;
+        if (trace_) with.began = time_trace::now();
+        with.clock.start(kind);
         try {
             guarded(index, handler);
         } catch (const run_fault &met) {
             if (!objects_.restores() || met.kind == fault_kind::memory) throw;
-            pup::er p(copy_.data(), copy_.size());
+            pup::er p(with.copy.data(), with.copy.size());
             guarded(index, [&] { objects_.unpack(index, p); });
-            out_.begin(index);
-            failed_++;
+            with.out.begin(index);
+            with.failed++;
             tell(how_.on_failed, index, std::string(met.what()));
         }
         said &so = objects_.said_by(index);
         so.end(at.waits);
-        const std::uint64_t measured = clock_.end(so.named), units = so.named ? so.units : measured;
-        if (trace_) trace_->handler(index, kind);
+        const std::uint64_t measured = with.clock.end(so.named), units = so.named ? so.units : measured;
+        if (trace_) with.ended = time_trace::now();
         if (so.at_sync && !at.waits) guarded(index, [&] { at.bytes = objects_.size(index); });
-        if (so.destroyed) return out_.end(units, true, false, 0); // its index waits from now on
+        if (so.destroyed) return with.out.end(units, true, false, 0); // its index waits from now on
         if (at.early) at.load += units;
-        out_.end(at.early ? 0 : units, so.at_sync && !at.early, so.finished, at.bytes);
+        with.out.end(at.early ? 0 : units, so.at_sync && !at.early, so.finished, at.bytes);
     }
 
     // The answer was taken: what the element said holds.
-    void handled(std::uint32_t index, slot &at)
+    void handled(const tools &with, std::uint32_t index, slot &at)
     {
         said &so = objects_.said_by(index);
+        if (trace_) trace_->handler(index, with.kind, with.began, with.ended);
         out_.taken();
         for (const auto &some : out_.late) late_.expect(posted_ + some.first, posted_ + some.second);
         posted_ += out_.letters;
@@ -548,29 +576,51 @@ private:
 
     void execute(std::uint32_t index, const std::uint8_t *body, std::size_t len)
     {
+        slot &at = here(index);
+        addressed of = read(index, body, len);
+        if (!at.exists && of.waits()) return pass_on(index, body, len);
+        const beside longer = take_beside(of, body);
+        if (of.is_element) insert(index, at, of);
+        receive(tools_, index, at, of);
+        executed(tools_, index, at, of);
+    }
+    addressed read(std::uint32_t index, const std::uint8_t *body, std::size_t len) const
+    {
         addressed of;
         if (!addressed::read(body, len, of)) throw run_fault(fault_kind::mismatch, "a letter without a message came", index);
-        slot &at = here(index);
-        if (!at.exists && of.waits()) return pass_on(index, body, len);
-        beside longer;
-        if (of.is_beside) {
-            longer = bodies_.look(ticket_in(body));
-            bodies_.drop(ticket_in(body), 1);
-            of.from = longer->data();
-            of.len = longer->size();
-        }
+        return of;
+    }
+    // The bytes that go beside a letter, where it has such. They are to be kept as long as what was read of it.
+    beside take_beside(addressed &of, const std::uint8_t *body)
+    {
+        if (!of.is_beside) return nullptr;
+        const ticket its = ticket_in(body);
+        const beside longer = bodies_.look(its);
+        bodies_.drop(its, 1);
+        of.from = longer->data();
+        of.len = longer->size();
+        return longer;
+    }
+    // Runs the handler for a letter, if there is one: that of an element which starts by it, or of its message. One for all passes over an index
+    // without an element.
+    void receive(tools &with, std::uint32_t index, slot &at, const addressed &of)
+    {
         if (of.is_element) {
-            insert(index, at, of.from, of.len);
+            handle(with, index, at, work_clock::resumption, [&] { objects_.resume(index, 0, with.out); });
         } else if (at.exists) {
-            handle(index, at, of.place, [&] { objects_.receive(index, of.place, of.from, of.len); });
+            handle(with, index, at, of.place, [&] { objects_.receive(index, of.place, of.from, of.len, with.out); });
         } else {
-            answer_nothing(index, 0, false); // it is for all, and here is none
+            answer_nothing(index, 0, false);
         }
+    }
+    // The PE executes the letter in its hand, with the answer of the handler that was run for it.
+    void executed(const tools &with, std::uint32_t index, slot &at, const addressed &of)
+    {
         pe_->execute(index, out_.answer);
         if (log_) log_->act();
         executed_++;
         if (of.is_element) inserted(index);
-        if (at.exists) handled(index, at);
+        if (at.exists) handled(with, index, at);
         else out_.taken();
     }
 
@@ -631,18 +681,17 @@ private:
         add_to_outbox(1, true);
     }
 
-    // An object comes to its index, and starts.
-    void insert(std::uint32_t index, slot &at, const std::uint8_t *from, std::size_t len)
+    // An object comes to its index, where it is to start.
+    void insert(std::uint32_t index, slot &at, const addressed &of)
     {
         if (at.exists) throw run_fault(fault_kind::taken, "element " + std::to_string(index) + " is inserted, and there is one", index);
         if (at.finished) throw run_fault(fault_kind::taken, "element " + std::to_string(index) + " is inserted where one has finished", index);
         collect_notes();
-        guarded(index, [&] { objects_.insert(index, from, len); });
+        guarded(index, [&] { objects_.insert(index, of.from, of.len); });
         absent_here_--;
         at.exists = at.early = true;
         at.waits = false;
         at.load = at.bytes = 0;
-        handle(index, at, work_clock::resumption, [&] { objects_.resume(index, 0); });
     }
     // That is told before what its handler said.
     void inserted(std::uint32_t index)
@@ -719,16 +768,25 @@ private:
 
     void resume(std::uint32_t index, slot &at)
     {
-        if (!at.exists || at.early) return go_on_quietly(index, at);
+        if (!at.is_resumed()) return go_on_quietly(index, at);
         out_.results = round_ == 0 ? &nothing_ : &results_;
         at.waits = false;
         at.round = round_;
-        handle(index, at, work_clock::resumption, [&] { objects_.resume(index, round_); });
-        pe_->resume(index, round_, out_.answer);
-        if (log_ && round_ == 0) log_->start(index);
-        if (log_ && round_ != 0) log_->resume(index, round_);
-        handled(index, at);
+        resume(tools_, index, at);
+        resumed(tools_, index, at);
         out_.results = &nothing_;
+    }
+    void resume(tools &with, std::uint32_t index, slot &at)
+    {
+        handle(with, index, at, work_clock::resumption, [&] { objects_.resume(index, at.round, with.out); });
+    }
+    // The PE resumes the element, with the answer of the handler that was run for that.
+    void resumed(const tools &with, std::uint32_t index, slot &at)
+    {
+        pe_->resume(index, at.round, out_.answer);
+        if (log_ && at.round == 0) log_->start(index);
+        if (log_ && at.round != 0) log_->resume(index, at.round);
+        handled(with, index, at);
     }
 
     // ---- Rounds ----
@@ -775,7 +833,7 @@ private:
                 due_.push_back(index);
                 continue;
             } else {
-                if (how_.moves_all && pes_ == 1 && round_ > 0 && at.exists) make_anew(index);
+                make_anew(index, at);
                 resume(index, at);
             }
             did = true;
@@ -783,9 +841,10 @@ private:
         }
         return did;
     }
-    // Packs an element and unpacks it where it is, as a move to another PE would.
-    void make_anew(std::uint32_t index)
+    // For tests: where there is one PE, an element that goes on is packed and unpacked where it is, as a move would.
+    void make_anew(std::uint32_t index, const slot &at)
     {
+        if (!how_.moves_all || pes_ != 1 || round_ == 0 || !at.exists) return;
         copy_.clear();
         pup::er packer(copy_);
         guarded(index, [&] { objects_.pack(index, packer); });
@@ -882,11 +941,12 @@ private:
         // The longer nothing comes the longer it sleeps, so that waiting takes little of the processor.
         idle_++;
         if (idle_ > 256) {
-            std::this_thread::sleep_for(std::chrono::microseconds(std::min<std::uint64_t>(50 + (idle_ - 256), 500)));
+            std::this_thread::sleep_for(a_while());
         } else if (idle_ > 64) {
             std::this_thread::yield();
         }
     }
+    std::chrono::microseconds a_while() const { return std::chrono::microseconds(std::min<std::uint64_t>(50 + (idle_ - 256), 500)); }
     void wake()
     {
         if (idle_ != 0) link_.wake();
@@ -918,6 +978,7 @@ private:
         unclaimed_.each(leave);
         arriving_.each(leave);
         bodiless_.each(leave);
+        leave_tasks();
     }
     void leave_batch(batch &from)
     {
@@ -980,6 +1041,7 @@ private:
     std::uint32_t hand_element_ = fault::no_element;
     beside hand_object_;
     pup::bytes copy_;
+    tools tools_{out_, clock_, copy_};
     // Rounds: where each element is, by the last decision, and those that start, go on or wait.
     std::vector<std::uint32_t> places_;
     std::uint32_t round_ = 0;
@@ -988,9 +1050,10 @@ private:
     std::vector<std::uint32_t> waiting_;
     std::vector<note> notes_;
     // The letters: those inside of the PE are `inside_ - gone_ - executed_`.
-    std::uint64_t posted_ = 0, executed_ = 0, failed_ = 0, inside_ = 0, gone_ = 0, held_ = 0;
+    std::uint64_t posted_ = 0, executed_ = 0, inside_ = 0, gone_ = 0, held_ = 0;
     std::uint64_t idle_ = 0;
     bool has_failed_ = false;
+    const bool has_crew_; // whether several threads run its handlers
     std::exception_ptr missed_; // why an element is missing at the end
 };
 
