@@ -41,6 +41,7 @@ public:
     std::vector<round_report> rounds; // under MPI, on rank 0 alone
     std::map<std::uint32_t, std::unique_ptr<C>> elements; // under MPI, those of this rank
     bool past_limit = false; // whether the run has had as many rounds as elements may move in, and none moved after these
+    tezgumi::round saved = 0; // the last round of which this run has left a checkpoint, or 0
 
     exited exit; // by which element the run ended, and with which value, where one said so
 
@@ -109,24 +110,37 @@ template <class C> void must_balance(outcome<C> &end)
     end.met.what = "letters are lost, or are there twice";
 }
 
+// A checkpoint is of an array of such chares.
+template <class C> void must_be_of(const restorer &saved, const elements_of<C> &like)
+{
+    if (saved.types() == like.types()) return;
+    throw checkpoint_error("the checkpoint is of a chare with " + std::to_string(saved.types()) + " types of messages, and this one has " +
+                           std::to_string(like.types()));
+}
+
 // Runs PEs as threads; PE 0 is the thread that calls.
-template <class C, class Make> class threads_run {
+template <class C> class threads_run {
 public:
-    threads_run(const settings &how, std::uint32_t n, Make &make) : how_(how), make_(make), field_(how, how.pes, n)
+    // A run that is carried on begins with what is saved.
+    threads_run(const settings &how, std::uint32_t n, restorer *saved = nullptr)
+        : how_(how), saved_(saved), before_(saved ? saved->run.round : 0), field_(how, how.pes, n, before_)
     {
+        for (std::uint32_t pe = 0; pe < how.pes; pe++) objects_.push_back(std::make_unique<elements_of<C>>(pe, how.pes, n));
+        if (saved) restore();
         for (std::uint32_t pe = 0; pe < how.pes; pe++) {
             links_.push_back(std::make_unique<thread_link>(field_, how, pe));
-            objects_.push_back(std::make_unique<elements_of<C>>(pe, how.pes, n));
-            workers_.push_back(make_worker(*links_[pe], how, *objects_[pe]));
+            workers_.push_back(make_worker(*links_[pe], how, *objects_[pe], saved ? &saved->run : nullptr));
         }
     }
-    outcome<C> run()
+    // With what begins the elements of each PE.
+    template <class Begin> outcome<C> run(Begin &&begin)
     {
+        const auto run = [&](std::uint32_t pe) { workers_[pe]->run(begin(*objects_[pe])); };
         std::vector<std::thread> threads;
         threads.reserve(how_.pes);
         try {
             for (std::uint32_t pe = 1; pe < how_.pes; pe++) {
-                threads.emplace_back([this, pe] { run(pe); });
+                threads.emplace_back([&run, pe] { run(pe); });
             }
         } catch (const std::exception &refused) {
             fault met;
@@ -141,7 +155,14 @@ public:
     }
 
 private:
-    void run(std::uint32_t pe) { workers_[pe]->run(objects_[pe]->beginning(make_)); }
+    void restore()
+    {
+        must_be_of(*saved_, *objects_[0]);
+        const auto unpack = [this](std::uint32_t index, pup::er &p) {
+            objects_[static_cast<std::size_t>(std::uint64_t(index) * how_.pes / saved_->run.n)]->unpack(index, p);
+        };
+        saved_->read([](std::uint32_t) { return true; }, unpack);
+    }
     template <class F> void guarded(std::uint32_t pe, F &&run)
     {
         try {
@@ -161,12 +182,15 @@ private:
         end.exit = field_.exit();
         end.rounds = std::move(field_.rounds());
         end.past_limit = !end.rounds.empty() && end.rounds.back().past_limit;
+        if (field_.stands() != 0) end.saved = before_ + field_.stands();
+        for (auto &one : workers_) one->forget_parts(field_.stands());
         must_balance(end);
         return end;
     }
 
     const settings &how_;
-    Make &make_;
+    restorer *const saved_;
+    const std::uint32_t before_;
     field field_;
     std::vector<std::unique_ptr<thread_link>> links_;
     std::vector<std::unique_ptr<elements_of<C>>> objects_;
@@ -183,8 +207,20 @@ private:
 template <class C, class Make> outcome<C> run(const settings &how, std::uint32_t n, Make make)
 {
     detail::must_fit(how, how.pes, n);
-    detail::threads_run<C, Make> of(how, n, make);
-    return of.run();
+    detail::threads_run<C> of(how, n);
+    return of.run([&make](detail::elements_of<C> &objects) { return objects.beginning(make); });
+}
+
+// Carries on a run that was saved by settings::checkpoint, on any number of PEs, as threads or by mpi::restart, wherever it ran before.
+//
+// It throws checkpoint_error where there is no checkpoint, or a file of it is damaged, missing, of another checkpoint, or of another chare, before
+// any handler runs; and what `run` throws.
+template <class C> outcome<C> restart(const std::string &prefix, const settings &how)
+{
+    detail::restorer saved(prefix);
+    detail::must_fit(how, how.pes, saved.run.n);
+    detail::threads_run<C> of(how, saved.run.n, &saved);
+    return of.run([](detail::elements_of<C> &objects) { return objects.there(); });
 }
 
 } // namespace tezgumi

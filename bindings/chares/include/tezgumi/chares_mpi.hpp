@@ -40,7 +40,7 @@ using tezgumi::detail::run_fault;
 using tezgumi::detail::share_of_fold;
 
 // What a message is.
-enum tag : int { parcels = 1, used = 2, notes = 3, round_decided = 4, failed = 5, the_end = 6, question = 7, answer = 8, attached = 9, ended_by = 10, quiet = 11, shares = 12, whole = 13 };
+enum tag : int { parcels = 1, used = 2, notes = 3, round_decided = 4, failed = 5, the_end = 6, question = 7, answer = 8, attached = 9, ended_by = 10, quiet = 11, shares = 12, whole = 13, saved_part = 14 };
 
 // A fault as bytes of a size that is known before, so that telling of it takes no memory.
 struct told_fault {
@@ -76,7 +76,8 @@ struct told_fault {
 // in which they were sent.
 class rank_link final : public tezgumi::detail::link {
 public:
-    rank_link(MPI_Comm comm, const settings &how, std::uint32_t n) : how_(how)
+    // The rounds before the first one were so many.
+    rank_link(MPI_Comm comm, const settings &how, std::uint32_t n, std::uint32_t before = 0) : how_(how), before_(before)
     {
         MPI_Comm_dup(comm, &comm_);
         MPI_Comm_set_errhandler(comm_, MPI_ERRORS_ARE_FATAL); // no call below looks at what MPI answers
@@ -221,6 +222,20 @@ public:
     }
     void wake() override { rests_ = false; }
     std::uint32_t quiets() override { return quiets_; }
+    void saved(const tezgumi::detail::part_note &of) override
+    {
+        if (me_ == 0) return take_part(of);
+        pup::bytes bytes;
+        pup::pack(of, bytes);
+        post(0, saved_part, std::move(bytes));
+    }
+    // The last round, of this run, of which a checkpoint stands. All ranks call it at the end.
+    std::uint32_t agreed_stands() const
+    {
+        std::uint32_t stands = saver_ ? saver_->stands() : 0;
+        MPI_Bcast(&stands, 1, MPI_UINT32_T, 0, comm_);
+        return stands;
+    }
 
     // Once all are to end: takes what is still on its way to this rank. All ranks call it.
     void drain()
@@ -309,7 +324,8 @@ private:
             unused_.assign(ranks_, 0);
             end_requests_.assign(ranks_, MPI_REQUEST_NULL);
             if (me_ == 0) {
-                board_ = std::make_unique<board>(how_, ranks_, n_);
+                board_ = std::make_unique<board>(how_, ranks_, n_, before_);
+                saver_ = std::make_unique<tezgumi::detail::saver>(how_, ranks_, n_, before_);
                 folds_ = std::make_unique<tezgumi::detail::folds>(n_);
                 question_ = std::make_unique<quiet_question>(ranks_);
             }
@@ -530,6 +546,10 @@ private:
             std::pair<std::uint64_t, pup::bytes> of;
             pup::unpack(of, bytes.data(), bytes.size());
             folded_.emplace_back(of.first, std::make_shared<const pup::bytes>(std::move(of.second)));
+        } else if (what == saved_part) {
+            tezgumi::detail::part_note of;
+            pup::unpack(of, bytes.data(), bytes.size());
+            take_part(of);
         } else if (what == ended_by) {
             std::pair<std::uint32_t, pup::bytes> of;
             pup::unpack(of, bytes.data(), bytes.size());
@@ -543,7 +563,9 @@ private:
     {
         for (note &one : owed) board_->take(one);
         if (board_->is_complete()) {
-            latest_ = std::make_shared<const decision>(board_->decide());
+            auto next = std::make_shared<decision>(board_->decide());
+            saver_->mark(*next);
+            latest_ = std::move(next);
             if (log) log->decide(latest_->round);
             const auto bytes = std::make_shared<pup::bytes>();
             pup::pack(*latest_, *bytes);
@@ -556,6 +578,10 @@ private:
         }
         if (board_->all_finished()) end();
         board_->show();
+    }
+    void take_part(const tezgumi::detail::part_note &of)
+    {
+        if (!ended_) saver_->take(of);
     }
     void take_shares(std::vector<share_of_fold> &given)
     {
@@ -633,6 +659,7 @@ private:
 
     const settings &how_;
     MPI_Comm comm_ = MPI_COMM_NULL;
+    const std::uint32_t before_;
     std::uint32_t me_ = 0, ranks_ = 1, n_ = 0;
     // Of each rank: all messages sent to it and found of it; batches that it has not used up, and that are used up here.
     std::vector<std::uint64_t> sent_, found_, expected_;
@@ -662,8 +689,43 @@ private:
     std::unique_ptr<board> board_;
     std::unique_ptr<quiet_question> question_;
     std::unique_ptr<tezgumi::detail::folds> folds_;
+    std::unique_ptr<tezgumi::detail::saver> saver_;
     std::vector<round_report> rounds_;
 };
+
+// Runs what may throw before a run on each rank. Where it throws on some, all throw what the first of these does.
+template <class F> void all_together(MPI_Comm comm, F &&run)
+{
+    int rank = 0;
+    MPI_Comm_rank(comm, &rank);
+    std::exception_ptr thrown;
+    unsigned mine = UINT_MAX, first = 0;
+    enum : int { of_memory, of_numbers, of_files };
+    struct {
+        int kind = of_files;
+        char what[1000] = {0};
+    } told;
+    const auto keep = [&](int kind, const char *what) {
+        mine = static_cast<unsigned>(rank);
+        told.kind = kind;
+        std::snprintf(told.what, sizeof told.what, "%s", what);
+    };
+    try {
+        run();
+    } catch (const std::bad_alloc &) {
+        keep(of_memory, "");
+    } catch (const std::invalid_argument &met) {
+        keep(of_numbers, met.what());
+    } catch (const std::exception &met) {
+        keep(of_files, met.what());
+    }
+    MPI_Allreduce(&mine, &first, 1, MPI_UNSIGNED, MPI_MIN, comm);
+    if (first == UINT_MAX) return;
+    MPI_Bcast(&told, sizeof told, MPI_BYTE, static_cast<int>(first), comm);
+    if (told.kind == of_memory) throw std::bad_alloc();
+    if (told.kind == of_numbers) throw std::invalid_argument(told.what);
+    throw checkpoint_error(told.what);
+}
 
 } // namespace detail
 
@@ -759,6 +821,34 @@ private:
     MPI_Comm comm_;
 };
 
+namespace detail {
+
+// Runs what is ready on all ranks to its end.
+template <class C, class Begin>
+outcome<C> run(MPI_Comm comm, rank_link &link, tezgumi::detail::elements_of<C> &objects, tezgumi::detail::worker &one, Begin &&begin)
+{
+    outcome<C> end(comm);
+    one.run(begin);
+    link.drain();
+    link.guarded([&] { one.leave(end.letters); });
+    link.guarded([&] { objects.leave(end.elements); });
+    end.met = link.agreed();
+    end.exit = link.agreed_exit(end.met);
+    std::array<std::uint64_t, 4> sums = {end.letters.posted, end.letters.executed, end.letters.held, end.letters.failed};
+    MPI_Allreduce(MPI_IN_PLACE, sums.data(), 4, MPI_UINT64_T, MPI_SUM, link.comm());
+    end.letters = account{sums[0], sums[1], sums[2], sums[3]};
+    end.rounds = std::move(link.rounds());
+    int past_limit = !end.rounds.empty() && end.rounds.back().past_limit ? 1 : 0;
+    MPI_Bcast(&past_limit, 1, MPI_INT, 0, link.comm());
+    end.past_limit = past_limit != 0;
+    end.saved = link.agreed_stands();
+    one.forget_parts(end.saved);
+    tezgumi::detail::must_balance(end);
+    return end;
+}
+
+} // namespace detail
+
 // Runs an array of n elements of type C with a PE on each rank of a communicator, until all elements have finished, or to a fault.
 // All ranks call it. Element i is make(i), which is called on the rank where the element begins.
 //
@@ -773,22 +863,51 @@ template <class C, class Make> outcome<C> run(MPI_Comm comm, const settings &how
         objects = std::make_unique<tezgumi::detail::elements_of<C>>(link.me(), link.ranks(), n);
         one = tezgumi::detail::make_worker(link, how, *objects);
     });
-    outcome<C> end(comm);
-    one->run(objects->beginning(make));
-    link.drain();
-    link.guarded([&] { one->leave(end.letters); });
-    link.guarded([&] { objects->leave(end.elements); });
-    end.met = link.agreed();
-    end.exit = link.agreed_exit(end.met);
-    std::array<std::uint64_t, 4> sums = {end.letters.posted, end.letters.executed, end.letters.held, end.letters.failed};
-    MPI_Allreduce(MPI_IN_PLACE, sums.data(), 4, MPI_UINT64_T, MPI_SUM, link.comm());
-    end.letters = account{sums[0], sums[1], sums[2], sums[3]};
-    end.rounds = std::move(link.rounds());
-    int past_limit = !end.rounds.empty() && end.rounds.back().past_limit ? 1 : 0;
-    MPI_Bcast(&past_limit, 1, MPI_INT, 0, link.comm());
-    end.past_limit = past_limit != 0;
-    tezgumi::detail::must_balance(end);
+    return detail::run<C>(comm, link, *objects, *one, objects->beginning(make));
+}
+
+// Carries on a run that was saved by settings::checkpoint, on any number of ranks, wherever it ran before. All ranks call it, and all read the files.
+//
+// It throws checkpoint_error where there is no checkpoint, or a file of it is damaged, missing, of another checkpoint, or of another chare, before
+// any handler runs; and what `run` throws. What one rank throws all do.
+template <class C> outcome<C> restart(MPI_Comm comm, const std::string &prefix, const settings &how)
+{
+    int rank = 0, ranks = 1;
+    MPI_Comm_rank(comm, &rank);
+    MPI_Comm_size(comm, &ranks);
+    const auto me = static_cast<std::uint32_t>(rank), pes = static_cast<std::uint32_t>(ranks);
+    std::unique_ptr<tezgumi::detail::restorer> saved;
+    detail::all_together(comm, [&] {
+        saved = std::make_unique<tezgumi::detail::restorer>(prefix);
+        tezgumi::detail::must_fit(how, pes, saved->run.n);
+    });
+    std::uint64_t sums[2] = {saved->sum(), ~saved->sum()};
+    MPI_Allreduce(MPI_IN_PLACE, sums, 2, MPI_UINT64_T, MPI_MIN, comm);
+    if (sums[0] != ~sums[1]) throw checkpoint_error("the ranks read different checkpoints " + prefix);
+    const std::uint32_t n = saved->run.n;
+    std::unique_ptr<tezgumi::detail::elements_of<C>> objects;
+    detail::all_together(comm, [&] {
+        objects = std::make_unique<tezgumi::detail::elements_of<C>>(me, pes, n);
+        tezgumi::detail::must_be_of(*saved, *objects);
+        const auto is_here = [&](std::uint32_t index) { return std::uint64_t(index) * pes / n == me; };
+        saved->read(is_here, [&](std::uint32_t index, pup::er &p) { objects->unpack(index, p); });
+    });
+    detail::rank_link link(comm, how, n, saved->run.round);
+    std::unique_ptr<tezgumi::detail::worker> one;
+    link.open([&] { one = tezgumi::detail::make_worker(link, how, *objects, &saved->run); });
+    auto end = detail::run<C>(comm, link, *objects, *one, objects->there());
+    if (end.saved != 0) end.saved += saved->run.round;
     return end;
+}
+
+// Whether there is a checkpoint with this prefix, as rank 0 sees it. All ranks call it.
+inline bool has_checkpoint(MPI_Comm comm, const std::string &prefix)
+{
+    int rank = 0;
+    MPI_Comm_rank(comm, &rank);
+    int is_there = rank == 0 && tezgumi::has_checkpoint(prefix) ? 1 : 0;
+    MPI_Bcast(&is_there, 1, MPI_INT, 0, comm);
+    return is_there != 0;
 }
 
 } // namespace mpi

@@ -93,9 +93,10 @@ private:
 
 class board {
 public:
-    board(const settings &how, std::uint32_t pes, std::uint32_t n)
-        : how_(how), pes_(pes), n_(n), handle_(how, pes, n), line_(how, pes), loads_(n), places_(n), reported_(n), finished_(n), absent_(n), told_(n),
-          given_(n), coming_(n), bytes_(n)
+    // The rounds before the first one were so many.
+    board(const settings &how, std::uint32_t pes, std::uint32_t n, std::uint32_t before = 0)
+        : how_(how), pes_(pes), n_(n), before_(before), handle_(how, pes, n), line_(how, pes), loads_(n), places_(n), reported_(n), finished_(n),
+          absent_(n), told_(n), given_(n), coming_(n), bytes_(n)
     {
         present_.cuts.resize(pes + 1);
         present_.names.resize(pes);
@@ -142,7 +143,7 @@ public:
         join(next.results);
         if (is_balanced()) tell_absent();
         report_ = round_report();
-        report_.round = next.round;
+        report_.round = before_ + next.round;
         report_.balanced = is_balanced() || how_.moves_all;
         report_.past_limit = how_.every != 0 && next.round >= last_balanced_round;
         weigh();
@@ -207,7 +208,7 @@ private:
             at_sync += reported_[i];
             if (count++ >= told) continue;
             first += (count == 1 ? ": element " : ", element ") + std::to_string(i);
-            first += reported_[i] ? " waits for round " + std::to_string(present_.round + 1) : std::string(" waits for a message");
+            first += reported_[i] ? " waits for round " + std::to_string(before_ + present_.round + 1) : std::string(" waits for a message");
         }
         const std::uint32_t all = n_ - absent_count_;
         std::string text = std::to_string(count) + " of " + std::to_string(all) + " elements have not finished" + first;
@@ -219,7 +220,7 @@ private:
     bool is_balanced() const
     {
         const std::uint32_t round = present_.round + 1;
-        return !how_.moves_all && how_.every != 0 && round % how_.every == 0 && round < last_balanced_round;
+        return !how_.moves_all && how_.every != 0 && (before_ + round) % how_.every == 0 && round < last_balanced_round;
     }
     // An element waits for the end of the round.
     void report(note &of)
@@ -313,7 +314,7 @@ private:
             const std::size_t count = given_[of].size();
             return "element " + std::to_string(of) + " contributes " + (count == 0 ? "nothing" : count == 1 ? "a value" : std::to_string(count) + " values");
         };
-        return gave(first) + " to round " + std::to_string(present_.round + 1) + ", and " + gave(i);
+        return gave(first) + " to round " + std::to_string(before_ + present_.round + 1) + ", and " + gave(i);
     }
     void weigh()
     {
@@ -350,7 +351,7 @@ private:
     void balance(decision &next)
     {
         handle_.decide(next, report_);
-        if (!how_.dumps.empty()) take_dump(next.round);
+        if (!how_.dumps.empty()) take_dump(before_ + next.round);
         if (!handle_.go_on()) return;
         for (std::uint32_t i = 0; i < n_; i++) {
             if (finished_[i]) handle_.finish(i);
@@ -364,7 +365,7 @@ private:
     }
 
     const settings how_;
-    const std::uint32_t pes_, n_;
+    const std::uint32_t pes_, n_, before_;
     board_handle handle_;
     progress_line line_;
     std::vector<std::uint64_t> loads_;

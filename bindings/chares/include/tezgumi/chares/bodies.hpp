@@ -41,6 +41,19 @@ public:
         fill(of, bytes);
         return of;
     }
+    // It has come for just these letters.
+    void fill(std::uint64_t fold, const ticket &of, const beside &bytes)
+    {
+        const auto found = folds_.find(fold);
+        if (found == folds_.end()) throw run_fault(fault_kind::mismatch, "what a fold came to is for no letter");
+        const auto at = std::find(found->second.begin(), found->second.end(), of);
+        if (at == found->second.end()) throw run_fault(fault_kind::mismatch, "what a fold came to is for other letters");
+        found->second.erase(at);
+        if (found->second.empty()) folds_.erase(found);
+        fill(of, bytes);
+    }
+    // The folds of which letters of this PE await what they come to.
+    const std::map<std::uint64_t, std::deque<ticket>> &awaited() const { return folds_; }
     // The body of letters that were posted without it.
     void fill(const ticket &of, const beside &bytes)
     {

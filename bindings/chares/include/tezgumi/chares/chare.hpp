@@ -83,7 +83,8 @@ inline constexpr std::uint64_t most_letters = std::uint64_t(1) << 20;
 inline constexpr std::size_t most_answered = std::size_t(1) << 20;
 using beside = std::shared_ptr<const pup::bytes>;
 
-// In place of the number of a message: before that of one for all, which an index without an element passes over; and twice before an element.
+// In place of the number of a message: before that of one for all, which an index without an element passes over; twice before an element; and alone
+// in a letter of the header's own.
 inline constexpr std::uint8_t no_message = 0x7f;
 
 // The number of a ticket, by which its body is kept. Of a body that several letters name the number has the first of these bits, and of one for all
@@ -125,7 +126,7 @@ public:
     void begin(std::uint32_t index)
     {
         me = index;
-        letters = 0;
+        letters = again = calls = 0;
         receivers.clear();
         late.clear();
         shares.clear();
@@ -149,6 +150,8 @@ public:
     {
         std::swap(me, with.me);
         std::swap(letters, with.letters);
+        std::swap(again, with.again);
+        std::swap(calls, with.calls);
         receivers.swap(with.receivers);
         shares.swap(with.shares);
         awaited.swap(with.awaited);
@@ -228,6 +231,7 @@ public:
         share_of_fold mine;
         mine.index = me;
         mine.pe = pe;
+        mine.round = round;
         mine.of.key = key;
         mine.of.value = value;
         reserve_one(shares);
@@ -237,9 +241,56 @@ public:
             put_beside(nullptr);
             post_to_each(count, to, true, is_to_all);
             awaited.emplace_back(key, tickets.back());
+            mine.number = tickets.back().number;
         }
         shares.push_back(std::move(mine));
     }
+
+    // ---- Letters of a checkpoint, which are posted again ----
+
+    // Whether so many letters fit, with bodies of so many bytes together.
+    bool has_room(std::size_t count, std::size_t bytes) const
+    {
+        return letters + count <= most_letters && answer.len + count * letter_bytes + bytes <= most_answered;
+    }
+    static std::size_t bytes_of(const beside &message) { return message->size() < longest_body ? 1 + message->size() : ticket_bytes; }
+    // A message that is packed.
+    void post_again(std::uint32_t to, std::uint8_t place, const beside &message, bool is_late)
+    {
+        shared.reset();
+        body.assign(1, place);
+        if (message->size() < longest_body) {
+            body.insert(body.end(), message->begin(), message->end());
+        } else {
+            put_beside(message);
+        }
+        if (is_late) {
+            when_quiet([&] { post(to); });
+        } else {
+            post(to);
+        }
+        again++;
+    }
+    // Letters with what a fold comes to. Their ticket.
+    ticket post_awaited(std::uint64_t key, std::uint8_t place, const std::vector<std::uint32_t> &to)
+    {
+        reserve_one(awaited);
+        body.assign(1, place);
+        put_beside(nullptr);
+        post_to_each(to.size(), [&to](std::size_t i) { return to[i]; }, true);
+        awaited.emplace_back(key, tickets.back());
+        again += to.size();
+        return tickets.back();
+    }
+    // A letter of the header's own, to the element that has the handler.
+    void post_call()
+    {
+        shared.reset();
+        body.assign(1, no_message);
+        add(me);
+        calls++;
+    }
+
     void post_to_all()
     {
         post_to_each(
@@ -249,6 +300,7 @@ public:
     template <class C> void insert(std::uint32_t to, const C &object)
     {
         must_be_there(to);
+        if (is_saved) throw run_fault(fault_kind::input, no_changes);
         reserve_one(shares);
         pack(no_message, object);
         mark();
@@ -278,8 +330,10 @@ public:
     }
 
     const std::uint32_t pe, pes, n;
-    std::uint32_t me = 0;
+    std::uint32_t me = 0, round = 0; // the element, and the last round that its PE knows
+    bool is_saved = false; // whether the run is saved or carried on, so that no element comes or goes
     std::uint64_t letters = 0;
+    std::uint64_t again = 0, calls = 0; // of these: letters of a checkpoint, and of the header's own
     std::vector<std::uint32_t> receivers; // of these letters, in order
     std::vector<share_of_fold> shares; // what it contributes to folds
     std::vector<std::pair<std::uint64_t, ticket>> awaited; // of the first element: the folds to which it contributes, and the bodies with what these come to
@@ -604,6 +658,7 @@ public:
     virtual said &said_by(std::uint32_t index) = 0;
     virtual void receive(std::uint32_t index, std::size_t place, const std::uint8_t *body, std::size_t len, outgoing &onto) = 0;
     virtual void resume(std::uint32_t index, round r, outgoing &onto) = 0;
+    virtual std::size_t types() const = 0; // how many types of messages there are
     virtual bool restores() const = 0;
     virtual std::uint64_t size(std::uint32_t index) const = 0;
     virtual void pack(std::uint32_t index, pup::er &p) = 0;
@@ -628,6 +683,11 @@ template <class C> class elements_of final : public elements {
 public:
     elements_of(std::uint32_t pe, std::uint32_t pes, std::uint32_t n) : elements(pe, pes, n), objects_(n) {}
 
+    // What begins with elements that are there already.
+    static auto there()
+    {
+        return [](std::uint32_t) {};
+    }
     // What makes the elements as they begin, by the function of the program.
     template <class Make> auto beginning(Make &make)
     {
@@ -651,6 +711,7 @@ public:
         array<C> all(onto);
         call_resume(*objects_[index], r, all);
     }
+    std::size_t types() const override { return types_of(typename C::messages()); }
     bool restores() const override { return detail::restores<C>::value; }
     std::uint64_t size(std::uint32_t index) const override { return pup::size_of(*objects_[index]); }
     void pack(std::uint32_t index, pup::er &p) override
@@ -684,6 +745,7 @@ public:
     }
 
 private:
+    template <class... M> static constexpr std::size_t types_of(messages<M...>) { return sizeof...(M); }
     std::vector<std::unique_ptr<C>> objects_; // of each element that is here
 };
 

@@ -17,7 +17,7 @@ namespace detail {
 // goes on, and its letters are parked, in the order in which they were taken. So an answer is that to the next entry of its element.
 class crew final : public worker {
 public:
-    crew(link &carrier, const settings &how, elements &objects) : worker(carrier, how, objects, true), parked_(how.batch)
+    crew(link &carrier, const settings &how, elements &objects, restored_run *from) : worker(carrier, how, objects, from, true), parked_(how.batch)
     {
         for (std::uint32_t i = 0; i < how.threads; i++) desks_.push_back(std::make_unique<desk>(how, out_, i));
     }
@@ -30,6 +30,7 @@ private:
         desk(const settings &how, const outgoing &of, std::uint32_t thread) : number(thread), out(of.pe, of.pes, of.n), clock(how.clock)
         {
             out.held = &bodies;
+            out.is_saved = of.is_saved;
             out.number_tickets(thread, how.threads);
         }
         const std::uint32_t number;
@@ -131,15 +132,16 @@ private:
         clock_.look();
         if (trace_) trace_->is_of(mine.number);
         bodies_.all().merge(mine.bodies);
+        ran(mine.with, index, at);
         out_.trade(mine.out);
         if (mine.is_letter) {
             pe_->receive(mine.letter.data(), mine.letter.size());
             inside_++;
             mine.has_task = false; // from now on the letter is one of those inside of the PE
-            executed(mine.with, index, at, mine.about);
+            executed(index, at, mine.about);
         } else {
             mine.has_task = false;
-            resumed(mine.with, index, at);
+            resumed(index, at);
             at.has_to_start = false;
         }
         if (owes) at.owes = reports_;
@@ -157,6 +159,7 @@ private:
     // Finds a handler to run: of an element that goes on, of a letter that was parked, or of one that comes.
     bool find(desk &mine)
     {
+        if (pauses_) return false;
         dealing_ = &mine;
         parks_ = 0;
         for (int i = 0; i < steps_a_turn && parks_ < most_parks; i++) {
@@ -187,12 +190,12 @@ private:
                 due_.push_back(index);
             } else {
                 make_anew(index, at);
-                if (at.is_resumed()) {
+                if (at.is_resumed() && !is_to_post(index, at)) {
                     go_on(mine, index, at);
                     due_left_--;
                     return true;
                 }
-                go_on_quietly(index, at);
+                worker::resume(index, at); // no handler runs
                 at.has_to_start = false;
                 owes_ = did_ = true;
                 if (parked_.has(index)) ready_.push_back(index);
@@ -203,10 +206,9 @@ private:
     }
     void go_on(desk &mine, std::uint32_t index, slot &at)
     {
-        at.waits = false;
-        at.round = round_;
+        goes_on(at);
         mine.decided = decided_;
-        mine.out.results = round_ == 0 ? &nothing_ : &mine.decided->results;
+        mine.out.results = mine.decided ? &mine.decided->results : &results_;
         begin(mine, index, at, false);
     }
     void begin(desk &mine, std::uint32_t index, slot &at, bool is_letter)
@@ -215,6 +217,7 @@ private:
         mine.index = index;
         mine.at = &at;
         mine.is_letter = is_letter;
+        mine.out.round = out_.round;
         mine.has_task = at.is_busy = true;
         running_++;
     }
@@ -255,7 +258,8 @@ private:
             parked_.add(index, of, next);
             return ++parks_ == most_parks;
         }
-        if (!at.exists && !read(index, next.body(), next.body_len()).is_element) {
+        const addressed of_next = read(index, next.body(), next.body_len());
+        if ((!at.exists && !of_next.is_element) || (of_next.is_call && cuts_.has_letters(index))) {
             take_in(next);
             return true;
         }
@@ -265,8 +269,9 @@ private:
         if (next.has_ticket() && next.has_extra()) bodies_.put(next.its_ticket(), next.kept(), 1);
         mine.about = read(index, body, mine.letter.size() - parcel::body_at);
         mine.longer = take_beside(mine.about, body);
+        if (mine.about.is_call) goes_on(at);
         if (mine.about.is_element) insert(index, at, mine.about);
-        mine.out.results = &nothing_;
+        mine.out.results = mine.about.is_call ? &results_ : &nothing_;
         begin(mine, index, at, true);
         return true;
     }
@@ -289,9 +294,13 @@ private:
         give_way(did || did_ || running_ != 0);
         if (link_.poll()) did_ = true;
         if (auto next = link_.decided(round_)) {
-            adopt(*next);
-            decided_ = std::move(next);
-            did_ = true;
+            // The PE is saved while none of its handlers runs. Until then no other begins.
+            pauses_ = running_ != 0 && cuts_.is_new(*next);
+            if (!pauses_) {
+                adopt(*next);
+                decided_ = std::move(next);
+                did_ = true;
+            }
         }
         if (send_late()) did_ = true;
         if (take_folds()) did_ = true;
@@ -344,14 +353,11 @@ private:
         sleepers_--;
     }
 
-    // At the end: letters of handlers whose answers were not handed in, and those that were parked.
+    void each_parked(const std::function<void(batch &)> &of) override { parked_.each(of); }
+    // At the end: letters of handlers whose answers were not handed in.
     void leave_tasks() override
     {
-        parked_.each([this](batch &one) { leave_batch(one); });
-        for (const auto &one : desks_) {
-            if (one->has_task && one->is_letter) held_++;
-            tools_.failed += one->with.failed;
-        }
+        for (const auto &one : desks_) held_ += one->has_task && one->is_letter ? 1 : 0;
     }
 
     std::mutex mutex_; // of all that a worker has, and of all below but what a desk has while its handler runs
@@ -367,6 +373,7 @@ private:
     int left_ = 0; // handlers of this turn
     std::size_t due_left_ = 0; // elements that start or go on in it
     bool did_ = false; // whether anything was done since the turn began
+    bool pauses_ = false; // whether no handler is to begin, as the PE is to be saved
     std::shared_ptr<const decision> decided_; // the last one
     bool owes_ = false; // whether the PE may owe notes
     std::uint64_t reports_ = 1;
@@ -375,10 +382,10 @@ private:
 };
 
 // What runs a PE: one thread, or a crew.
-inline std::unique_ptr<worker> make_worker(link &carrier, const settings &how, elements &objects)
+inline std::unique_ptr<worker> make_worker(link &carrier, const settings &how, elements &objects, restored_run *from = nullptr)
 {
-    if (how.threads > 1) return std::make_unique<crew>(carrier, how, objects);
-    return std::make_unique<worker>(carrier, how, objects);
+    if (how.threads > 1) return std::make_unique<crew>(carrier, how, objects, from);
+    return std::make_unique<worker>(carrier, how, objects, from);
 }
 
 } // namespace detail

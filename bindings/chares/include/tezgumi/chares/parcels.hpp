@@ -10,7 +10,8 @@ namespace detail {
 // A parcel: its message, and what goes beside it, which is the object of an element or the long body of a letter. That is bytes of the
 // batch, or bytes that are shared with it. Messages of letters and elements are as docs/RANKS.md has them. What is read of them here is the
 // kind; of an element its index; of a letter who posted it, its number there, for whom it is, and its body. A third kind, which the PE never
-// sees, is the body that several letters name: its ticket, and how many of these letters go to which PEs.
+// sees, is the body that several letters name: its ticket, and how many of these letters go to which PEs. More of them are what checkpoint.hpp
+// has: how many batches were sent before a cut; what an element contributes to a fold; and what one came to.
 struct parcel {
     const std::uint8_t *message = nullptr, *extra = nullptr;
     std::size_t len = 0, extra_len = 0;
@@ -20,6 +21,9 @@ struct parcel {
     bool is_element() const { return len > 5 && message[0] == 1; }
     bool is_letter() const { return len >= body_at && message[0] == 0; }
     bool is_body() const { return len >= shares_at && message[0] == 2; }
+    bool is_mark() const { return len == 13 && message[0] == 3; }
+    bool is_share() const { return len == 1 && message[0] == 4; }
+    bool is_whole() const { return len == ticket_bytes + 8 && message[0] == 5; }
     std::uint32_t element() const { return pup::detail::read_word<std::uint32_t>(message + index_at); }
     std::uint32_t poster() const { return pup::detail::read_word<std::uint32_t>(message + poster_at); }
     std::uint32_t number() const { return pup::detail::read_word<std::uint32_t>(message + number_at); }
@@ -85,6 +89,24 @@ public:
         at_ += lengths + front.len + front.extra_len;
         if (front.attached) attached_[taken_++].reset();
     }
+    // Looks at each parcel from the front on, and leaves all as it is.
+    template <class F> void look(F &&of)
+    {
+        struct place {
+            batch &in;
+            const std::size_t at, taken;
+            ~place()
+            {
+                in.at_ = at;
+                in.taken_ = taken;
+            }
+        } const before{*this, at_, taken_};
+        for (parcel next; front(next);) {
+            of(static_cast<const parcel &>(next));
+            at_ += lengths + next.len + next.extra_len;
+            if (next.attached) taken_++;
+        }
+    }
     bool has_next() const { return at_ < bytes_.size(); }
     bool is_empty() const { return bytes_.empty(); }
     // Its bytes, and with those that it shares.
@@ -149,6 +171,8 @@ public:
     virtual void wake() = 0;
     // How often nothing was to be done, and such letters were to leave.
     virtual std::uint32_t quiets() = 0;
+    // This PE has written its part of a checkpoint.
+    virtual void saved(const part_note &) {}
 };
 
 } // namespace detail

@@ -4,7 +4,7 @@
 
 #include "board.hpp"
 #include "crew.hpp"
-#include "folds.hpp"
+#include "saver.hpp"
 
 #include <atomic>
 #include <mutex>
@@ -15,7 +15,9 @@ namespace detail {
 // What the threads of a run share.
 class field {
 public:
-    field(const settings &how, std::uint32_t pes, std::uint32_t n) : how_(how), folds_(n), board_(how, pes, n), boxes_(pes), question_(pes)
+    // The rounds before the first one were so many.
+    field(const settings &how, std::uint32_t pes, std::uint32_t n, std::uint32_t before = 0)
+        : how_(how), folds_(n), board_(how, pes, n, before), saver_(how, pes, n, before), boxes_(pes), question_(pes)
     {
         for (std::uint32_t pe = 0; pe < pes; pe++) boxes_[pe] = std::make_unique<box>(pes);
         ended_ = board_.all_finished();
@@ -164,11 +166,16 @@ public:
         ended_ = true;
     }
     std::uint32_t quiets() const { return quiets_.load(); }
+    void saved(const part_note &of)
+    {
+        if (!ended_.load()) saver_.take(of);
+    }
 
     bool is_shown() const { return board_.is_shown(); }
     // Once no thread uses it any more.
     const fault &met() const { return fault_; }
     const exited &exit() const { return exit_; }
+    std::uint32_t stands() const { return saver_.stands(); }
     std::vector<round_report> &rounds() { return rounds_; }
 
 private:
@@ -185,7 +192,8 @@ private:
     {
         for (note &one : notes) board_.take(one);
         if (board_.is_complete()) {
-            auto next = std::make_shared<const decision>(board_.decide());
+            auto next = std::make_shared<decision>(board_.decide());
+            saver_.mark(*next);
             if (log) log->decide(next->round);
             {
                 const std::lock_guard<std::mutex> lock(mutex_);
@@ -216,6 +224,7 @@ private:
     std::vector<note> notes_; // that the board has not taken
     bool is_deciding_ = false; // whether a thread has the board
     board board_;
+    saver saver_;
     std::vector<std::unique_ptr<box>> boxes_;
     std::shared_ptr<const decision> latest_;
     std::atomic<std::uint32_t> decided_{0};
@@ -267,6 +276,7 @@ public:
     }
     void wake() override { rests_ = false; }
     std::uint32_t quiets() override { return field_.quiets(); }
+    void saved(const part_note &of) override { field_.saved(of); }
 
 private:
     field &field_;

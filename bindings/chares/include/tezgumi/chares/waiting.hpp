@@ -20,6 +20,8 @@ struct slot {
     std::uint32_t adds_to = nobody; // the PE to which it went on adding letters, where those were over the limit
     std::uint64_t bytes = 0;
     std::uint64_t load = 0; // of an early one: its work so far
+    std::uint64_t meanwhile = 0; // its work while it waits
+    std::uint64_t shares = 0; // how often it has contributed to folds that wait for no round, where the run may be saved
     contributions given;
     // On a PE of several threads: whether one of them runs a handler of it, it has not started, and it is to go on once that handler has ended;
     // and after how many reports it got a note that it still owes.
@@ -148,6 +150,18 @@ public:
             send(letters_.front().first, next);
         }
         return did;
+    }
+
+    std::size_t count() const { return letters_.size(); }
+    // Each that is here, as a parcel.
+    template <class F> void each(F &&of) const
+    {
+        for (const auto &one : letters_) {
+            parcel next;
+            next.message = one.second.data();
+            next.len = one.second.size();
+            of(static_cast<const parcel &>(next));
+        }
     }
 
 private:

@@ -50,6 +50,8 @@ struct settings {
     std::string dumps; // where it is not empty: each round that is balanced is dumped to this name, a dot and the round
     std::string events; // where it is not empty: each PE writes its events to this name, a dot and its number
     std::string trace; // where it is not empty: each PE writes the times of its handlers to this name, a dot and its number
+    std::string checkpoint; // where it is not empty: the run is saved in files whose names begin with this, from which it can be carried on
+    std::uint32_t checkpoint_every = 1; // in each so many rounds, or never where it is 0
     // A message between PEs is sent once it has so many bytes, 1 to 2^30, or nothing else is to do, or a handler took long.
     std::size_t batch = 64 * 1024;
     std::uint32_t window = 4; // so many messages, 1 to 2^20, a PE sends to another before that one has used one up
@@ -75,7 +77,7 @@ enum class fault_kind : std::uint32_t {
     handler = 5, // a handler, or a pup, ended by an exception
     quiet = 6, // nothing was left to do, and an element had not finished
     mismatch = 7, // what was carried is not what was sent: an error in the driver or below
-    dump = 8, // a dump was not written, or the events or the trace
+    dump = 8, // a dump was not written, or the events, the trace or a checkpoint
     input = 9, // the settings, the planner or the PE refused something
     taken = 10 // an element was inserted where one is
 };
@@ -352,6 +354,9 @@ template <class... T> void tell(const std::function<void(T...)> &of, const typen
     }
 }
 
+// Why an element neither comes nor goes in some runs.
+inline constexpr const char *no_changes = "elements come and go in no run that is saved or carried on";
+
 // What a note or a share tells besides, in runs whose elements come and go.
 enum class change : std::uint8_t {
     none,
@@ -378,18 +383,32 @@ struct note {
 struct share_of_fold {
     change what = change::none;
     std::uint32_t index = 0, pe = 0, by = 0; // by which element one is inserted
+    std::uint32_t round = 0; // by which round its PE went on
+    std::uint64_t count = 0; // where the run may be saved: how many it has contributed, with this one
+    std::uint64_t number = 0; // of the first element: the number of the ticket of its letters
     folded of;
 
-    void pup(pup::er &p) { p(what, index, pe, by, of); }
+    void pup(pup::er &p) { p(what, index, pe, by, round, count, number, of); }
 };
 
-// The decision of a round: block b is the elements cuts[b] .. cuts[b + 1] - 1, and goes to PE names[b].
+// The decision of a round: block b is the elements cuts[b] .. cuts[b + 1] - 1, and goes to PE names[b]. And the last round of which the run is
+// saved, or 0, and into which of two sets of files.
 struct decision {
     std::uint32_t round = 0;
     std::vector<std::uint32_t> cuts, names;
     contributions results;
+    std::uint32_t saved = 0, slot = 0;
 
-    void pup(pup::er &p) { p(round, cuts, names, results); }
+    void pup(pup::er &p) { p(round, cuts, names, results, saved, slot); }
+};
+
+// What a PE has written of a checkpoint: so many bytes, elements and letters; and its letters up to then.
+struct part_note {
+    std::uint32_t round = 0, pe = 0, types = 0; // and how many types of messages the chare has
+    std::uint64_t bytes = 0, sum = 0, elements = 0, letters = 0;
+    std::uint64_t posted = 0, executed = 0, failed = 0;
+
+    void pup(pup::er &p) { p(round, pe, types, bytes, sum, elements, letters, posted, executed, failed); }
 };
 
 } // namespace detail

@@ -3,7 +3,7 @@
 #define TEZGUMI_CHARES_WORKER_HPP
 
 #include "addressed.hpp"
-#include "bodies.hpp"
+#include "cuts.hpp"
 #include "events.hpp"
 #include "patience.hpp"
 #include "trace.hpp"
@@ -17,11 +17,14 @@ namespace detail {
 
 class worker {
 public:
-    worker(link &carrier, const settings &how, elements &objects, bool has_crew = false)
+    // A run that is carried on begins with what is in `from`.
+    worker(link &carrier, const settings &how, elements &objects, restored_run *from = nullptr, bool has_crew = false)
         : link_(carrier), how_(how), objects_(objects), out_(objects.out), me_(out_.pe), pes_(out_.pes), n_(out_.n), room_(n_), outbound_(how, pes_),
           held_own_(how.batch), held_others_(how.batch), unclaimed_(how.batch), arriving_(how.batch), bodiless_(how.batch), clock_(how.clock),
-          patience_(pes_), bodies_(pes_), places_(n_), has_crew_(has_crew)
+          patience_(pes_), bodies_(pes_), places_(n_), has_crew_(has_crew), cuts_(how, me_, pes_, n_, from)
     {
+        out_.round = cuts_.before();
+        out_.is_saved = cuts_.is_on();
         own_.from = me_;
         out_.held = &bodies_.all();
         out_.results = &nothing_;
@@ -58,6 +61,9 @@ public:
         }
     }
 
+    // Once the run has ended, and checkpoints of so many rounds stand: what this PE has written of a later one is removed.
+    void forget_parts(std::uint32_t stands) noexcept { cuts_.forget(stands); }
+
     // At the end: takes in the elements that came, and counts the letters that are still anywhere here. Batches that come after the end are
     // given to it first. Where an element cannot be unpacked all others are there nevertheless. The file of events ends before that, and a
     // fault of it is told where there is no other.
@@ -74,27 +80,28 @@ public:
         for (auto &one : leaving_) leave_element(one.first, one.second->data(), one.second->size());
         if (hand_element_ != fault::no_element) leave_element(hand_element_, hand_object_->data(), hand_object_->size());
         held_ += inside_ - gone_ - executed_;
-        letters.add(account{posted_, executed_, held_, tools_.failed});
+        letters.add(cuts_.counted(account{posted_, executed_, held_, failed_}));
         if (missed_) std::rethrow_exception(missed_);
         if (lost) std::rethrow_exception(lost);
     }
 
 protected:
-    // What a thread runs handlers with: the answer that they make, a clock, and room for an element that is to be restored. And of those that it
-    // ran how many ended by an exception; of which kind the last one was, and when it began and ended, where that is written down.
+    // What a thread runs handlers with: the answer that they make, a clock, and room for an element that is to be restored. And of the last one its
+    // kind, whether it ended by an exception, and when it began and ended, where that is written down.
     struct tools {
         tools(outgoing &to, work_clock &by, pup::bytes &room) : out(to), clock(by), copy(room) {}
         outgoing &out;
         work_clock &clock;
         pup::bytes &copy;
-        std::uint64_t failed = 0;
         std::size_t kind = work_clock::resumption;
+        bool has_failed = false;
         time_trace::point began{}, ended{};
     };
 
     // What a crew does in place of one thread, or beside it. See crew.hpp.
     virtual void run_crew() {}
     virtual bool deal(arrival &, const parcel &) { return false; }
+    virtual void each_parked(const std::function<void(batch &)> &) {}
     virtual void leave_tasks() {}
 
     static constexpr int steps_a_turn = 64;
@@ -118,14 +125,17 @@ protected:
         }
         if (!how_.trace.empty()) trace_ = std::make_unique<time_trace>(how_, me_);
         pe_ = std::make_unique<pe_handle>(me_, pes_, n_);
+        results_ = cuts_.results();
         std::vector<share_of_fold> absent;
         for (std::uint32_t i = 0; i < n_; i++) {
             if (opening_place(i) != me_) continue;
             guarded(i, [&] { begin(i); });
             room_[i] = std::make_unique<slot>();
             room_[i]->has_to_start = true;
+            cuts_.begin(i, *room_[i]);
             due_.push_back(i);
             if (objects_.has(i)) continue;
+            if (cuts_.is_on()) throw run_fault(fault_kind::input, no_changes, i);
             room_[i]->exists = false;
             absent_here_++;
             absent.push_back(changed(change::goes, i));
@@ -289,7 +299,12 @@ protected:
             inbox_ = arrival();
             if (!link_.receive(inbox_.from, inbox_.parcels)) return false;
             inbox_.is_whole = true;
-            if (inbox_.parcels.round() <= round_) return true;
+            cuts_.fetched(inbox_.from, inbox_.parcels.round());
+            if (inbox_.parcels.round() <= round_) {
+                has_inbox_ = true; // also where what follows is refused memory
+                if (cuts_.takes(inbox_.parcels.round())) save_under_way();
+                return true;
+            }
             later_.push_back(std::move(inbox_));
         }
         return false;
@@ -317,6 +332,10 @@ protected:
         if (next.is_body()) {
             bodies_.take(me_, next, [this](std::uint32_t to, parcel &more, const beside &body) { put(to, more, body); });
             for (arrival &one : bodiless_.take(next.its_ticket())) revived_.push_back(std::move(one));
+            return true;
+        }
+        if (next.is_mark() || next.is_share() || next.is_whole()) {
+            take_own(of.from, next);
             return true;
         }
         if (!next.is_letter()) return false;
@@ -510,6 +529,7 @@ protected:
         }
         with.out.begin(index);
         with.kind = kind;
+        with.has_failed = false;
         if (trace_) with.began = time_trace::now();
         with.clock.start(kind);
         try {
@@ -519,32 +539,34 @@ protected:
             pup::er p(with.copy.data(), with.copy.size());
             guarded(index, [&] { objects_.unpack(index, p); });
             with.out.begin(index);
-            with.failed++;
+            with.has_failed = true;
             tell(how_.on_failed, index, std::string(met.what()));
         }
         said &so = objects_.said_by(index);
         so.end(at.waits);
         const std::uint64_t measured = with.clock.end(so.named), units = so.named ? so.units : measured;
         if (trace_) with.ended = time_trace::now();
+        if (at.waits) at.meanwhile = units < UINT64_MAX - at.meanwhile ? at.meanwhile + units : UINT64_MAX;
         if (so.at_sync && !at.waits) guarded(index, [&] { at.bytes = objects_.size(index); });
+        if (so.destroyed && cuts_.is_on()) throw run_fault(fault_kind::input, no_changes, index);
         if (so.destroyed) return with.out.end(units, true, false, 0); // its index waits from now on
         if (at.early) at.load += units;
         with.out.end(at.early ? 0 : units, so.at_sync && !at.early, so.finished, at.bytes);
     }
 
     // The answer was taken: what the element said holds.
-    void handled(const tools &with, std::uint32_t index, slot &at)
+    void handled(std::uint32_t index, slot &at)
     {
         said &so = objects_.said_by(index);
-        if (trace_) trace_->handler(index, with.kind, with.began, with.ended);
         out_.taken();
         for (const auto &some : out_.late) late_.expect(posted_ + some.first, posted_ + some.second);
         posted_ += out_.letters;
         inside_ += out_.letters;
+        cuts_.posted(out_);
         if (so.exits) link_.exit(index, so.exits);
         for (const auto &one : out_.awaited) bodies_.await(one.first, one.second);
         tell_inserted();
-        if (!out_.shares.empty()) link_.contribute(out_.shares);
+        if (!out_.shares.empty()) contribute(at);
         add_to_outbox(out_.letters, true);
         mark(at);
         if (so.destroyed) {
@@ -555,6 +577,7 @@ protected:
             report_late(index, at);
         } else if (so.at_sync && !at.waits && !at.finished) {
             at.waits = true;
+            at.meanwhile = 0;
             at.waits_for = at.round + 1;
             at.given = std::move(so.given);
             so.given.clear();
@@ -579,10 +602,14 @@ protected:
         slot &at = here(index);
         addressed of = read(index, body, len);
         if (!at.exists && of.waits()) return pass_on(index, body, len);
+        if (of.is_call && cuts_.has_letters(index)) return carry_on(index, at, of);
         const beside longer = take_beside(of, body);
+        if (of.is_call) goes_on(at);
         if (of.is_element) insert(index, at, of);
+        out_.results = of.is_call ? &results_ : &nothing_;
         receive(tools_, index, at, of);
-        executed(tools_, index, at, of);
+        ran(tools_, index, at);
+        executed(index, at, of);
     }
     addressed read(std::uint32_t index, const std::uint8_t *body, std::size_t len) const
     {
@@ -601,11 +628,13 @@ protected:
         of.len = longer->size();
         return longer;
     }
-    // Runs the handler for a letter, if there is one: that of an element which starts by it, or of its message. One for all passes over an index
-    // without an element.
+    // Runs the handler for a letter, if there is one: that of an element which starts by it or goes on, or of its message. One for all passes over an
+    // index without an element.
     void receive(tools &with, std::uint32_t index, slot &at, const addressed &of)
     {
-        if (of.is_element) {
+        if (of.is_call) {
+            resume(with, index, at);
+        } else if (of.is_element) {
             handle(with, index, at, work_clock::resumption, [&] { objects_.resume(index, 0, with.out); });
         } else if (at.exists) {
             handle(with, index, at, of.place, [&] { objects_.receive(index, of.place, of.from, of.len, with.out); });
@@ -613,15 +642,24 @@ protected:
             answer_nothing(index, 0, false);
         }
     }
-    // The PE executes the letter in its hand, with the answer of the handler that was run for it.
-    void executed(const tools &with, std::uint32_t index, slot &at, const addressed &of)
+    // What is known of the handler that was run, if one was.
+    void ran(const tools &with, std::uint32_t index, const slot &at)
+    {
+        if (!at.exists) return;
+        if (trace_) trace_->handler(index, with.kind, with.began, with.ended);
+        if (with.has_failed) failed_++;
+    }
+    // The PE executes the letter in its hand, with the answer that was made for it.
+    void executed(std::uint32_t index, slot &at, const addressed &of)
     {
         pe_->execute(index, out_.answer);
         if (log_) log_->act();
         executed_++;
+        if (of.is_call) cuts_.called();
         if (of.is_element) inserted(index);
-        if (at.exists) handled(with, index, at);
+        if (at.exists) handled(index, at);
         else out_.taken();
+        if (of.is_call && index == 0) begin_folds();
     }
 
     // ---- Elements that come and go ----
@@ -753,12 +791,9 @@ protected:
     // An index goes on after a round, or starts, and has no element; or one that came meanwhile, and was not at sync.
     void go_on_quietly(std::uint32_t index, slot &at)
     {
-        at.waits = false;
-        at.round = round_;
+        goes_on(at);
         answer_nothing(index, at.load, !at.exists);
-        pe_->resume(index, round_, out_.answer);
-        if (log_ && round_ == 0) log_->start(index);
-        if (log_ && round_ != 0) log_->resume(index, round_);
+        pe_resumes(index, at);
         out_.taken();
         at.early = false;
         at.load = 0;
@@ -766,27 +801,194 @@ protected:
         claim(arriving_, index);
     }
 
+    // ---- Elements that go on ----
+
     void resume(std::uint32_t index, slot &at)
     {
         if (!at.is_resumed()) return go_on_quietly(index, at);
-        out_.results = round_ == 0 ? &nothing_ : &results_;
+        if (is_to_post(index, at)) return post_first(index, at);
+        goes_on(at);
+        out_.results = &results_;
+        resume(tools_, index, at);
+        ran(tools_, index, at);
+        resumed(index, at);
+        out_.results = &nothing_;
+    }
+    void goes_on(slot &at) const
+    {
         at.waits = false;
         at.round = round_;
-        resume(tools_, index, at);
-        resumed(tools_, index, at);
-        out_.results = &nothing_;
     }
     void resume(tools &with, std::uint32_t index, slot &at)
     {
-        handle(with, index, at, work_clock::resumption, [&] { objects_.resume(index, at.round, with.out); });
+        handle(with, index, at, work_clock::resumption, [&] { objects_.resume(index, cuts_.before() + at.round, with.out); });
     }
-    // The PE resumes the element, with the answer of the handler that was run for that.
-    void resumed(const tools &with, std::uint32_t index, slot &at)
+    // The answer of an element that goes on is handed in.
+    void resumed(std::uint32_t index, slot &at)
+    {
+        pe_resumes(index, at);
+        handled(index, at);
+        if (index == 0 && at.round == 0) begin_folds();
+    }
+    void pe_resumes(std::uint32_t index, const slot &at)
     {
         pe_->resume(index, at.round, out_.answer);
         if (log_ && at.round == 0) log_->start(index);
         if (log_ && at.round != 0) log_->resume(index, at.round);
-        handled(with, index, at);
+    }
+
+    // ---- A run that is carried on ----
+
+    // In place of its first handler an element posts letters that were under way, to itself. One behind them asks for more, and then for the handler:
+    // until that has run no round comes.
+    bool is_to_post(std::uint32_t index, const slot &at) const
+    {
+        return round_ == 0 && (cuts_.has_letters(index) || at.finished || at.meanwhile != 0);
+    }
+    void post_first(std::uint32_t index, slot &at)
+    {
+        post_again(index, at);
+        resumed(index, at);
+    }
+    void carry_on(std::uint32_t index, slot &at, const addressed &of)
+    {
+        post_again(index, at);
+        executed(index, at, of);
+    }
+    void post_again(std::uint32_t index, slot &at)
+    {
+        objects_.said_by(index).begin();
+        out_.begin(index);
+        cuts_.post(index, out_);
+        out_.post_call();
+        out_.end(at.meanwhile, false, at.finished, 0);
+        at.meanwhile = 0;
+        at.waits = true; // so that it is not at sync before its handler
+        at.round = round_;
+    }
+
+    // ---- Folds of a run that is saved, or carried on ----
+
+    // They are parcels, as letters are: what is contributed goes to PE 0, and what a fold came to from there to the PE of its letters.
+    void contribute(slot &at)
+    {
+        if (!cuts_.is_on()) return link_.contribute(out_.shares);
+        const std::uint8_t message = 4;
+        for (share_of_fold &one : out_.shares) {
+            one.count = ++at.shares;
+            auto packed = std::make_shared<pup::bytes>();
+            pup::pack(one, *packed);
+            parcel next;
+            next.message = &message;
+            next.len = 1;
+            put(0, next, packed);
+        }
+    }
+    // Once the first element has posted the letters that wait for folds, PE 0 has these folds.
+    void begin_folds()
+    {
+        if (!cuts_.begin_folds([this](const share_of_fold &whole) { send_whole(whole); })) return;
+        for (const whole_fold &one : cuts_.wholes()) fill(one.key, cuts_.now(one.of), std::make_shared<const pup::bytes>(one.value));
+        empty_outbox();
+    }
+    void send_whole(const share_of_fold &whole)
+    {
+        auto packed = std::make_shared<pup::bytes>();
+        pup::pack(whole.of, *packed);
+        std::uint8_t message[ticket_bytes + 8] = {5};
+        pup::detail::write_word<std::uint32_t>(message + 1, whole.pe);
+        pup::detail::write_word<std::uint64_t>(message + 5, whole.number);
+        pup::detail::write_word<std::uint64_t>(message + ticket_bytes, whole.of.key);
+        parcel next;
+        next.message = message;
+        next.len = sizeof message;
+        put(whole.pe, next, packed);
+    }
+    void fill(std::uint64_t key, const ticket &of, const beside &bytes)
+    {
+        bodies_.fill(key, of, bytes);
+        for (arrival &one : bodiless_.take(of)) revived_.push_back(std::move(one));
+    }
+    // A parcel that is this header's own.
+    void take_own(std::uint32_t from, const parcel &next)
+    {
+        if (next.is_mark()) {
+            cuts_.told(from, pup::detail::read_word<std::uint32_t>(next.message + 1), pup::detail::read_word<std::uint64_t>(next.message + 5));
+            end_cut();
+        } else if (next.is_share()) {
+            share_of_fold of;
+            pup::unpack(of, next.object(), next.object_len());
+            cuts_.take(std::move(of), [this](const share_of_fold &whole) { send_whole(whole); });
+        } else {
+            const std::uint64_t key = pup::detail::read_word<std::uint64_t>(next.message + ticket_bytes);
+            fill(key, ticket_in(next.message), next.kept());
+        }
+    }
+
+    // ---- Checkpoints ----
+
+    // The decision of a round is about to be taken up: all elements of this PE wait for it. What is here is saved: before letters that leave once
+    // nothing is to be done, as those have left that this PE has heard of.
+    void save(const decision &next)
+    {
+        send_late();
+        const std::uint64_t inside = inside_ - gone_ - executed_;
+        if (inside != (has_hand_ ? 1u : 0u) + late_.count() || hand_element_ != fault::no_element || !leaving_.empty()) {
+            throw run_fault(fault_kind::mismatch, "a parcel is where no checkpoint finds it");
+        }
+        part_file &part = cuts_.begin(next, account{posted_, executed_, 0, failed_});
+        for (std::uint32_t i = 0; i < n_; i++) {
+            if (!room_[i]) continue;
+            if (!room_[i]->waits) throw run_fault(fault_kind::mismatch, "a round was decided without an element", i);
+            part.element(i, room_[i]->finished, room_[i]->meanwhile, [&](pup::er &p) { guarded(i, [&] { objects_.pack(i, p); }); });
+        }
+        if (has_hand_) part.parcel_of(hand_letter_, bodies_, false);
+        late_.each([&](const parcel &one) { part.parcel_of(one, bodies_, true); });
+        const auto save_all = [&](batch &of) { part.parcels(of, bodies_); };
+        for (arrival &one : later_) {
+            if (one.parcels.round() < next.saved) save_all(one.parcels);
+            else cuts_.is_later(one.from);
+        }
+        for (arrival &one : revived_) save_all(one.parcels);
+        if (has_inbox_) save_all(inbox_.parcels);
+        save_all(own_.parcels);
+        for (batch &one : own_ready_) save_all(one);
+        save_all(own_next_);
+        outbound_.each(save_all);
+        held_own_.each(save_all);
+        held_others_.each(save_all);
+        bodiless_.each(save_all);
+        each_parked(save_all);
+        for (const auto &one : bodies_.all()) {
+            if (one.first.is_shared() && one.second.bytes) part.body(one.first, one.second.bytes->data(), one.second.bytes->size());
+        }
+        for (const auto &one : bodies_.awaited()) {
+            for (const ticket &of : one.second) part.awaited(one.first, of);
+        }
+        cuts_.save_folds(part);
+        // All others are told how many batches were sent to them up to now.
+        for (std::uint32_t to = 0; to < pes_; to++) {
+            if (to == me_) continue;
+            std::uint8_t message[13] = {3};
+            pup::detail::write_word<std::uint32_t>(message + 1, next.saved);
+            pup::detail::write_word<std::uint64_t>(message + 5, outbound_.sent(to));
+            parcel mark;
+            mark.message = message;
+            mark.len = sizeof message;
+            put(to, mark, nullptr);
+        }
+        end_cut();
+    }
+    // A batch came that was sent before the cut.
+    void save_under_way()
+    {
+        cuts_.part().parcels(inbox_.parcels, bodies_);
+        end_cut();
+    }
+    void end_cut()
+    {
+        if (!cuts_.is_complete()) return;
+        link_.saved(cuts_.end(static_cast<std::uint32_t>(objects_.types())));
     }
 
     // ---- Rounds ----
@@ -796,11 +998,13 @@ protected:
         if (next.cuts.size() != pes_ + 1u || next.names.size() != pes_ || next.cuts[pes_] != n_) {
             throw run_fault(fault_kind::mismatch, "a decision of other numbers");
         }
+        if (cuts_.is_new(next)) save(next);
         for (std::uint32_t b = 0; b < pes_; b++) {
             for (std::uint32_t i = next.cuts[b]; i < next.cuts[b + 1]; i++) places_[i] = next.names[b];
         }
         round_ = next.round;
-        if (trace_) trace_->round(round_);
+        out_.round = cuts_.before() + round_;
+        if (trace_) trace_->round(cuts_.before() + round_);
         results_ = next.results;
         std::sort(waiting_.begin(), waiting_.end());
         // Those that leave go first, and letters of the others then follow them.
@@ -856,7 +1060,7 @@ protected:
         if (trace_) trace_->begin();
         const auto packed = std::make_shared<pup::bytes>();
         pup::er p(*packed);
-        p(index, at.finished, at.waits_for, at.exists, at.early, at.load);
+        p(index, at.finished, at.waits_for, at.shares, at.exists, at.early, at.load);
         if (at.exists) guarded(index, [&] { objects_.pack(index, p); });
         if (packed->size() > longest_beside) throw run_fault(fault_kind::toolong, "an element packs into more than 2^30 bytes", index);
         pe_->depart(index, places_[index]);
@@ -878,7 +1082,7 @@ protected:
         std::uint32_t packed_index = 0;
         pup::er p(from, len);
         guarded(index, [&] {
-            p(packed_index, at.finished, at.waits_for, at.exists, at.early, at.load);
+            p(packed_index, at.finished, at.waits_for, at.shares, at.exists, at.early, at.load);
             if (packed_index != index) throw run_fault(fault_kind::mismatch, "an element came with the object of another");
             if (at.exists) objects_.unpack(index, p);
         });
@@ -978,6 +1182,7 @@ protected:
         unclaimed_.each(leave);
         arriving_.each(leave);
         bodiless_.each(leave);
+        each_parked(leave);
         leave_tasks();
     }
     void leave_batch(batch &from)
@@ -1050,11 +1255,12 @@ protected:
     std::vector<std::uint32_t> waiting_;
     std::vector<note> notes_;
     // The letters: those inside of the PE are `inside_ - gone_ - executed_`.
-    std::uint64_t posted_ = 0, executed_ = 0, inside_ = 0, gone_ = 0, held_ = 0;
+    std::uint64_t posted_ = 0, executed_ = 0, failed_ = 0, inside_ = 0, gone_ = 0, held_ = 0;
     std::uint64_t idle_ = 0;
     bool has_failed_ = false;
     const bool has_crew_; // whether several threads run its handlers
     std::exception_ptr missed_; // why an element is missing at the end
+    cuts_of_pe cuts_; // the run as it is saved, and as it is carried on
 };
 
 } // namespace detail
