@@ -47,6 +47,10 @@ template <class C, class Make> outcome<C> run(const tezgumi::settings &how, std:
 {
     return tezgumi::mpi::run<C>(MPI_COMM_WORLD, how, n, make);
 }
+template <class... C> auto run(const tezgumi::settings &how, const tezgumi::shape<C> &...all)
+{
+    return tezgumi::mpi::run(MPI_COMM_WORLD, how, all...);
+}
 #else
 constexpr bool are_ranks = false;
 template <class C> using outcome = tezgumi::outcome<C>;
@@ -59,6 +63,10 @@ public:
 template <class C, class Make> outcome<C> run(const tezgumi::settings &how, std::uint32_t n, Make make)
 {
     return tezgumi::run<C>(how, n, make);
+}
+template <class... C> auto run(const tezgumi::settings &how, const tezgumi::shape<C> &...all)
+{
+    return tezgumi::run(how, all...);
 }
 #endif
 

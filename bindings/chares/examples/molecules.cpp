@@ -1,8 +1,8 @@
 // Atoms in cells, and pairs of cells that compute the forces between them, as programs of molecular dynamics have it: see molecules.hpp. In
 // each step a cell shows its atoms to its nine pairs, and gets the forces. Then it moves its atoms, and hands those that leave it to its
-// neighbors. The array has cells and pairs: five pairs stand behind each cell, so that most of what is sent stays on a PE. Pairs of full
-// cells are most of the work, and there is no work in the empty ones. plain_molecules.cpp is the same over MPI alone, with a block of rows
-// for each rank.
+// neighbors. Cells and pairs are two kinds of chares. Cells stand along a curve of Hilbert, and beside each of them its five pairs, so that most of
+// what is sent stays on a PE. Pairs of full cells are most of the work, and there is no work in the empty ones. plain_molecules.cpp is the same
+// over MPI alone, with a block of rows for each rank.
 //
 //     g++ -std=c++17 -O2 -ffp-contract=off molecules.cpp $(pkg-config --cflags --libs tezgumi-chares) -o molecules
 //     ./molecules --pes 4 --side 12 --atoms 60 --steps 100
@@ -42,101 +42,118 @@ struct moved {
     void pup(pup::er &p) { p(from, all); }
 };
 
-struct cell_part {
+// The cell so many rows down and columns to the right of one, on the torus.
+inline tezgumi::index<2> beside(const molecules::torus &how, std::int64_t row, std::int64_t column, int down, int right)
+{
+    return {(row + how.side + down) % how.side, (column + how.side + right) % how.side};
+}
+
+struct pairs;
+
+struct cells : tezgumi::chare {
+    using messages = tezgumi::messages<pushed, moved>;
+    using index = tezgumi::index<2>; // its row, and its column
+
+    molecules::torus how;
+    std::uint32_t every = 1, done = 0, wants = 0;
     molecules::atoms mine;
     std::array<molecules::forces, molecules::slots> by;
     std::array<molecules::atoms, 9> come;
     std::uint32_t pushes = 0, comes = 0; // how many slots and neighbors have come in this step
     bool has_moved = false;
-    void pup(pup::er &p) { p(mine, by, come, pushes, comes, has_moved); }
-};
-struct pair_part {
-    std::array<std::optional<molecules::atoms>, 2> of;
-    void pup(pup::er &p) { p(of); }
-};
 
-struct piece : tezgumi::chare {
-    using messages = tezgumi::messages<shown, pushed, moved>;
-    static constexpr std::uint32_t each = 1 + molecules::pairs;
+    void pup(pup::er &p) { p(how, every, done, wants, mine, by, come, pushes, comes, has_moved); }
 
-    molecules::torus how;
-    std::uint32_t every = 1, done = 0, wants = 0;
-    std::optional<cell_part> cell;
-    std::optional<pair_part> pair;
-
-    void pup(pup::er &p) { p(how, every, done, wants, cell, pair); }
-
-    void resume(tezgumi::round, tezgumi::array<piece> &all)
+    void resume(tezgumi::round, tezgumi::array<cells> &all)
     {
         if (wants == how.steps) return finish();
         wants = std::min(how.steps, wants + every);
-        if (cell) show(all);
-        else if (done == wants) at_sync(); // its cells were faster than the news of the round
+        show(all);
     }
+    void show(tezgumi::array<cells> &all) const;
 
-    // A cell that goes on shows its atoms to all of its pairs.
-    void show(tezgumi::array<piece> &all)
+    void receive(pushed &&push, tezgumi::array<cells> &all)
     {
-        const std::uint32_t me = static_cast<std::uint32_t>(all.me()) / each;
-        for (std::uint32_t k = 0; k < molecules::pairs; k++) {
-            all[me * each + 1 + k].send(shown{0, cell->mine});
-            if (k != 0) all[first_of(me, k) * each + 1 + k].send(shown{1, cell->mine});
-        }
-    }
-    // The cell whose pair k has this one as the second.
-    std::uint32_t first_of(std::uint32_t me, std::uint32_t k) const { return how.beside(me, -molecules::offsets[k][0], -molecules::offsets[k][1]); }
-
-    void receive(shown &&come, tezgumi::array<piece> &all)
-    {
-        const std::uint32_t first = static_cast<std::uint32_t>(all.me()) / each, k = static_cast<std::uint32_t>(all.me()) % each - 1;
-        pair->of[come.second] = std::move(come.all);
-        if (!pair->of[0] || (k != 0 && !pair->of[1])) return work(1);
-        pushed one{static_cast<std::uint8_t>(k), {}}, other{static_cast<std::uint8_t>(molecules::pairs + k - 1), {}};
-        const molecules::atoms &second = k == 0 ? *pair->of[0] : *pair->of[1];
-        work(1 + molecules::push_all(how, first, static_cast<int>(k), *pair->of[0], second, one.all, other.all));
-        all[first * each].send(one);
-        if (k != 0) all[how.beside(first, molecules::offsets[k][0], molecules::offsets[k][1]) * each].send(other);
-        pair->of[0].reset();
-        pair->of[1].reset();
-        if (++done == wants) at_sync();
-    }
-    void receive(pushed &&come, tezgumi::array<piece> &all)
-    {
-        cell->by[come.slot] = std::move(come.all);
+        by[push.slot] = std::move(push.all);
         work(1);
-        if (++cell->pushes < molecules::slots) return;
-        const std::uint32_t me = static_cast<std::uint32_t>(all.me()) / each;
+        if (++pushes < molecules::slots) return;
         std::array<molecules::atoms, 9> leave;
-        work(1 + cell->mine.size());
-        molecules::move_all(how, me, cell->by, cell->mine, leave);
+        work(1 + mine.size());
+        molecules::move_all(how, all.me(), by, mine, leave);
+        const auto [row, column] = all.at();
         for (std::uint8_t to = 0; to < 9; to++) {
-            if (to != 4) all[how.beside(me, to / 3 - 1, to % 3 - 1) * each].send(moved{static_cast<std::uint8_t>(8 - to), std::move(leave[to])});
+            if (to != 4) all[beside(how, row, column, to / 3 - 1, to % 3 - 1)].send(moved{static_cast<std::uint8_t>(8 - to), std::move(leave[to])});
         }
-        cell->pushes = 0;
-        cell->has_moved = true;
+        pushes = 0;
+        has_moved = true;
         go_on(all);
     }
-    void receive(moved &&come, tezgumi::array<piece> &all)
+    void receive(moved &&one, tezgumi::array<cells> &all)
     {
-        cell->come[come.from] = std::move(come.all);
-        cell->comes++;
+        come[one.from] = std::move(one.all);
+        comes++;
         work(1);
         go_on(all);
     }
-    void go_on(tezgumi::array<piece> &all)
+    void go_on(tezgumi::array<cells> &all)
     {
-        if (!cell->has_moved || cell->comes < 8) return;
-        for (molecules::atoms &one : cell->come) {
-            cell->mine.insert(cell->mine.end(), one.begin(), one.end());
+        if (!has_moved || comes < 8) return;
+        for (molecules::atoms &one : come) {
+            mine.insert(mine.end(), one.begin(), one.end());
             one.clear();
         }
-        molecules::sort(cell->mine);
-        cell->comes = 0;
-        cell->has_moved = false;
+        molecules::sort(mine);
+        comes = 0;
+        has_moved = false;
         if (++done == wants) return at_sync();
         show(all);
     }
 };
+
+struct pairs : tezgumi::chare {
+    using messages = tezgumi::messages<shown>;
+    using index = tezgumi::index<3>; // the row and the column of its first cell, and which pair of that cell it is
+
+    molecules::torus how;
+    std::uint32_t every = 1, done = 0, wants = 0;
+    std::array<std::optional<molecules::atoms>, 2> of;
+
+    void pup(pup::er &p) { p(how, every, done, wants, of); }
+
+    void resume(tezgumi::round)
+    {
+        if (wants == how.steps) return finish();
+        wants = std::min(how.steps, wants + every);
+        if (done == wants) at_sync(); // its cells were faster than the news of the round
+    }
+    void receive(shown &&come, tezgumi::array<pairs> &all)
+    {
+        const auto [row, column, k] = all.at();
+        of[come.second] = std::move(come.all);
+        if (!of[0] || (k != 0 && !of[1])) return work(1);
+        pushed one{static_cast<std::uint8_t>(k), {}}, other{static_cast<std::uint8_t>(molecules::pairs + k - 1), {}};
+        const molecules::atoms &second = k == 0 ? *of[0] : *of[1];
+        work(1 + molecules::push_all(how, all.me() / molecules::pairs, static_cast<int>(k), *of[0], second, one.all, other.all));
+        const auto &by = molecules::offsets[static_cast<std::size_t>(k)];
+        all.of<cells>()[{row, column}].send(one);
+        if (k != 0) all.of<cells>()[beside(how, row, column, by[0], by[1])].send(other);
+        of[0].reset();
+        of[1].reset();
+        if (++done == wants) at_sync();
+    }
+};
+
+// A cell that goes on shows its atoms to all of its pairs. In four of them it is the second.
+inline void cells::show(tezgumi::array<cells> &all) const
+{
+    const auto [row, column] = all.at();
+    for (int k = 0; k < molecules::pairs; k++) {
+        const auto &way = molecules::offsets[static_cast<std::size_t>(k)];
+        const tezgumi::index<2> first = beside(how, row, column, -way[0], -way[1]);
+        all.of<pairs>()[{row, column, k}].send(shown{0, mine});
+        if (k != 0) all.of<pairs>()[{first[0], first[1], k}].send(shown{1, mine});
+    }
+}
 
 int main(int argc, char **argv)
 {
@@ -159,27 +176,31 @@ int main(int argc, char **argv)
     }
     std::vector<std::uint32_t> first(of.cells() + 1);
     for (std::uint32_t i = 0; i < of.cells(); i++) first[i + 1] = first[i] + molecules::count_of(of, i);
-    const auto end = launch::run<piece>(how, of.cells() * piece::each, [&](std::uint32_t i) {
-        piece one;
+    const auto make_cell = [&](tezgumi::index<2> at) {
+        cells one;
         one.how = of;
         one.every = sync;
-        if (i % piece::each != 0) {
-            one.pair.emplace();
-            return one;
-        }
-        one.cell.emplace();
-        molecules::add_cell(of, i / piece::each, first[i / piece::each], one.cell->mine);
+        const std::uint32_t cell = of.cell(static_cast<std::uint32_t>(at[0]), static_cast<std::uint32_t>(at[1]));
+        molecules::add_cell(of, cell, first[cell], one.mine);
         return one;
-    });
+    };
+    const auto make_pair = [&](tezgumi::index<3>) {
+        pairs one;
+        one.how = of;
+        one.every = sync;
+        return one;
+    };
+    // A pair has the key of its first cell, so it stands beside that.
+    const auto key_of_pair = [](tezgumi::index<3> at) { return tezgumi::hilbert<2>({at[0], at[1]}); };
+    const auto end = launch::run(how, tezgumi::of<cells>({of.side, of.side}, make_cell, tezgumi::hilbert<2>),
+        tezgumi::of<pairs>({of.side, of.side, molecules::pairs}, make_pair, key_of_pair));
     if (!end.is_good()) {
         if (program.prints()) std::printf("fault %s\n", end.met.word());
         if (program.prints()) std::fprintf(stderr, "molecules: %s\n", end.met.text().c_str());
         return end.status();
     }
     std::uint64_t count = 0, digest = 0;
-    for (const auto &one : end.collect([](const piece &at) {
-             return at.cell ? std::make_pair(std::uint64_t(at.cell->mine.size()), molecules::digest(at.cell->mine)) : std::make_pair(std::uint64_t(0), std::uint64_t(0));
-         })) {
+    for (const auto &one : end.collect<cells>([](const cells &at) { return std::make_pair(std::uint64_t(at.mine.size()), molecules::digest(at.mine)); })) {
         count += one.first;
         digest += one.second;
     }

@@ -1,7 +1,7 @@
-// A plate with a hot disc that wanders: see stencil.hpp. The plate is cut into square tiles, which stand along a Hilbert curve. So a block of
-// consecutive elements is a compact patch of the plate, and few of its edges are shared with other PEs. In each step a tile shows its four
-// neighbors its edges, and computes its cells once it has theirs. plain_stencil.cpp is the same over MPI alone, with a block of rows for
-// each rank.
+// A plate with a hot disc that wanders: see stencil.hpp. The plate is cut into square tiles, whose indices have two dimensions, and which stand
+// along a curve of Hilbert. So the tiles of a PE are a compact patch of the plate, and few of their edges are shared with other PEs. In each step
+// a tile shows its four neighbors its edges, and computes its cells once it has theirs. plain_stencil.cpp is the same over MPI alone, with a
+// block of rows for each rank.
 //
 //     g++ -std=c++17 -O2 -ffp-contract=off stencil.cpp $(pkg-config --cflags --libs tezgumi-chares) -o stencil
 //     ./stencil --pes 4 --tiles 8 --side 256 --steps 200
@@ -16,44 +16,6 @@ template <> struct tezgumi::pup::of<stencil::plate> {
     static void pup(er &p, stencil::plate &of) { p(of.side, of.steps, of.period, of.parts); }
 };
 
-// A Hilbert curve through `tiles` times `tiles` tiles, a power of two.
-namespace hilbert {
-
-struct place {
-    std::uint32_t row = 0, column = 0;
-};
-
-inline void turn(std::uint32_t size, place &at, std::uint32_t right, std::uint32_t down)
-{
-    if (down) return;
-    if (right) at = {size - 1 - at.row, size - 1 - at.column};
-    std::swap(at.row, at.column);
-}
-inline std::uint32_t index_of(std::uint32_t tiles, place at)
-{
-    std::uint32_t index = 0;
-    for (std::uint32_t size = tiles / 2; size > 0; size /= 2) {
-        const std::uint32_t right = (at.column & size) != 0, down = (at.row & size) != 0;
-        index += size * size * ((3 * right) ^ down);
-        turn(tiles, at, right, down);
-    }
-    return index;
-}
-inline place place_of(std::uint32_t tiles, std::uint32_t index)
-{
-    place at;
-    for (std::uint32_t size = 1; size < tiles; size *= 2) {
-        const std::uint32_t right = 1 & (index / 2), down = 1 & (index ^ right);
-        turn(size, at, right, down);
-        at.column += size * right;
-        at.row += size * down;
-        index /= 4;
-    }
-    return at;
-}
-
-} // namespace hilbert
-
 // The cells at an edge of a tile, for the neighbor there, after a number of steps.
 struct edge {
     std::uint8_t side = 0; // of the tile that gets it: 0 left, 1 right, 2 above, 3 below
@@ -64,21 +26,21 @@ struct edge {
 
 struct tile : tezgumi::chare {
     using messages = tezgumi::messages<edge>;
+    using index = tezgumi::index<2>; // its row, and its column
 
     stencil::plate of;
-    std::uint32_t tiles = 0, every = 1, done = 0, wants = 0;
-    hilbert::place at;
+    std::uint32_t tiles = 0, every = 1, done = 0, wants = 0, row = 0, column = 0;
     std::vector<double> cells;
     // The edges of the neighbors, of this step and of the next: no neighbor is further ahead.
     std::array<std::array<std::vector<double>, 4>, 2> edges;
 
-    void pup(pup::er &p) { p(of, tiles, every, done, wants, at.row, at.column, cells, edges); }
+    void pup(pup::er &p) { p(of, tiles, every, done, wants, row, column, cells, edges); }
 
     std::uint32_t side() const { return of.side / tiles; }
     bool has(int neighbor) const
     {
-        if (neighbor < 2) return neighbor == 0 ? at.column > 0 : at.column + 1 < tiles;
-        return neighbor == 2 ? at.row > 0 : at.row + 1 < tiles;
+        if (neighbor < 2) return neighbor == 0 ? column > 0 : column + 1 < tiles;
+        return neighbor == 2 ? row > 0 : row + 1 < tiles;
     }
 
     void resume(tezgumi::round, tezgumi::array<tile> &all)
@@ -104,11 +66,10 @@ struct tile : tezgumi::chare {
             one.side = static_cast<std::uint8_t>(neighbor ^ 1);
             one.step = done;
             for (std::uint32_t k = 0; k < n; k++) {
-                const std::uint32_t row = neighbor < 2 ? k : neighbor == 2 ? 0 : n - 1, column = neighbor < 2 ? (neighbor == 0 ? 0 : n - 1) : k;
-                one.cells.push_back(cells[row * n + column]);
+                const std::uint32_t y = neighbor < 2 ? k : neighbor == 2 ? 0 : n - 1, x = neighbor < 2 ? (neighbor == 0 ? 0 : n - 1) : k;
+                one.cells.push_back(cells[y * n + x]);
             }
-            const hilbert::place there{at.row - (neighbor == 2) + (neighbor == 3), at.column - (neighbor == 0) + (neighbor == 1)};
-            all[hilbert::index_of(tiles, there)].send(one);
+            all[{row - (neighbor == 2) + (neighbor == 3), column - (neighbor == 0) + (neighbor == 1)}].send(one);
         }
     }
     void go_on(tezgumi::array<tile> &all)
@@ -129,15 +90,15 @@ struct tile : tezgumi::chare {
         const std::uint32_t n = side();
         std::uint32_t hot = 0;
         std::vector<double> next(cells.size());
-        for (std::uint32_t row = 0; row < n; row++) {
-            for (std::uint32_t column = 0; column < n; column++) {
-                const double left = column > 0 ? cells[row * n + column - 1] : near[0].empty() ? 0 : near[0][row];
-                const double right = column + 1 < n ? cells[row * n + column + 1] : near[1].empty() ? 0 : near[1][row];
-                const double up = row > 0 ? cells[(row - 1) * n + column] : near[2].empty() ? 0 : near[2][column];
-                const double down = row + 1 < n ? cells[(row + 1) * n + column] : near[3].empty() ? 0 : near[3][column];
-                const bool is_hot = of.is_hot(at.row * n + row, at.column * n + column, done);
+        for (std::uint32_t y = 0; y < n; y++) {
+            for (std::uint32_t x = 0; x < n; x++) {
+                const double left = x > 0 ? cells[y * n + x - 1] : near[0].empty() ? 0 : near[0][y];
+                const double right = x + 1 < n ? cells[y * n + x + 1] : near[1].empty() ? 0 : near[1][y];
+                const double up = y > 0 ? cells[(y - 1) * n + x] : near[2].empty() ? 0 : near[2][x];
+                const double down = y + 1 < n ? cells[(y + 1) * n + x] : near[3].empty() ? 0 : near[3][x];
+                const bool is_hot = of.is_hot(row * n + y, column * n + x, done);
                 hot += is_hot;
-                next[row * n + column] = of.next(is_hot, left, right, up, down);
+                next[y * n + x] = of.next(is_hot, left, right, up, down);
             }
         }
         cells = std::move(next);
@@ -161,19 +122,21 @@ int main(int argc, char **argv)
     of.parts = words.number("--parts", 64, 0, 1000000);
     launch::delays(words, how);
     launch::bounds(words, how);
-    if (!words.is_good() || !words.rest().empty() || (tiles & (tiles - 1)) != 0 || of.side % tiles != 0) {
+    if (!words.is_good() || !words.rest().empty() || of.side % tiles != 0) {
         if (program.prints()) std::fputs("stencil [--pes P] [--threads N] [--tiles N] [--side CELLS] [--steps S] [--period STEPS] [--parts WORK] [--sync STEPS] [--every ROUNDS]\n", stderr);
         return 2;
     }
-    const auto end = launch::run<tile>(how, tiles * tiles, [&](std::uint32_t i) {
+    const auto make = [&](tezgumi::index<2> at) {
         tile one;
         one.of = of;
         one.tiles = tiles;
         one.every = sync;
-        one.at = hilbert::place_of(tiles, i);
+        one.row = static_cast<std::uint32_t>(at[0]);
+        one.column = static_cast<std::uint32_t>(at[1]);
         one.cells.resize(std::size_t(of.side / tiles) * (of.side / tiles));
         return one;
-    });
+    };
+    const auto end = launch::run(how, tezgumi::of<tile>({tiles, tiles}, make, tezgumi::hilbert<2>));
     if (!end.is_good()) {
         if (program.prints()) std::printf("fault %s\n", end.met.word());
         if (program.prints()) std::fprintf(stderr, "stencil: %s\n", end.met.text().c_str());
@@ -183,7 +146,7 @@ int main(int argc, char **argv)
     for (std::uint64_t one : end.collect([](const tile &from) {
              std::uint64_t sum = 0;
              const std::uint32_t n = from.side();
-             for (std::uint32_t k = 0; k < n * n; k++) sum += stencil::digest(from.at.row * n + k / n, from.at.column * n + k % n, from.cells[k]);
+             for (std::uint32_t k = 0; k < n * n; k++) sum += stencil::digest(from.row * n + k / n, from.column * n + k % n, from.cells[k]);
              return sum;
          })) digest += one;
     if (!program.prints()) return 0;

@@ -270,7 +270,7 @@ bool is_beside(std::uint32_t n, std::size_t bytes, bool to_all)
     out.held = &held;
     out.begin(0);
     out.pack(0, std::string(bytes - 4, 'b'));
-    if (to_all) out.post_to_all();
+    if (to_all) out.post_to_all(0);
     else out.post(0);
     return !held.empty();
 }

@@ -20,7 +20,7 @@ using tests::word;
 
 namespace {
 
-std::uint32_t pes = 1; // of the runs that come
+std::uint32_t pes = 1, threads = 1; // of the runs that come
 std::string folder; // of the files
 std::uint32_t seed = 0; // of delays
 
@@ -37,6 +37,7 @@ tezgumi::settings usual()
 {
     tezgumi::settings how;
     how.pes = pes;
+    how.threads = threads;
     how.clock = tezgumi::clock_kind::none;
     how.quiet = 2;
     delay(how);
@@ -49,7 +50,10 @@ tezgumi::settings saving(const std::string &prefix, std::uint32_t every = 1)
     how.checkpoint_every = every;
     return how;
 }
-std::string at(const std::string &name) { return name + ", " + std::to_string(pes) + " PEs"; }
+std::string at(const std::string &name)
+{
+    return name + ", " + std::to_string(pes) + " PEs" + (threads == 1 ? "" : " with " + std::to_string(threads) + " threads");
+}
 
 using state_list = std::vector<std::vector<std::uint8_t>>;
 
@@ -178,6 +182,7 @@ void rounds(const std::string &name, tezgumi::settings (*how)(const std::string 
             pes = other;
             auto carried = how("");
             if (other == 2) carried = usual();
+            if (other == 7) carried.threads = 1;
             const auto again = tests::restart<keeper>(prefix, carried);
             good = same(again) && good;
             if (!tests::prints()) continue;
@@ -226,6 +231,22 @@ void carried_on()
     seed = 0;
     rounds("a run with events", told);
     tests::slow_handlers = 0;
+}
+
+// PEs with several threads are saved, and carried on with as many or with one.
+void with_threads()
+{
+    threads = 3;
+    seed = 1;
+    tests::slow_handlers = 9;
+    rounds("a run", wide);
+    rounds("a run with little room", narrow);
+    rounds("a run in which all move", moving);
+    tests::now.has_phases = true;
+    rounds("a run with phases", wide);
+    tests::now.has_phases = false;
+    seed = tests::slow_handlers = 0;
+    threads = 1;
 }
 
 // It is ended again and again, on one number of PEs after another.
@@ -628,7 +649,7 @@ void settings()
 // All tests, or the one with this name.
 void all(const std::string &name)
 {
-    const std::pair<const char *, void (*)()> tests[] = {{"rounds", carried_on}, {"again", again_and_again}, {"waits", waits}, {"floods", floods},
+    const std::pair<const char *, void (*)()> tests[] = {{"rounds", carried_on}, {"threads", with_threads}, {"again", again_and_again}, {"waits", waits}, {"floods", floods},
         {"failures", failures}, {"quiet", quiet}, {"settings", settings}, {"foreign", foreign}, {"disks", disks}, {"damaged", damaged}};
     for (const auto &one : tests) {
         if (name.empty() || name == one.first) one.second();

@@ -88,7 +88,7 @@ public:
     }
     void report(std::vector<detail::note> &notes) override { inner_.report(notes); }
     void contribute(std::vector<detail::share_of_fold> &shares) override { inner_.contribute(shares); }
-    bool folded(std::uint64_t &key, detail::beside &whole) override { return inner_.folded(key, whole); }
+    bool folded(detail::fold_name &of, detail::beside &whole) override { return inner_.folded(of, whole); }
     std::shared_ptr<const detail::decision> decided(std::uint32_t after) override { return to_.knows(me_) ? inner_.decided(after) : nullptr; }
     bool ended() override { return inner_.ended(); }
     void fail(const tezgumi::fault &met) override { inner_.fail(met); }
@@ -383,7 +383,7 @@ public:
     void took(std::uint32_t) override {}
     void report(std::vector<detail::note> &) override {}
     void contribute(std::vector<detail::share_of_fold> &) override {}
-    bool folded(std::uint64_t &, detail::beside &) override { return false; }
+    bool folded(detail::fold_name &, detail::beside &) override { return false; }
     std::shared_ptr<const detail::decision> decided(std::uint32_t) override { return nullptr; }
     bool ended() override { return false; }
     void fail(const tezgumi::fault &) override {}

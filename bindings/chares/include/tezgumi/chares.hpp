@@ -33,13 +33,12 @@
 
 namespace tezgumi {
 
-// What a run left.
-template <class C> class outcome {
+// What a run left, but for its elements.
+class run_end {
 public:
     fault met; // none, where all elements have finished
     account letters; // of all PEs
     std::vector<round_report> rounds; // under MPI, on rank 0 alone
-    std::map<std::uint32_t, std::unique_ptr<C>> elements; // under MPI, those of this rank
     bool past_limit = false; // whether the run has had as many rounds as elements may move in, and none moved after these
     tezgumi::round saved = 0; // the last round of which this run has left a checkpoint, or 0
 
@@ -61,6 +60,12 @@ public:
         if (is_good()) return 0;
         return met.kind == fault_kind::dump ? 5 : 4;
     }
+};
+
+// What a run left.
+template <class C> class outcome : public run_end {
+public:
+    std::map<std::uint32_t, std::unique_ptr<C>> elements; // under MPI, those of this rank
 
     // What a function makes of each element, in the order of the indices. After a fault some elements may be missing: collect_by_index says
     // which are there.
@@ -102,7 +107,7 @@ inline void must_fit(const settings &how, std::uint32_t pes, std::uint32_t n)
 }
 
 // Where the letters are not all there, that is a fault of its own.
-template <class C> void must_balance(outcome<C> &end)
+inline void must_balance(run_end &end)
 {
     if (end.letters.posted == end.letters.executed + end.letters.held) return;
     if (end.met.kind != fault_kind::none && end.met.kind != fault_kind::quiet) return;
@@ -110,19 +115,11 @@ template <class C> void must_balance(outcome<C> &end)
     end.met.what = "letters are lost, or are there twice";
 }
 
-// A checkpoint is of an array of such chares.
-template <class C> void must_be_of(const restorer &saved, const elements_of<C> &like)
-{
-    if (saved.types() == like.types()) return;
-    throw checkpoint_error("the checkpoint is of a chare with " + std::to_string(saved.types()) + " types of messages, and this one has " +
-                           std::to_string(like.types()));
-}
-
 // Runs PEs as threads; PE 0 is the thread that calls.
 template <class C> class threads_run {
 public:
     // A run that is carried on begins with what is saved.
-    threads_run(const settings &how, std::uint32_t n, restorer *saved = nullptr)
+    threads_run(const settings &how, const chain &n, restorer *saved = nullptr)
         : how_(how), saved_(saved), before_(saved ? saved->run.round : 0), field_(how, how.pes, n, before_)
     {
         for (std::uint32_t pe = 0; pe < how.pes; pe++) objects_.push_back(std::make_unique<elements_of<C>>(pe, how.pes, n));
@@ -157,9 +154,8 @@ public:
 private:
     void restore()
     {
-        must_be_of(*saved_, *objects_[0]);
         const auto unpack = [this](std::uint32_t index, pup::er &p) {
-            objects_[static_cast<std::size_t>(std::uint64_t(index) * how_.pes / saved_->run.n)]->unpack(index, p);
+            objects_[static_cast<std::size_t>(std::uint64_t(index) * how_.pes / saved_->run.all.size())]->unpack(index, p);
         };
         saved_->read([](std::uint32_t) { return true; }, unpack);
     }
@@ -206,23 +202,15 @@ private:
 // refused as the run ends that is a fault, and some elements are missing in what it left.
 template <class C, class Make> outcome<C> run(const settings &how, std::uint32_t n, Make make)
 {
+    static_assert(detail::dimensions_of<C>::value == 1, "a kind of more dimensions than one is run by its extents: tezgumi::of<C>({4, 5}, make)");
     detail::must_fit(how, how.pes, n);
     detail::threads_run<C> of(how, n);
     return of.run([&make](detail::elements_of<C> &objects) { return objects.beginning(make); });
 }
 
-// Carries on a run that was saved by settings::checkpoint, on any number of PEs, as threads or by mpi::restart, wherever it ran before.
-//
-// It throws checkpoint_error where there is no checkpoint, or a file of it is damaged, missing, of another checkpoint, or of another chare, before
-// any handler runs; and what `run` throws.
-template <class C> outcome<C> restart(const std::string &prefix, const settings &how)
-{
-    detail::restorer saved(prefix);
-    detail::must_fit(how, how.pes, saved.run.n);
-    detail::threads_run<C> of(how, saved.run.n, &saved);
-    return of.run([](detail::elements_of<C> &objects) { return objects.there(); });
-}
-
 } // namespace tezgumi
+
+#include "chares/kinds.hpp"
+#include "chares/restart.hpp"
 
 #endif

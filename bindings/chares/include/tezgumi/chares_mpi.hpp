@@ -33,7 +33,9 @@ namespace detail {
 using tezgumi::detail::batch;
 using tezgumi::detail::beside;
 using tezgumi::detail::board;
+using tezgumi::detail::chain;
 using tezgumi::detail::decision;
+using tezgumi::detail::fold_name;
 using tezgumi::detail::note;
 using tezgumi::detail::quiet_question;
 using tezgumi::detail::run_fault;
@@ -77,7 +79,7 @@ struct told_fault {
 class rank_link final : public tezgumi::detail::link {
 public:
     // The rounds before the first one were so many.
-    rank_link(MPI_Comm comm, const settings &how, std::uint32_t n, std::uint32_t before = 0) : how_(how), before_(before)
+    rank_link(MPI_Comm comm, const settings &how, const chain &of, std::uint32_t before = 0) : how_(how), all_(of), before_(before)
     {
         MPI_Comm_dup(comm, &comm_);
         MPI_Comm_set_errhandler(comm_, MPI_ERRORS_ARE_FATAL); // no call below looks at what MPI answers
@@ -86,7 +88,7 @@ public:
         MPI_Comm_size(comm_, &ranks);
         me_ = static_cast<std::uint32_t>(rank);
         ranks_ = static_cast<std::uint32_t>(ranks);
-        n_ = n;
+        n_ = of.size();
     }
     ~rank_link() override { MPI_Comm_free(&comm_); }
     rank_link(const rank_link &) = delete;
@@ -97,7 +99,7 @@ public:
     MPI_Comm comm() const { return comm_; }
 
     // Takes the memory that the link needs whatever happens, and runs what takes that of its PE. Throws on all ranks where one has none,
-    // where a number is past its limit, or where they name different numbers of elements.
+    // where a number is past its limit, or where they name different elements.
     template <class F> void open(F &&more)
     {
         std::exception_ptr past;
@@ -107,11 +109,13 @@ public:
         } catch (...) {
             past = std::current_exception();
         }
-        long long told[3] = {past ? 0 : 1, n_, -static_cast<long long>(n_)};
-        MPI_Allreduce(MPI_IN_PLACE, told, 3, MPI_LONG_LONG, MPI_MIN, comm_);
+        const long long digest = static_cast<long long>(all_.digest());
+        long long told[5] = {past ? 0 : 1, n_, -static_cast<long long>(n_), digest, -digest};
+        MPI_Allreduce(MPI_IN_PLACE, told, 5, MPI_LONG_LONG, MPI_MIN, comm_);
         if (past) std::rethrow_exception(past);
         if (told[0] == 0) throw std::invalid_argument("another rank names a number that is past its limit");
         if (told[1] != -told[2]) throw std::invalid_argument("the ranks name different numbers of elements");
+        if (told[3] != -told[4]) throw std::invalid_argument("the ranks name different kinds of elements, or different keys");
         int good[2] = {take_memory(more) ? 1 : 0, !board_ || board_->is_shown() ? 1 : 0};
         MPI_Allreduce(MPI_IN_PLACE, good, 2, MPI_INT, MPI_MIN, comm_);
         if (!good[0]) throw std::bad_alloc();
@@ -175,10 +179,10 @@ public:
         pup::pack(given, bytes);
         post(0, shares, std::move(bytes));
     }
-    bool folded(std::uint64_t &key, beside &of) override
+    bool folded(fold_name &name, beside &of) override
     {
         if (folded_.empty()) return false;
-        key = folded_.front().first;
+        name = folded_.front().first;
         of = std::move(folded_.front().second);
         folded_.pop_front();
         return true;
@@ -324,9 +328,9 @@ private:
             unused_.assign(ranks_, 0);
             end_requests_.assign(ranks_, MPI_REQUEST_NULL);
             if (me_ == 0) {
-                board_ = std::make_unique<board>(how_, ranks_, n_, before_);
-                saver_ = std::make_unique<tezgumi::detail::saver>(how_, ranks_, n_, before_);
-                folds_ = std::make_unique<tezgumi::detail::folds>(n_);
+                board_ = std::make_unique<board>(how_, ranks_, all_, before_);
+                saver_ = std::make_unique<tezgumi::detail::saver>(how_, ranks_, all_, before_);
+                folds_ = std::make_unique<tezgumi::detail::folds>(all_);
                 question_ = std::make_unique<quiet_question>(ranks_);
             }
             more();
@@ -543,7 +547,7 @@ private:
             pup::unpack(given, bytes.data(), bytes.size());
             take_shares(given);
         } else if (what == whole) {
-            std::pair<std::uint64_t, pup::bytes> of;
+            std::pair<fold_name, pup::bytes> of;
             pup::unpack(of, bytes.data(), bytes.size());
             folded_.emplace_back(of.first, std::make_shared<const pup::bytes>(std::move(of.second)));
         } else if (what == saved_part) {
@@ -586,19 +590,19 @@ private:
     void take_shares(std::vector<share_of_fold> &given)
     {
         for (share_of_fold &one : given) {
-            folds_->take(one, [this](std::uint32_t pe, const tezgumi::folded &of) { tell_whole(pe, of); });
+            folds_->take(one, [this](std::uint32_t pe, const fold_name &name, const tezgumi::folded &of) { tell_whole(pe, name, of); });
         }
     }
     // What a fold came to, for this rank.
-    void tell_whole(std::uint32_t pe, const tezgumi::folded &of)
+    void tell_whole(std::uint32_t pe, const fold_name &name, const tezgumi::folded &of)
     {
         pup::bytes packed, bytes;
         pup::pack(of, packed);
         if (pe == 0) {
-            folded_.emplace_back(of.key, std::make_shared<const pup::bytes>(std::move(packed)));
+            folded_.emplace_back(name, std::make_shared<const pup::bytes>(std::move(packed)));
             return;
         }
-        pup::pack(std::make_pair(of.key, packed), bytes);
+        pup::pack(std::make_pair(name, packed), bytes);
         post(pe, whole, std::move(bytes));
     }
     // An element ends the run. The first one that is heard of does.
@@ -658,6 +662,7 @@ private:
     }
 
     const settings &how_;
+    const chain all_; // elements
     MPI_Comm comm_ = MPI_COMM_NULL;
     const std::uint32_t before_;
     std::uint32_t me_ = 0, ranks_ = 1, n_ = 0;
@@ -683,7 +688,7 @@ private:
     int refusals_ = 0; // of memory for the message in front, in a row
     std::chrono::steady_clock::time_point since_{};
     std::uint32_t asked_ = 0, answered_ = 0, quiets_ = 0;
-    std::list<std::pair<std::uint64_t, beside>> folded_; // what folds came to: a list, which takes no memory while it is empty
+    std::list<std::pair<fold_name, beside>> folded_; // what folds came to: a list, which takes no memory while it is empty
     exited exit_; // on rank 0, and on all of them at the end
     // On rank 0.
     std::unique_ptr<board> board_;
@@ -692,40 +697,6 @@ private:
     std::unique_ptr<tezgumi::detail::saver> saver_;
     std::vector<round_report> rounds_;
 };
-
-// Runs what may throw before a run on each rank. Where it throws on some, all throw what the first of these does.
-template <class F> void all_together(MPI_Comm comm, F &&run)
-{
-    int rank = 0;
-    MPI_Comm_rank(comm, &rank);
-    std::exception_ptr thrown;
-    unsigned mine = UINT_MAX, first = 0;
-    enum : int { of_memory, of_numbers, of_files };
-    struct {
-        int kind = of_files;
-        char what[1000] = {0};
-    } told;
-    const auto keep = [&](int kind, const char *what) {
-        mine = static_cast<unsigned>(rank);
-        told.kind = kind;
-        std::snprintf(told.what, sizeof told.what, "%s", what);
-    };
-    try {
-        run();
-    } catch (const std::bad_alloc &) {
-        keep(of_memory, "");
-    } catch (const std::invalid_argument &met) {
-        keep(of_numbers, met.what());
-    } catch (const std::exception &met) {
-        keep(of_files, met.what());
-    }
-    MPI_Allreduce(&mine, &first, 1, MPI_UNSIGNED, MPI_MIN, comm);
-    if (first == UINT_MAX) return;
-    MPI_Bcast(&told, sizeof told, MPI_BYTE, static_cast<int>(first), comm);
-    if (told.kind == of_memory) throw std::bad_alloc();
-    if (told.kind == of_numbers) throw std::invalid_argument(told.what);
-    throw checkpoint_error(told.what);
-}
 
 } // namespace detail
 
@@ -825,7 +796,7 @@ namespace detail {
 
 // Runs what is ready on all ranks to its end.
 template <class C, class Begin>
-outcome<C> run(MPI_Comm comm, rank_link &link, tezgumi::detail::elements_of<C> &objects, tezgumi::detail::worker &one, Begin &&begin)
+outcome<C> run_to_end(MPI_Comm comm, rank_link &link, tezgumi::detail::elements_of<C> &objects, tezgumi::detail::worker &one, Begin &&begin)
 {
     outcome<C> end(comm);
     one.run(begin);
@@ -847,6 +818,19 @@ outcome<C> run(MPI_Comm comm, rank_link &link, tezgumi::detail::elements_of<C> &
     return end;
 }
 
+// Runs these elements, of whatever kinds.
+template <class C, class Make> outcome<C> run_all(MPI_Comm comm, const settings &how, const chain &all, Make &make)
+{
+    rank_link link(comm, how, all);
+    std::unique_ptr<tezgumi::detail::elements_of<C>> objects;
+    std::unique_ptr<tezgumi::detail::worker> one;
+    link.open([&] {
+        objects = std::make_unique<tezgumi::detail::elements_of<C>>(link.me(), link.ranks(), all);
+        one = tezgumi::detail::make_worker(link, how, *objects);
+    });
+    return run_to_end<C>(comm, link, *objects, *one, objects->beginning(make));
+}
+
 } // namespace detail
 
 // Runs an array of n elements of type C with a PE on each rank of a communicator, until all elements have finished, or to a fault.
@@ -856,61 +840,14 @@ outcome<C> run(MPI_Comm comm, rank_link &link, tezgumi::detail::elements_of<C> &
 // rank; both on all ranks. A rank that is refused memory as the run ends, again and again, ends all by MPI_Abort.
 template <class C, class Make> outcome<C> run(MPI_Comm comm, const settings &how, std::uint32_t n, Make make)
 {
-    detail::rank_link link(comm, how, n);
-    std::unique_ptr<tezgumi::detail::elements_of<C>> objects;
-    std::unique_ptr<tezgumi::detail::worker> one;
-    link.open([&] {
-        objects = std::make_unique<tezgumi::detail::elements_of<C>>(link.me(), link.ranks(), n);
-        one = tezgumi::detail::make_worker(link, how, *objects);
-    });
-    return detail::run<C>(comm, link, *objects, *one, objects->beginning(make));
-}
-
-// Carries on a run that was saved by settings::checkpoint, on any number of ranks, wherever it ran before. All ranks call it, and all read the files.
-//
-// It throws checkpoint_error where there is no checkpoint, or a file of it is damaged, missing, of another checkpoint, or of another chare, before
-// any handler runs; and what `run` throws. What one rank throws all do.
-template <class C> outcome<C> restart(MPI_Comm comm, const std::string &prefix, const settings &how)
-{
-    int rank = 0, ranks = 1;
-    MPI_Comm_rank(comm, &rank);
-    MPI_Comm_size(comm, &ranks);
-    const auto me = static_cast<std::uint32_t>(rank), pes = static_cast<std::uint32_t>(ranks);
-    std::unique_ptr<tezgumi::detail::restorer> saved;
-    detail::all_together(comm, [&] {
-        saved = std::make_unique<tezgumi::detail::restorer>(prefix);
-        tezgumi::detail::must_fit(how, pes, saved->run.n);
-    });
-    std::uint64_t sums[2] = {saved->sum(), ~saved->sum()};
-    MPI_Allreduce(MPI_IN_PLACE, sums, 2, MPI_UINT64_T, MPI_MIN, comm);
-    if (sums[0] != ~sums[1]) throw checkpoint_error("the ranks read different checkpoints " + prefix);
-    const std::uint32_t n = saved->run.n;
-    std::unique_ptr<tezgumi::detail::elements_of<C>> objects;
-    detail::all_together(comm, [&] {
-        objects = std::make_unique<tezgumi::detail::elements_of<C>>(me, pes, n);
-        tezgumi::detail::must_be_of(*saved, *objects);
-        const auto is_here = [&](std::uint32_t index) { return std::uint64_t(index) * pes / n == me; };
-        saved->read(is_here, [&](std::uint32_t index, pup::er &p) { objects->unpack(index, p); });
-    });
-    detail::rank_link link(comm, how, n, saved->run.round);
-    std::unique_ptr<tezgumi::detail::worker> one;
-    link.open([&] { one = tezgumi::detail::make_worker(link, how, *objects, &saved->run); });
-    auto end = detail::run<C>(comm, link, *objects, *one, objects->there());
-    if (end.saved != 0) end.saved += saved->run.round;
-    return end;
-}
-
-// Whether there is a checkpoint with this prefix, as rank 0 sees it. All ranks call it.
-inline bool has_checkpoint(MPI_Comm comm, const std::string &prefix)
-{
-    int rank = 0;
-    MPI_Comm_rank(comm, &rank);
-    int is_there = rank == 0 && tezgumi::has_checkpoint(prefix) ? 1 : 0;
-    MPI_Bcast(&is_there, 1, MPI_INT, 0, comm);
-    return is_there != 0;
+    static_assert(tezgumi::detail::dimensions_of<C>::value == 1, "a kind of more dimensions than one is run by its extents: tezgumi::of<C>({4, 5}, make)");
+    return detail::run_all<C>(comm, how, n, make);
 }
 
 } // namespace mpi
 } // namespace tezgumi
+
+#include "chares/kinds_mpi.hpp"
+#include "chares/restart_mpi.hpp"
 
 #endif

@@ -5,8 +5,8 @@
 #ifndef TEZGUMI_CHARES_BOARD_HPP
 #define TEZGUMI_CHARES_BOARD_HPP
 
+#include "chain.hpp"
 #include "progress_line.hpp"
-#include "words.hpp"
 
 #include <tezgumi_board.h>
 
@@ -94,15 +94,15 @@ private:
 class board {
 public:
     // The rounds before the first one were so many.
-    board(const settings &how, std::uint32_t pes, std::uint32_t n, std::uint32_t before = 0)
-        : how_(how), pes_(pes), n_(n), before_(before), handle_(how, pes, n), line_(how, pes), loads_(n), places_(n), reported_(n), finished_(n),
-          absent_(n), told_(n), given_(n), coming_(n), bytes_(n)
+    board(const settings &how, std::uint32_t pes, const chain &of, std::uint32_t before = 0)
+        : how_(how), pes_(pes), n_(of.size()), before_(before), all_(of), handle_(how, pes, n_), line_(how, pes), loads_(n_), places_(n_), reported_(n_),
+          finished_(n_), absent_(n_), told_(n_), given_(n_), coming_(n_), bytes_(n_)
     {
         present_.cuts.resize(pes + 1);
         present_.names.resize(pes);
         for (std::uint32_t b = 0; b < pes; b++) present_.names[b] = b;
         // Element i begins on PE i * pes / n, rounded down, so block b begins at b * n / pes, rounded up.
-        for (std::uint64_t b = 0; b <= pes; b++) present_.cuts[b] = static_cast<std::uint32_t>((b * n + pes - 1) / pes);
+        for (std::uint64_t b = 0; b <= pes; b++) present_.cuts[b] = static_cast<std::uint32_t>((b * n_ + pes - 1) / pes);
     }
 
     // Takes a note, and what was contributed by it: the first of an element in the round that is under way, or that it has finished. Others tell of
@@ -207,7 +207,7 @@ private:
             if (finished_[i] || absent_[i]) continue;
             at_sync += reported_[i];
             if (count++ >= told) continue;
-            first += (count == 1 ? ": element " : ", element ") + std::to_string(i);
+            first += (count == 1 ? ": " : ", ") + all_.name(i);
             first += reported_[i] ? " waits for round " + std::to_string(before_ + present_.round + 1) : std::string(" waits for a message");
         }
         const std::uint32_t all = n_ - absent_count_;
@@ -282,14 +282,20 @@ private:
             handle_.report(of);
         }
     }
-    // Folds what the elements contributed, in the order of the indices. All contribute to a round as often, or it is a fault, which names
-    // one of each.
-    void join(contributions &results) const
+    // Folds what the elements of each kind contributed, in the order of their indices. All of a kind contribute to a round as often, or it is a
+    // fault, which names one of each.
+    void join(round_results &results) const
+    {
+        results.resize(all_.kinds());
+        for (std::uint32_t kind = 0; kind < all_.kinds(); kind++) join(kind, results[kind]);
+    }
+    void join(std::uint32_t kind, contributions &results) const
     {
         std::vector<std::uint32_t> all;
-        for (std::uint32_t i = 0; i < n_; i++) {
+        for (std::uint32_t number = 0; number < all_.size(kind); number++) {
+            const std::uint32_t i = all_.place(kind, number);
             if (absent_[i]) continue;
-            if (all.empty()) all.reserve(n_ - absent_count_);
+            if (all.empty()) all.reserve(all_.size(kind) - number);
             all.push_back(i);
             if (given_[i].size() != given_[all[0]].size()) throw run_fault(fault_kind::input, uneven(all[0], i), i);
         }
@@ -312,7 +318,7 @@ private:
     {
         const auto gave = [this](std::uint32_t of) {
             const std::size_t count = given_[of].size();
-            return "element " + std::to_string(of) + " contributes " + (count == 0 ? "nothing" : count == 1 ? "a value" : std::to_string(count) + " values");
+            return all_.name(of) + " contributes " + (count == 0 ? "nothing" : count == 1 ? "a value" : std::to_string(count) + " values");
         };
         return gave(first) + " to round " + std::to_string(before_ + present_.round + 1) + ", and " + gave(i);
     }
@@ -366,6 +372,7 @@ private:
 
     const settings how_;
     const std::uint32_t pes_, n_, before_;
+    const chain all_;
     board_handle handle_;
     progress_line line_;
     std::vector<std::uint64_t> loads_;

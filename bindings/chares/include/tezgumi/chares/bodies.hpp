@@ -29,9 +29,9 @@ public:
         return at != all_.end() && at->second.bytes;
     }
     // Letters were posted that name a body with what this fold comes to.
-    void await(std::uint64_t fold, const ticket &of) { folds_[fold].push_back(of); }
+    void await(const fold_name &fold, const ticket &of) { folds_[fold].push_back(of); }
     // Such a body has come, for the first of these letters. Which one.
-    ticket fill(std::uint64_t fold, const beside &bytes)
+    ticket fill(const fold_name &fold, const beside &bytes)
     {
         const auto found = folds_.find(fold);
         if (found == folds_.end()) throw run_fault(fault_kind::mismatch, "what a fold came to is for no letter");
@@ -42,7 +42,7 @@ public:
         return of;
     }
     // It has come for just these letters.
-    void fill(std::uint64_t fold, const ticket &of, const beside &bytes)
+    void fill(const fold_name &fold, const ticket &of, const beside &bytes)
     {
         const auto found = folds_.find(fold);
         if (found == folds_.end()) throw run_fault(fault_kind::mismatch, "what a fold came to is for no letter");
@@ -53,7 +53,7 @@ public:
         fill(of, bytes);
     }
     // The folds of which letters of this PE await what they come to.
-    const std::map<std::uint64_t, std::deque<ticket>> &awaited() const { return folds_; }
+    const std::map<fold_name, std::deque<ticket>> &awaited() const { return folds_; }
     // The body of letters that were posted without it.
     void fill(const ticket &of, const beside &bytes)
     {
@@ -167,7 +167,7 @@ private:
 
     const std::uint32_t pes_;
     besides all_;
-    std::map<std::uint64_t, std::deque<ticket>> folds_;
+    std::map<fold_name, std::deque<ticket>> folds_;
     std::vector<spread> leaving_, awaiting_; // whose bodies are here, and whose bodies are to come
 };
 

@@ -2,7 +2,7 @@
 #ifndef TEZGUMI_CHARES_CHARE_HPP
 #define TEZGUMI_CHARES_CHARE_HPP
 
-#include "words.hpp"
+#include "chain.hpp"
 
 #include <tezgumi_chares.h>
 
@@ -117,7 +117,7 @@ inline ticket ticket_in(const std::uint8_t *body)
 // The answer of a handler, as it is being made, and what the handler is told.
 class outgoing {
 public:
-    outgoing(std::uint32_t own, std::uint32_t of_pes, std::uint32_t elements) : pe(own), pes(of_pes), n(elements) {}
+    outgoing(std::uint32_t own, std::uint32_t of_pes, const chain &elements) : pe(own), pes(of_pes), n(elements.size()), all(elements) {}
     outgoing(const outgoing &) = delete;
     outgoing &operator=(const outgoing &) = delete;
     ~outgoing() { tezgumi_answer_free(&answer); }
@@ -125,7 +125,9 @@ public:
     // Begins the answer of this element's handler, which sends nothing yet.
     void begin(std::uint32_t index)
     {
-        me = index;
+        at = index;
+        kind = all.kind(index);
+        me = all.number(index);
         letters = again = calls = 0;
         receivers.clear();
         late.clear();
@@ -148,7 +150,6 @@ public:
     // Gives its answer, and all that the handler said beside it, for that of another one.
     void trade(outgoing &with) noexcept
     {
-        std::swap(me, with.me);
         std::swap(letters, with.letters);
         std::swap(again, with.again);
         std::swap(calls, with.calls);
@@ -159,7 +160,7 @@ public:
         std::swap(answer, with.answer);
         tickets.swap(with.tickets);
     }
-    // Its tickets get each so manieth number, from this one on: so several threads of a PE give none twice.
+    // Its tickets get each so manieth number, from this one on: so answers of a PE that are made at once give none twice.
     void number_tickets(std::uint64_t first, std::uint64_t each)
     {
         next_ticket = first;
@@ -179,10 +180,9 @@ public:
         pup::pack(message, *packed);
         put_beside(std::move(packed));
     }
-    // Sends what was packed. Where it throws, the letters of the answer are those that it had.
+    // Sends what was packed to the element at this place. Where it throws, the letters of the answer are those that it had.
     void post(std::uint32_t to)
     {
-        must_be_there(to);
         if (!shared) return add(to);
         const ticket made = keep(0, 1);
         try {
@@ -200,7 +200,7 @@ public:
         posts();
         late.emplace_back(before, letters);
     }
-    // Sends it to so many elements, whose indices are to(0), to(1) and so on; or to none where that throws. A body that is long, for all together, is
+    // Sends it to so many elements, whose places are to(0), to(1) and so on; or to none where that throws. A body that is long, for all together, is
     // there once, and all these letters name it.
     template <class F> void post_to_each(std::size_t count, F &&to, bool is_awaited = false, bool is_to_all = false)
     {
@@ -226,10 +226,10 @@ public:
         }
     }
     // Contributes to a fold. The first element posts the letters with what that comes to, as a message of this type: their body comes later.
-    template <class F> void contribute(std::uint64_t key, const contribution &value, std::size_t place, std::size_t count, F &&to, bool is_to_all)
+    template <class F> void contribute(std::uint64_t key, const contribution &value, std::size_t type, std::size_t count, F &&to, bool is_to_all)
     {
         share_of_fold mine;
-        mine.index = me;
+        mine.index = at;
         mine.pe = pe;
         mine.round = round;
         mine.of.key = key;
@@ -237,10 +237,10 @@ public:
         reserve_one(shares);
         reserve_one(awaited);
         if (me == 0) {
-            body.assign(1, static_cast<std::uint8_t>(place));
+            body.assign(1, static_cast<std::uint8_t>(type));
             put_beside(nullptr);
             post_to_each(count, to, true, is_to_all);
-            awaited.emplace_back(key, tickets.back());
+            awaited.emplace_back(fold_name(kind, key), tickets.back());
             mine.number = tickets.back().number;
         }
         shares.push_back(std::move(mine));
@@ -272,13 +272,13 @@ public:
         again++;
     }
     // Letters with what a fold comes to. Their ticket.
-    ticket post_awaited(std::uint64_t key, std::uint8_t place, const std::vector<std::uint32_t> &to)
+    ticket post_awaited(const fold_name &fold, std::uint8_t place, const std::vector<std::uint32_t> &to)
     {
         reserve_one(awaited);
         body.assign(1, place);
         put_beside(nullptr);
         post_to_each(to.size(), [&to](std::size_t i) { return to[i]; }, true);
-        awaited.emplace_back(key, tickets.back());
+        awaited.emplace_back(fold, tickets.back());
         again += to.size();
         return tickets.back();
     }
@@ -287,19 +287,21 @@ public:
     {
         shared.reset();
         body.assign(1, no_message);
-        add(me);
+        add(at);
         calls++;
     }
 
-    void post_to_all()
+    // ---- To several elements, and elements that come ----
+
+    // To all elements of a kind, or to those with these indices.
+    void post_to_all(std::uint32_t of)
     {
         post_to_each(
-            n, [](std::size_t i) { return static_cast<std::uint32_t>(i); }, false, true);
+            all.size(of), [this, of](std::size_t i) { return all.place(of, static_cast<std::uint32_t>(i)); }, false, true);
     }
-    // Sends an object to an index, where it becomes the element.
+    // Sends an object to a place, where it becomes the element.
     template <class C> void insert(std::uint32_t to, const C &object)
     {
-        must_be_there(to);
         if (is_saved) throw run_fault(fault_kind::input, no_changes);
         reserve_one(shares);
         pack(no_message, object);
@@ -308,13 +310,13 @@ public:
         share_of_fold asked;
         asked.what = change::asks;
         asked.index = to;
-        asked.by = me;
+        asked.by = at;
         shares.push_back(std::move(asked));
     }
-    template <class I> void post_to_some(const std::vector<I> &indices)
+    template <class I> void post_to_some(std::uint32_t of, const std::vector<I> &indices)
     {
-        for (const I &to : indices) must_be_there(to);
-        post_to_each(indices.size(), [&indices](std::size_t i) { return static_cast<std::uint32_t>(indices[i]); });
+        for (const I &to : indices) number_of(of, to);
+        post_to_each(indices.size(), [this, of, &indices](std::size_t i) { return all.place(of, number_of(of, indices[i])); });
     }
     // A letter that was posted before goes on as it is, and what is beside it stays.
     void add_again(std::uint32_t to, const std::uint8_t *of, std::size_t len)
@@ -322,25 +324,33 @@ public:
         body.assign(of, of + len);
         add(to);
     }
-    template <class I> void must_be_there(I to) const
+    // The number of the element of a kind that has this index. Where there is none that is an exception.
+    template <class I> std::uint32_t number_of(std::uint32_t of, const I &to) const
     {
-        if (to < 0 || static_cast<std::uint64_t>(to) >= n) {
-            throw stranger("there is no element " + std::to_string(to) + " in an array of " + std::to_string(n));
+        if constexpr (is_index<I>::value) {
+            return all.number(of, to);
+        } else {
+            if (to < 0 || static_cast<std::uint64_t>(to) >= all.size(of)) {
+                throw stranger("there is no element " + std::to_string(to) + " in an array of " + std::to_string(all.size(of)));
+            }
+            return static_cast<std::uint32_t>(to);
         }
     }
 
     const std::uint32_t pe, pes, n;
-    std::uint32_t me = 0, round = 0; // the element, and the last round that its PE knows
+    const chain all; // elements
+    std::uint32_t at = 0, kind = 0, me = 0; // the place of the element whose handler this is, its kind, and its number in that
+    std::uint32_t round = 0; // the last that its PE knows
     bool is_saved = false; // whether the run is saved or carried on, so that no element comes or goes
     std::uint64_t letters = 0;
     std::uint64_t again = 0, calls = 0; // of these: letters of a checkpoint, and of the header's own
     std::vector<std::uint32_t> receivers; // of these letters, in order
     std::vector<share_of_fold> shares; // what it contributes to folds
-    std::vector<std::pair<std::uint64_t, ticket>> awaited; // of the first element: the folds to which it contributes, and the bodies with what these come to
+    std::vector<std::pair<fold_name, ticket>> awaited; // of the first element: the folds to which it contributes, and the bodies with what these come to
     std::vector<std::pair<std::uint64_t, std::uint64_t>> late; // those that leave once nothing else is to be done: from which to before which
     tezgumi_answer answer = {nullptr, 0, 0};
     besides *held = nullptr;
-    const contributions *results = nullptr;
+    const round_results *results = nullptr;
 
 private:
     static constexpr std::size_t letters_at = 14; // of an answer, the count of its letters
@@ -469,98 +479,105 @@ template <class C, class M> bool pack(outgoing &out, const M &message)
 
 } // namespace detail
 
-// The array as a handler sees it. It is not kept past the handler.
-template <class C> class array {
+// The elements of a kind, as a handler of any kind sees them. It is not kept past the handler.
+template <class C> class proxy {
 public:
-    explicit array(detail::outgoing &out) : out_(&out) {}
+    explicit proxy(detail::outgoing &out, std::uint32_t kind = 0) : out_(&out), kind_(kind) {}
 
-    // Element i of the array.
+    // One element of the kind.
     class element {
     public:
         // Sends it a message.
         template <class M> void send(const M &message) const
         {
-            if (detail::pack<C>(*out_, message)) out_->post(index_);
+            if (detail::pack<C>(*out_, message)) out_->post(place_);
         }
         // Sends it once nothing is under way and no PE has anything to do.
         template <class M> void when_quiet(const M &message) const
         {
-            if (detail::pack<C>(*out_, message)) out_->when_quiet([this] { out_->post(index_); });
+            if (detail::pack<C>(*out_, message)) out_->when_quiet([this] { out_->post(place_); });
         }
         // Makes this element, which is not there: of an object, or of what a constructor is given. The object is packed, and starts where the index is.
         template <class... Of> void insert(const Of &...of) const
         {
             if constexpr (sizeof...(Of) == 1 && (std::is_same<Of, C>::value && ...)) {
-                out_->insert(index_, of...);
+                out_->insert(place_, of...);
             } else {
-                out_->insert(index_, C(of...));
+                out_->insert(place_, C(of...));
             }
         }
-        std::uint32_t index() const { return index_; }
+        std::uint32_t index() const { return index_; } // its number in the kind
 
     private:
-        friend class array;
+        friend class proxy;
         friend class chare;
         void contribute(std::uint64_t key, const contribution &value) const
         {
-            out_->must_be_there(index_);
             out_->contribute(
-                key, value, place_of_folds(), 1, [this](std::size_t) { return index_; }, false);
+                key, value, place_of_folds(), 1, [this](std::size_t) { return place_; }, false);
         }
-        element(detail::outgoing *out, std::uint32_t index) : out_(out), index_(index) {}
+        element(detail::outgoing *out, std::uint32_t kind, std::uint32_t index) : out_(out), index_(index), place_(out->all.place(kind, index)) {}
         detail::outgoing *out_;
-        std::uint32_t index_;
+        std::uint32_t index_, place_;
     };
 
     // A number that is no index of an element is refused, as by `send`.
     template <class I> element operator[](const I &i) const
     {
         static_assert(!std::is_floating_point<I>::value, "the index of an element is a whole number");
-        if constexpr (std::is_integral<I>::value && !std::is_same<I, bool>::value) {
-            out_->must_be_there(i);
-            return element(out_, static_cast<std::uint32_t>(i));
+        static_assert(detail::dimensions_of<C>::value == 1, "an element of this kind has more coordinates than one: all[{x, y}]");
+        if constexpr (detail::dimensions_of<C>::value == 1) {
+            if constexpr (std::is_integral<I>::value && !std::is_same<I, bool>::value) {
+                return element(out_, kind_, out_->number_of(kind_, i));
+            } else {
+                const std::uint32_t number = i;
+                return element(out_, kind_, out_->number_of(kind_, number));
+            }
         } else {
-            return element(out_, i);
+            return element(out_, kind_, 0);
         }
     }
-    element self() const { return element(out_, out_->me); }
+    // By its coordinates: all[{x, y}].
+    element operator[](const index<1> &at) const { return by_coordinates(at); }
+    element operator[](const index<2> &at) const { return by_coordinates(at); }
+    element operator[](const index<3> &at) const { return by_coordinates(at); }
 
-    // Sends a message to every element, this one too.
+    // Sends a message to every element of the kind, this one too if it is of the kind.
     template <class M> void send(const M &message) const
     {
-        if (detail::pack<C>(*out_, message)) out_->post_to_all();
+        if (detail::pack<C>(*out_, message)) out_->post_to_all(kind_);
     }
     // Sends a message to the elements with these indices, to one as often as its index is there. Where one is no index, it is sent to none.
     template <class M, class I> void send(const M &message, const std::vector<I> &to) const
     {
         must_be_indices<I>();
-        if (detail::pack<C>(*out_, message)) out_->post_to_some(to);
+        if (detail::pack<C>(*out_, message)) out_->post_to_some(kind_, to);
     }
     // Sends it once nothing is under way and no PE has anything to do.
     template <class M> void when_quiet(const M &message) const
     {
-        if (detail::pack<C>(*out_, message)) out_->when_quiet([this] { out_->post_to_all(); });
+        if (detail::pack<C>(*out_, message)) out_->when_quiet([this] { out_->post_to_all(kind_); });
     }
     template <class M, class I> void when_quiet(const M &message, const std::vector<I> &to) const
     {
         must_be_indices<I>();
-        if (detail::pack<C>(*out_, message)) out_->when_quiet([this, &to] { out_->post_to_some(to); });
+        if (detail::pack<C>(*out_, message)) out_->when_quiet([this, &to] { out_->post_to_some(kind_, to); });
     }
 
     // Makes an element that is not there.
     template <class I> void insert(const I &i, const C &object) const { (*this)[i].insert(object); }
 
-    std::uint32_t me() const { return out_->me; } // the index of the element whose handler this is
-    std::uint32_t size() const { return out_->n; } // how many elements there are
-    std::uint32_t pe() const { return out_->pe; } // the PE where it runs
-    std::uint32_t pes() const { return out_->pes; } // how many PEs there are
+    std::uint32_t size() const { return out_->all.size(kind_); } // how many elements the kind has
+    // How many in each dimension; and the coordinates of the element with this number in the kind. Each is an index of the kind.
+    auto extents() const { return out_->all.template extents<detail::dimensions_of<C>::value>(kind_); }
+    auto at(std::uint32_t number) const { return out_->all.template index_of<detail::dimensions_of<C>::value>(kind_, out_->number_of(kind_, number)); }
 
     // In resume after a round: what the contributions of that round came to. Which of them is said by its place among those of an element.
-    bool has_result(std::size_t which = 0) const { return out_->results && which < out_->results->size(); }
+    bool has_result(std::size_t which = 0) const { return out_->results && kind_ < out_->results->size() && which < (*out_->results)[kind_].size(); }
     template <class T> std::vector<T> results(std::size_t which = 0) const
     {
         if (!has_result(which)) throw std::logic_error("nothing was contributed");
-        return (*out_->results)[which].template values<T>();
+        return (*out_->results)[kind_][which].template values<T>();
     }
     template <class T> T result(std::size_t which = 0) const
     {
@@ -569,8 +586,18 @@ public:
         return found[0];
     }
 
+protected:
+    element at_number(std::uint32_t number) const { return element(out_, kind_, number); }
+    detail::outgoing *out_;
+    std::uint32_t kind_;
+
 private:
     friend class chare;
+    template <std::size_t D> element by_coordinates(const index<D> &at) const
+    {
+        static_assert(detail::dimensions_of<C>::value == D, "an element of this kind has another number of coordinates");
+        return element(out_, kind_, out_->number_of(kind_, at));
+    }
     static constexpr std::size_t place_of_folds()
     {
         using place = detail::place_of<folded, typename C::messages>;
@@ -580,13 +607,38 @@ private:
     void contribute(std::uint64_t key, const contribution &value) const
     {
         out_->contribute(
-            key, value, place_of_folds(), out_->n, [](std::size_t i) { return static_cast<std::uint32_t>(i); }, true);
+            key, value, place_of_folds(), size(), [this](std::size_t i) { return out_->all.place(kind_, static_cast<std::uint32_t>(i)); }, true);
     }
     template <class I> static constexpr void must_be_indices()
     {
-        static_assert(std::is_integral<I>::value && !std::is_same<I, bool>::value, "the index of an element is a whole number");
+        constexpr bool is_whole = std::is_integral<I>::value && !std::is_same<I, bool>::value;
+        static_assert(is_whole || detail::is_index<I>::value, "the index of an element is a whole number");
+        static_assert(std::is_same<I, detail::index_of<C>>::value || (is_whole && detail::dimensions_of<C>::value == 1),
+            "an element of this kind has another number of coordinates");
     }
-    detail::outgoing *out_;
+};
+
+// The array of its own kind, as the handler of an element sees it. It is not kept past the handler.
+template <class C> class array : public proxy<C> {
+public:
+    using proxy<C>::proxy;
+    using proxy<C>::at;
+
+    std::uint32_t me() const { return this->out_->me; } // the number of the element whose handler this is
+    auto at() const { return at(me()); } // and its coordinates
+    typename proxy<C>::element self() const { return this->at_number(me()); }
+    std::uint32_t pe() const { return this->out_->pe; } // the PE where it runs
+    std::uint32_t pes() const { return this->out_->pes; } // how many PEs there are
+
+    // The elements of another kind of the run, or of this one.
+    template <class K> proxy<K> of() const
+    {
+        static_assert(std::is_base_of<chare, K>::value, "a chare C is a struct C : tezgumi::chare");
+        if constexpr (std::is_same<K, C>::value) return *this;
+        const std::uint32_t kind = this->out_->all.find(&detail::tag_of<K>);
+        if (kind == detail::chain::no_kind) throw stranger("there are no elements of the kind that is asked for");
+        return proxy<K>(*this->out_, kind);
+    }
 };
 
 namespace detail {
@@ -652,14 +704,15 @@ void dispatch(messages<M...>, C &object, std::size_t place, const std::uint8_t *
 // another answer.
 class elements {
 public:
-    elements(std::uint32_t pe, std::uint32_t pes, std::uint32_t n) : out(pe, pes, n) {}
+    elements(std::uint32_t pe, std::uint32_t pes, const chain &of) : own_(std::make_unique<outgoing>(pe, pes, of)), out(*own_) {}
+    explicit elements(outgoing &of_all) : out(of_all) {}
     virtual ~elements() = default;
 
     virtual said &said_by(std::uint32_t index) = 0;
     virtual void receive(std::uint32_t index, std::size_t place, const std::uint8_t *body, std::size_t len, outgoing &onto) = 0;
     virtual void resume(std::uint32_t index, round r, outgoing &onto) = 0;
-    virtual std::size_t types() const = 0; // how many types of messages there are
-    virtual bool restores() const = 0;
+    virtual std::vector<std::uint32_t> types() const = 0; // of each kind: how many types of messages there are
+    virtual bool restores(std::uint32_t index) const = 0;
     virtual std::uint64_t size(std::uint32_t index) const = 0;
     virtual void pack(std::uint32_t index, pup::er &p) = 0;
     // Makes the object anew of these bytes, all of which it takes. Where that throws the object is as it was.
@@ -669,11 +722,28 @@ public:
     virtual bool has(std::uint32_t index) const = 0;
     virtual void insert(std::uint32_t index, const std::uint8_t *from, std::size_t len) = 0;
 
-    outgoing out;
+private:
+    std::unique_ptr<outgoing> own_;
+
+public:
+    outgoing &out;
 };
+
+template <class... M> constexpr std::uint32_t count_of_types(messages<M...>) { return sizeof...(M); }
 
 template <class T> struct is_optional : std::false_type {};
 template <class T> struct is_optional<std::optional<T>> : std::true_type {};
+
+// The object that a function of the program makes for an index; or nothing, where what it returns is a std::optional that is empty.
+template <class C, class Make, class Index> std::unique_ptr<C> object_made_by(Make &make, const Index &at)
+{
+    if constexpr (is_optional<typename std::decay<decltype(make(at))>::type>::value) {
+        auto made = make(at);
+        return made ? std::make_unique<C>(*std::move(made)) : nullptr;
+    } else {
+        return std::unique_ptr<C>(new C(make(at)));
+    }
+}
 
 template <class C> class elements_of final : public elements {
     static_assert(std::is_base_of<chare, C>::value, "a chare C is a struct C : tezgumi::chare");
@@ -681,7 +751,9 @@ template <class C> class elements_of final : public elements {
     static_assert(std::is_default_constructible<C>::value, "the chare C is unpacked where it arrives, so it needs a constructor without arguments");
 
 public:
-    elements_of(std::uint32_t pe, std::uint32_t pes, std::uint32_t n) : elements(pe, pes, n), objects_(n) {}
+    elements_of(std::uint32_t pe, std::uint32_t pes, const chain &of) : elements(pe, pes, of), kind_(0), objects_(of.size()) {}
+    // The elements of one of several kinds, by their numbers.
+    elements_of(outgoing &of_all, std::uint32_t kind) : elements(of_all), kind_(kind), objects_(of_all.all.size(kind)) {}
 
     // What begins with elements that are there already.
     static auto there()
@@ -691,28 +763,22 @@ public:
     // What makes the elements as they begin, by the function of the program.
     template <class Make> auto beginning(Make &make)
     {
-        return [this, &make](std::uint32_t index) {
-            if constexpr (is_optional<typename std::decay<decltype(make(index))>::type>::value) {
-                auto made = make(index);
-                if (made) objects_[index] = std::make_unique<C>(*std::move(made));
-            } else {
-                objects_[index] = std::unique_ptr<C>(new C(make(index)));
-            }
-        };
+        return [this, &make](std::uint32_t index) { begin(index, object_made_by<C>(make, index)); };
     }
+    void begin(std::uint32_t index, std::unique_ptr<C> object) { objects_[index] = std::move(object); }
     said &said_by(std::uint32_t index) override { return said_of::in(*objects_[index]); }
     void receive(std::uint32_t index, std::size_t place, const std::uint8_t *body, std::size_t len, outgoing &onto) override
     {
-        array<C> all(onto);
+        array<C> all(onto, kind_);
         dispatch(typename C::messages(), *objects_[index], place, body, len, all);
     }
     void resume(std::uint32_t index, round r, outgoing &onto) override
     {
-        array<C> all(onto);
+        array<C> all(onto, kind_);
         call_resume(*objects_[index], r, all);
     }
-    std::size_t types() const override { return types_of(typename C::messages()); }
-    bool restores() const override { return detail::restores<C>::value; }
+    std::vector<std::uint32_t> types() const override { return {count_of_types(typename C::messages())}; }
+    bool restores(std::uint32_t) const override { return detail::restores<C>::value; }
     std::uint64_t size(std::uint32_t index) const override { return pup::size_of(*objects_[index]); }
     void pack(std::uint32_t index, pup::er &p) override
     {
@@ -745,7 +811,7 @@ public:
     }
 
 private:
-    template <class... M> static constexpr std::size_t types_of(messages<M...>) { return sizeof...(M); }
+    const std::uint32_t kind_;
     std::vector<std::unique_ptr<C>> objects_; // of each element that is here
 };
 

@@ -179,8 +179,10 @@ inline void begin_file(pup::bytes &bytes, const char *mark)
 
 // What is known of all PEs together.
 struct manifest {
-    std::uint32_t round = 0, n = 0, pes = 0, types = 0, slot = 0; // the round as the program counts it
-    contributions results;
+    std::uint32_t round = 0, pes = 0, slot = 0; // the round as the program counts it
+    chain all = 0; // elements
+    std::vector<std::uint32_t> types; // of each kind of chares: how many types of messages it has
+    round_results results;
     account letters; // up to then; those that are held are under way
     struct part {
         std::uint64_t bytes = 0, sum = 0;
@@ -190,7 +192,7 @@ struct manifest {
 
     void pup(pup::er &p)
     {
-        p(round, n, pes, types, slot, results, letters.posted, letters.executed, letters.held, letters.failed, parts);
+        p(round, pes, slot, all, types, results, letters.posted, letters.executed, letters.held, letters.failed, parts);
     }
     // All its bytes are kept, with their sum behind them.
     pup::bytes packed() const
@@ -217,7 +219,7 @@ struct manifest {
         } catch (const pup::error &met) {
             file.refuse(std::string("is damaged: ") + met.what());
         }
-        if (found.n > TEZGUMI_PE_ELEMENTS || found.parts.size() != found.pes || found.slot < 1 || found.slot > 2) file.refuse("is damaged: a number is past its limit");
+        if (found.types.size() != found.all.kinds() || found.parts.size() != found.pes || found.slot < 1 || found.slot > 2) file.refuse("is damaged: a number is past its limit");
         return found;
     }
 

@@ -20,6 +20,7 @@ public:
     crew(link &carrier, const settings &how, elements &objects, restored_run *from) : worker(carrier, how, objects, from, true), parked_(how.batch)
     {
         for (std::uint32_t i = 0; i < how.threads; i++) desks_.push_back(std::make_unique<desk>(how, out_, i));
+        out_.number_tickets(how.threads, how.threads + 1); // of letters that are posted again, by whoever has the lock
     }
 
 private:
@@ -27,11 +28,11 @@ private:
 
     // What a thread has for itself, and the handler that it runs: of a letter, or of an element that goes on.
     struct desk {
-        desk(const settings &how, const outgoing &of, std::uint32_t thread) : number(thread), out(of.pe, of.pes, of.n), clock(how.clock)
+        desk(const settings &how, const outgoing &of, std::uint32_t thread) : number(thread), out(of.pe, of.pes, of.all), clock(how.clock, of.all.kinds())
         {
             out.held = &bodies;
             out.is_saved = of.is_saved;
-            out.number_tickets(thread, how.threads);
+            out.number_tickets(thread, how.threads + 1);
         }
         const std::uint32_t number;
         besides bodies; // long ones, of messages that the handler sends

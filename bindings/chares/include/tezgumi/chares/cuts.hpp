@@ -17,14 +17,14 @@ namespace detail {
 // What a PE keeps of the run as it is saved, and as it is carried on.
 class cuts_of_pe {
 public:
-    cuts_of_pe(const settings &how, std::uint32_t me, std::uint32_t pes, std::uint32_t n, restored_run *from)
-        : how_(how), me_(me), pes_(pes), n_(n), from_(from), is_on_(!how.checkpoint.empty() || from), fetched_(pes), came_(pes), told_(pes)
+    cuts_of_pe(const settings &how, std::uint32_t me, std::uint32_t pes, const chain &of, restored_run *from)
+        : how_(how), me_(me), pes_(pes), n_(of.size()), all_(of), from_(from), is_on_(!how.checkpoint.empty() || from), fetched_(pes), came_(pes), told_(pes)
     {
-        if (is_on_ && me == 0) folds_ = std::make_unique<kept_folds>(n);
+        if (is_on_ && me == 0) folds_ = std::make_unique<kept_folds>(of);
         if (!from_) return;
-        posted_of_.resize(n);
-        for (std::uint32_t i = 0; i < n; i++) {
-            if (std::uint64_t(i) * pes / n == me) pending_ += from_->letters[i].size();
+        posted_of_.resize(n_);
+        for (std::uint32_t i = 0; i < n_; i++) {
+            if (std::uint64_t(i) * pes / n_ == me) pending_ += from_->letters[i].size();
         }
         for (const awaited_fold &one : from_->awaited) pending_ += me == 0 ? one.to.size() : 0;
     }
@@ -33,7 +33,7 @@ public:
     bool is_on() const { return is_on_; }
     // How many rounds there were before the first of this run; and what was contributed to the last of them.
     std::uint32_t before() const { return from_ ? from_->round : 0; }
-    contributions results() const { return from_ ? from_->results : contributions(); }
+    round_results results() const { return from_ ? from_->results : round_results(); }
     void begin(std::uint32_t index, slot &at) const
     {
         if (!from_) return;
@@ -59,7 +59,7 @@ public:
                 if (out.letters == 0) throw run_fault(fault_kind::toolong, "the letters that wait for a fold take more than 2^20 bytes together");
                 return;
             }
-            tickets_.emplace(one.before, out.post_awaited(one.key, one.place, one.to));
+            tickets_.emplace(one.before, out.post_awaited(one.fold, one.place, one.to));
         }
         std::vector<saved_letter> &letters = from_->letters[index];
         for (std::size_t &at = posted_of_[index]; at < letters.size(); at++) {
@@ -107,12 +107,12 @@ public:
         are_begun_ = true;
         std::sort(from_->shares.begin(), from_->shares.end(), [](const share_of_fold &a, const share_of_fold &b) { return a.count < b.count; });
         for (share_of_fold &one : from_->shares) {
-            if (one.index == 0) {
+            if (one.index >= n_) throw run_fault(fault_kind::mismatch, "the checkpoint has what no element contributes");
+            if (all_.number(one.index) == 0) {
                 const ticket its = now(ticket{one.pe, one.number});
                 one.pe = its.pe;
                 one.number = its.number;
             }
-            if (one.index >= n_) throw run_fault(fault_kind::mismatch, "the checkpoint has what no element contributes");
             folds_->put(std::move(one), tell);
         }
         for (share_of_fold &one : early_) folds_->take(std::move(one), tell);
@@ -176,7 +176,7 @@ public:
         }
         return true;
     }
-    part_note end(std::uint32_t types)
+    part_note end(const std::vector<std::uint32_t> &types)
     {
         part_note note = part_->end(cut_, types);
         note.posted = at_cut_.posted;
@@ -194,6 +194,7 @@ public:
 private:
     const settings &how_;
     const std::uint32_t me_, pes_, n_;
+    const chain all_;
     restored_run *const from_;
     // Of the elements of this PE: how many letters they have posted again, of how many; and letters of the header's own.
     std::vector<std::size_t> posted_of_;

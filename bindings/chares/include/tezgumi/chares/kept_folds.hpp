@@ -12,13 +12,13 @@ namespace detail {
 // round, and then is for the next fold of that key.
 class kept_folds {
 public:
-    explicit kept_folds(std::uint32_t n) : n_(n), folds_(n), taken_(n) {}
+    explicit kept_folds(const chain &of) : all_(of), folds_(of), taken_(of.size()) {}
 
     // Takes one that came. For each fold that has all of them, tell(what it came to).
     template <class F> void take(share_of_fold &&of, F &&tell)
     {
         const std::uint32_t index = of.index;
-        if (index >= n_ || of.count <= taken_[index]) throw run_fault(fault_kind::mismatch, "what no element contributes came");
+        if (index >= all_.size() || of.count <= taken_[index]) throw run_fault(fault_kind::mismatch, "what no element contributes came");
         early_.emplace(std::make_pair(index, of.count), std::move(of));
         for (auto next = early_.find({index, taken_[index] + 1}); next != early_.end(); next = early_.find({index, taken_[index] + 1})) {
             taken_[index]++;
@@ -29,19 +29,20 @@ public:
     // Takes one whose turn it is.
     template <class F> void put(share_of_fold &&of, F &&tell)
     {
-        const std::uint64_t key = of.of.key;
-        use &now = uses_[key];
-        if (now.rounds.empty()) now.rounds.resize(n_);
+        const fold_name name = all_.fold_of(of);
+        use &now = uses_[name];
+        if (now.rounds.empty()) now.rounds.resize(all_.size());
         if (now.rounds[of.index] != 0 && of.round >= now.rounds[of.index]) {
             now.later.push_back(std::move(of));
             return;
         }
         now.given.push_back(of);
         now.rounds[of.index] = of.round + 1;
-        if (of.index == 0) now.first = of.number;
+        if (all_.number(of.index) == 0) now.first = of.number;
         share_of_fold whole;
         bool is_whole = false;
-        folds_.take(of, [&](std::uint32_t pe, const folded &what) {
+        whole.index = of.index;
+        folds_.take(of, [&](std::uint32_t pe, const fold_name &, const folded &what) {
             whole.pe = pe;
             whole.of = what;
             is_whole = true;
@@ -49,7 +50,7 @@ public:
         if (!is_whole) return;
         whole.number = now.first;
         std::vector<share_of_fold> later = std::move(now.later);
-        uses_.erase(key);
+        uses_.erase(name);
         tell(whole);
         for (share_of_fold &one : later) put(std::move(one), tell);
     }
@@ -70,9 +71,9 @@ private:
         std::vector<std::uint32_t> rounds;
         std::uint64_t first = 0;
     };
-    const std::uint32_t n_;
+    const chain all_;
     folds folds_;
-    std::map<std::uint64_t, use> uses_;
+    std::map<fold_name, use> uses_;
     std::vector<std::uint64_t> taken_; // of each element
     std::map<std::pair<std::uint32_t, std::uint64_t>, share_of_fold> early_; // by element and count, before their turn
 };

@@ -10,20 +10,20 @@ namespace detail {
 // A parcel: its message, and what goes beside it, which is the object of an element or the long body of a letter. That is bytes of the
 // batch, or bytes that are shared with it. Messages of letters and elements are as docs/RANKS.md has them. What is read of them here is the
 // kind; of an element its index; of a letter who posted it, its number there, for whom it is, and its body. A third kind, which the PE never
-// sees, is the body that several letters name: its ticket, and how many of these letters go to which PEs. More of them are what checkpoint.hpp
+// sees, is the body that several letters name: its ticket, and how many of these letters go to which PEs. More of them are what cuts.hpp
 // has: how many batches were sent before a cut; what an element contributes to a fold; and what one came to.
 struct parcel {
     const std::uint8_t *message = nullptr, *extra = nullptr;
     std::size_t len = 0, extra_len = 0;
     beside attached;
 
-    static constexpr std::size_t index_at = 1, poster_at = 1, number_at = 5, receiver_at = 9, body_at = 21, shares_at = 13, share_bytes = 8;
+    static constexpr std::size_t index_at = 1, poster_at = 1, number_at = 5, receiver_at = 9, body_at = 21, shares_at = 13, share_bytes = 8, fold_at = ticket_bytes, whole_bytes = fold_at + 12;
     bool is_element() const { return len > 5 && message[0] == 1; }
     bool is_letter() const { return len >= body_at && message[0] == 0; }
     bool is_body() const { return len >= shares_at && message[0] == 2; }
     bool is_mark() const { return len == 13 && message[0] == 3; }
     bool is_share() const { return len == 1 && message[0] == 4; }
-    bool is_whole() const { return len == ticket_bytes + 8 && message[0] == 5; }
+    bool is_whole() const { return len == whole_bytes && message[0] == 5; }
     std::uint32_t element() const { return pup::detail::read_word<std::uint32_t>(message + index_at); }
     std::uint32_t poster() const { return pup::detail::read_word<std::uint32_t>(message + poster_at); }
     std::uint32_t number() const { return pup::detail::read_word<std::uint32_t>(message + number_at); }
@@ -158,7 +158,7 @@ public:
     virtual void report(std::vector<note> &notes) = 0;
     // Gives what elements contribute to folds; and what one came to, for letters that this PE has posted.
     virtual void contribute(std::vector<share_of_fold> &shares) = 0;
-    virtual bool folded(std::uint64_t &key, beside &whole) = 0;
+    virtual bool folded(fold_name &of, beside &whole) = 0;
     // The last decision, where it is of a round after this one.
     virtual std::shared_ptr<const decision> decided(std::uint32_t after) = 0;
     // Whether all are to end, and that this PE has met a fault, for which all end.

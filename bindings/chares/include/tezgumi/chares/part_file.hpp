@@ -47,9 +47,9 @@ public:
         });
         note_.elements++;
     }
-    void awaited(std::uint64_t key, ticket of)
+    void awaited(fold_name fold, ticket of)
     {
-        write(record::awaited, [&](pup::er &p) { p(key, of.pe, of.number); });
+        write(record::awaited, [&](pup::er &p) { p(fold, of.pe, of.number); });
     }
     void share(const share_of_fold &of)
     {
@@ -84,7 +84,7 @@ public:
     }
 
     // Ends the file. What is known of it goes to the manifest.
-    part_note end(std::uint32_t round, std::uint32_t types)
+    part_note end(std::uint32_t round, const std::vector<std::uint32_t> &types)
     {
         write_letters();
         write(record::end, [&](pup::er &p) { p(note_.elements, note_.letters); });

@@ -13,21 +13,22 @@ struct saved_letter {
     beside message;
 };
 struct awaited_fold {
-    std::uint64_t key = 0;
+    fold_name fold;
     ticket before; // what named its body in the run that was saved
     std::uint8_t place = 0;
     std::vector<std::uint32_t> to;
 };
 struct whole_fold {
-    std::uint64_t key = 0;
+    fold_name fold;
     ticket of;
     pup::bytes value;
 };
 
 // A run that is carried on: what its PEs begin with. Of a process that has some of the elements it has their letters.
 struct restored_run {
-    std::uint32_t round = 0, n = 0;
-    contributions results;
+    std::uint32_t round = 0;
+    chain all = 0;
+    round_results results;
     account before; // the letters up to then
     std::vector<std::uint8_t> finished; // of each element
     std::vector<std::uint64_t> meanwhile;
@@ -43,24 +44,25 @@ public:
     explicit restorer(const std::string &prefix) : prefix_(prefix), of_(manifest::read(prefix, sum_))
     {
         run.round = of_.round;
-        run.n = of_.n;
+        run.all = of_.all;
         run.results = of_.results;
         run.before = account{of_.letters.posted, of_.letters.executed, 0, of_.letters.failed};
-        run.finished.resize(of_.n);
-        run.meanwhile.resize(of_.n);
-        run.letters.resize(of_.n);
-        seen_.resize(of_.n);
+        run.finished.resize(of_.all.size());
+        run.meanwhile.resize(of_.all.size());
+        run.letters.resize(of_.all.size());
+        seen_.resize(of_.all.size());
     }
     // What tells one checkpoint from another.
     std::uint64_t sum() const { return sum_; }
-    std::size_t types() const { return of_.types; }
+    // Of each kind of chares how many types of messages it had.
+    const std::vector<std::uint32_t> &types() const { return of_.types; }
 
     // Reads all parts, and the elements for which is_here(index), by unpack(index, p).
     template <class Here, class Unpack> void read(Here &&is_here, Unpack &&unpack)
     {
         for (std::uint32_t pe = 0; pe < of_.pes; pe++) read_part(pe, is_here, unpack);
         const read_file file(manifest_path(prefix_));
-        if (elements_ != of_.n || letters_ != of_.letters.held) file.refuse("lacks elements or letters");
+        if (elements_ != of_.all.size() || letters_ != of_.letters.held) file.refuse("lacks elements or letters");
         if (of_.letters.posted != of_.letters.executed + of_.letters.held) file.refuse("has another number of letters than it counts");
         for (std::size_t i = 0; i < run.awaited.size(); i++) awaited_.emplace(run.awaited[i].before, i);
         for (const named_letter &one : named_) settle(one, is_here, file);
@@ -112,7 +114,7 @@ private:
             if (is_element) {
                 if (len < 4) file.refuse("is damaged: an element is too short");
                 const std::uint32_t index = pup::detail::read_word<std::uint32_t>(bytes.data());
-                is_needed = index >= of_.n || is_here(index);
+                is_needed = index >= of_.all.size() || is_here(index);
                 if (is_needed) {
                     bytes.resize(len);
                     file.read(at + begin, bytes.data() + begin, len - begin);
@@ -137,7 +139,7 @@ private:
         case record::head: {
             std::array<std::uint32_t, 4> of{};
             p(of);
-            if (of != std::array<std::uint32_t, 4>{pe, of_.pes, of_.n, of_.round}) file.refuse("is of another checkpoint");
+            if (of != std::array<std::uint32_t, 4>{pe, of_.pes, of_.all.size(), of_.round}) file.refuse("is of another checkpoint");
             return;
         }
         case record::element: return take_element(p, is_needed, file, unpack);
@@ -154,7 +156,7 @@ private:
         }
         case record::awaited: {
             awaited_fold one;
-            p(one.key, one.before.pe, one.before.number);
+            p(one.fold, one.before.pe, one.before.number);
             run.awaited.push_back(std::move(one));
             return;
         }
@@ -164,7 +166,7 @@ private:
             return;
         case record::whole: {
             whole_fold one;
-            p(one.of.pe, one.of.number, one.key);
+            p(one.of.pe, one.of.number, one.fold);
             one.value.resize(p.left());
             p.raw(one.value.data(), one.value.size());
             run.wholes.push_back(std::move(one));
@@ -178,7 +180,7 @@ private:
     {
         std::uint32_t index = 0;
         p(index);
-        if (index >= of_.n || seen_[index]) file.refuse("is damaged: an element is none, or is there twice");
+        if (index >= of_.all.size() || seen_[index]) file.refuse("is damaged: an element is none, or is there twice");
         seen_[index] = 1;
         elements_++;
         if (!is_needed) return;
@@ -197,7 +199,7 @@ private:
     {
         named_letter one;
         p(one.flags, one.place, one.to);
-        if (one.to >= of_.n || one.place >= of_.types || one.flags > 3) file.refuse("has a letter that is none");
+        if (one.to >= of_.all.size() || one.place >= of_.types[of_.all.kind(one.to)] || one.flags > 3) file.refuse("has a letter that is none");
         letters_++;
         if (one.flags & letter_record::has_ticket) {
             p(one.its.pe, one.its.number);

@@ -13,7 +13,7 @@ namespace detail {
 // their parts.
 class saver {
 public:
-    saver(const settings &how, std::uint32_t pes, std::uint32_t n, std::uint32_t before) : how_(how), pes_(pes), n_(n), before_(before)
+    saver(const settings &how, std::uint32_t pes, const chain &of, std::uint32_t before) : how_(how), pes_(pes), all_(of), before_(before)
     {
         if (!is_on()) return;
         // The files of the checkpoint that stands are not written over.
@@ -32,7 +32,7 @@ public:
         if (!is_open_ && (before_ + next.round) % how_.checkpoint_every == 0) {
             open_ = manifest();
             open_.round = before_ + next.round;
-            open_.n = n_;
+            open_.all = all_;
             open_.pes = pes_;
             open_.slot = 3 - slot_;
             open_.results = next.results;
@@ -61,7 +61,7 @@ public:
             if (++count_ != pes_) return;
         }
         // No PE writes anything of it any more.
-        if (elements_ != n_ || open_.letters.posted != open_.letters.executed + open_.letters.held) {
+        if (elements_ != all_.size() || open_.letters.posted != open_.letters.executed + open_.letters.held) {
             throw run_fault(fault_kind::mismatch, "a checkpoint does not have all letters and elements");
         }
         write();
@@ -98,7 +98,9 @@ private:
     }
 
     const settings &how_;
-    const std::uint32_t pes_, n_, before_;
+    const std::uint32_t pes_;
+    const chain all_;
+    const std::uint32_t before_;
     std::mutex mutex_;
     manifest open_; // the one that is being written
     bool is_open_ = false, is_first_ = true;

@@ -16,8 +16,8 @@ namespace detail {
 class field {
 public:
     // The rounds before the first one were so many.
-    field(const settings &how, std::uint32_t pes, std::uint32_t n, std::uint32_t before = 0)
-        : how_(how), folds_(n), board_(how, pes, n, before), saver_(how, pes, n, before), boxes_(pes), question_(pes)
+    field(const settings &how, std::uint32_t pes, const chain &of, std::uint32_t before = 0)
+        : how_(how), folds_(of), board_(how, pes, of, before), saver_(how, pes, of, before), boxes_(pes), question_(pes)
     {
         for (std::uint32_t pe = 0; pe < pes; pe++) boxes_[pe] = std::make_unique<box>(pes);
         ended_ = board_.all_finished();
@@ -58,20 +58,20 @@ public:
         const std::lock_guard<std::mutex> lock(folds_mutex_);
         told_++;
         for (share_of_fold &one : shares) {
-            folds_.take(one, [this](std::uint32_t pe, const tezgumi::folded &whole) {
+            folds_.take(one, [this](std::uint32_t pe, const fold_name &name, const tezgumi::folded &whole) {
                 auto packed = std::make_shared<pup::bytes>();
                 pup::pack(whole, *packed);
-                boxes_[pe]->folded.emplace_back(whole.key, std::move(packed));
+                boxes_[pe]->folded.emplace_back(name, std::move(packed));
                 boxes_[pe]->folds_there++;
             });
         }
     }
-    bool folded(std::uint32_t me, std::uint64_t &key, beside &whole)
+    bool folded(std::uint32_t me, fold_name &of, beside &whole)
     {
         box &at = *boxes_[me];
         if (at.folds_there.load() == 0) return false;
         const std::lock_guard<std::mutex> lock(folds_mutex_);
-        key = at.folded.front().first;
+        of = at.folded.front().first;
         whole = std::move(at.folded.front().second);
         at.folded.pop_front();
         at.folds_there--;
@@ -213,7 +213,7 @@ private:
         std::mutex mutex;
         std::deque<std::pair<std::uint32_t, batch>> batches;
         std::atomic<std::size_t> count{0}, folds_there{0};
-        std::deque<std::pair<std::uint64_t, beside>> folded; // what folds came to, under the lock of all
+        std::deque<std::pair<fold_name, beside>> folded; // what folds came to, under the lock of all
         std::vector<std::atomic<std::uint32_t>> outstanding; // of each PE that sends here
     };
 
@@ -260,7 +260,7 @@ public:
     void took(std::uint32_t from) override { field_.took(me_, from); }
     void report(std::vector<note> &notes) override { field_.report(notes, log); }
     void contribute(std::vector<share_of_fold> &shares) override { field_.contribute(shares); }
-    bool folded(std::uint64_t &key, beside &whole) override { return field_.folded(me_, key, whole); }
+    bool folded(fold_name &of, beside &whole) override { return field_.folded(me_, of, whole); }
     std::shared_ptr<const decision> decided(std::uint32_t after) override { return field_.decided(after); }
     bool ended() override { return field_.ended(); }
     void fail(const fault &met) override { field_.fail(met); }

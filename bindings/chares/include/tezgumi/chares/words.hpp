@@ -95,6 +95,7 @@ struct fault {
     std::uint32_t pe = 0; // the PE, or the rank, that met it
     std::uint32_t element = no_element; // the element whose handler met it
     std::string what; // in words
+    std::string name; // of that element, in a run of several kinds or dimensions
 
     explicit operator bool() const { return kind != fault_kind::none; }
     const char *word() const { return fault_word(kind); }
@@ -103,7 +104,7 @@ struct fault {
         std::string line = word();
         if (kind == fault_kind::none) return line;
         line += " on PE " + std::to_string(pe);
-        if (element != no_element) line += ", element " + std::to_string(element);
+        if (element != no_element) line += ", " + (name.empty() ? "element " + std::to_string(element) : name);
         if (!what.empty()) line += ": " + what;
         return line;
     }
@@ -284,6 +285,8 @@ private:
 
 // What an element contributes to a round, in order.
 using contributions = std::vector<contribution>;
+// What the contributions of a round came to, of each kind of elements.
+using round_results = std::vector<contributions>;
 
 // What all elements contributed to one fold came to, as a message: it stands among the messages of a chare that contributes to such.
 struct folded {
@@ -379,6 +382,8 @@ struct note {
     void pup(pup::er &p) { p(finished, what, index, round, pe, load, bytes, given); }
 };
 
+// A fold that waits for no round: the kind of its elements, and the key.
+using fold_name = std::pair<std::uint32_t, std::uint64_t>;
 // What an element on a PE contributes to a fold that waits for no round; or what tells of elements that come and go.
 struct share_of_fold {
     change what = change::none;
@@ -396,7 +401,7 @@ struct share_of_fold {
 struct decision {
     std::uint32_t round = 0;
     std::vector<std::uint32_t> cuts, names;
-    contributions results;
+    round_results results;
     std::uint32_t saved = 0, slot = 0;
 
     void pup(pup::er &p) { p(round, cuts, names, results, saved, slot); }
@@ -404,7 +409,8 @@ struct decision {
 
 // What a PE has written of a checkpoint: so many bytes, elements and letters; and its letters up to then.
 struct part_note {
-    std::uint32_t round = 0, pe = 0, types = 0; // and how many types of messages the chare has
+    std::uint32_t round = 0, pe = 0;
+    std::vector<std::uint32_t> types; // of each kind of chares: how many types of messages it has
     std::uint64_t bytes = 0, sum = 0, elements = 0, letters = 0;
     std::uint64_t posted = 0, executed = 0, failed = 0;
 

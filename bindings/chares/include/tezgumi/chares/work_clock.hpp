@@ -6,8 +6,8 @@
 
 #include <time.h>
 
-#include <array>
 #include <chrono>
+#include <vector>
 
 namespace tezgumi {
 namespace detail {
@@ -18,8 +18,9 @@ class work_clock {
 public:
     using point = std::chrono::steady_clock::time_point;
     static constexpr std::size_t resumption = 127; // the kind of what goes on after a round; the others are types of messages
+    static constexpr std::size_t kinds = 128; // of the handlers of one kind of chares, behind which stand those of the next
 
-    explicit work_clock(clock_kind how) : how_(how) {}
+    explicit work_clock(clock_kind how, std::size_t chares = 1) : how_(how), names_work_(chares * kinds) {}
 
     point look() { return now_ = std::chrono::steady_clock::now(); }
     point now() const { return now_; } // when it was read last
@@ -50,7 +51,7 @@ private:
     }
 
     const clock_kind how_;
-    std::array<bool, 128> names_work_{}; // of each kind: whether its last handler named its work
+    std::vector<std::uint8_t> names_work_; // of each kind: whether its last handler named its work
     std::size_t kind_ = resumption;
     bool by_processor_ = false;
     point now_{}, start_{};

@@ -20,8 +20,8 @@ public:
     // A run that is carried on begins with what is in `from`.
     worker(link &carrier, const settings &how, elements &objects, restored_run *from = nullptr, bool has_crew = false)
         : link_(carrier), how_(how), objects_(objects), out_(objects.out), me_(out_.pe), pes_(out_.pes), n_(out_.n), room_(n_), outbound_(how, pes_),
-          held_own_(how.batch), held_others_(how.batch), unclaimed_(how.batch), arriving_(how.batch), bodiless_(how.batch), clock_(how.clock),
-          patience_(pes_), bodies_(pes_), places_(n_), has_crew_(has_crew), cuts_(how, me_, pes_, n_, from)
+          held_own_(how.batch), held_others_(how.batch), unclaimed_(how.batch), arriving_(how.batch), bodiless_(how.batch),
+          clock_(how.clock, out_.all.kinds()), patience_(pes_), bodies_(pes_), places_(n_), has_crew_(has_crew), cuts_(how, me_, pes_, out_.all, from)
     {
         out_.round = cuts_.before();
         out_.is_saved = cuts_.is_on();
@@ -458,11 +458,11 @@ protected:
     // What folds came to goes into the letters that wait for it. Whether there was any.
     bool take_folds()
     {
-        std::uint64_t key = 0;
+        fold_name of;
         beside whole;
         bool did = false;
-        for (; link_.folded(key, whole); did = true) {
-            for (arrival &one : bodiless_.take(bodies_.fill(key, whole))) revived_.push_back(std::move(one));
+        for (; link_.folded(of, whole); did = true) {
+            for (arrival &one : bodiless_.take(bodies_.fill(of, whole))) revived_.push_back(std::move(one));
         }
         if (did) empty_outbox();
         return did;
@@ -522,7 +522,7 @@ protected:
     template <class F> void handle(tools &with, std::uint32_t index, slot &at, std::size_t kind, F &&handler)
     {
         objects_.said_by(index).begin();
-        if (objects_.restores()) {
+        if (objects_.restores(index)) {
             with.copy.clear();
             pup::er p(with.copy);
             guarded(index, [&] { objects_.pack(index, p); });
@@ -531,11 +531,11 @@ protected:
         with.kind = kind;
         with.has_failed = false;
         if (trace_) with.began = time_trace::now();
-        with.clock.start(kind);
+        with.clock.start(with.out.kind * work_clock::kinds + kind);
         try {
             guarded(index, handler);
         } catch (const run_fault &met) {
-            if (!objects_.restores() || met.kind == fault_kind::memory) throw;
+            if (!objects_.restores(index) || met.kind == fault_kind::memory) throw;
             pup::er p(with.copy.data(), with.copy.size());
             guarded(index, [&] { objects_.unpack(index, p); });
             with.out.begin(index);
@@ -722,8 +722,8 @@ protected:
     // An object comes to its index, where it is to start.
     void insert(std::uint32_t index, slot &at, const addressed &of)
     {
-        if (at.exists) throw run_fault(fault_kind::taken, "element " + std::to_string(index) + " is inserted, and there is one", index);
-        if (at.finished) throw run_fault(fault_kind::taken, "element " + std::to_string(index) + " is inserted where one has finished", index);
+        if (at.exists) throw run_fault(fault_kind::taken, out_.all.name(index) + " is inserted, and there is one", index);
+        if (at.finished) throw run_fault(fault_kind::taken, out_.all.name(index) + " is inserted where one has finished", index);
         collect_notes();
         guarded(index, [&] { objects_.insert(index, of.from, of.len); });
         absent_here_--;
@@ -888,25 +888,27 @@ protected:
     void begin_folds()
     {
         if (!cuts_.begin_folds([this](const share_of_fold &whole) { send_whole(whole); })) return;
-        for (const whole_fold &one : cuts_.wholes()) fill(one.key, cuts_.now(one.of), std::make_shared<const pup::bytes>(one.value));
+        for (const whole_fold &one : cuts_.wholes()) fill(one.fold, cuts_.now(one.of), std::make_shared<const pup::bytes>(one.value));
         empty_outbox();
     }
     void send_whole(const share_of_fold &whole)
     {
         auto packed = std::make_shared<pup::bytes>();
         pup::pack(whole.of, *packed);
-        std::uint8_t message[ticket_bytes + 8] = {5};
+        const fold_name name = out_.all.fold_of(whole);
+        std::uint8_t message[parcel::whole_bytes] = {5};
         pup::detail::write_word<std::uint32_t>(message + 1, whole.pe);
         pup::detail::write_word<std::uint64_t>(message + 5, whole.number);
-        pup::detail::write_word<std::uint64_t>(message + ticket_bytes, whole.of.key);
+        pup::detail::write_word<std::uint32_t>(message + parcel::fold_at, name.first);
+        pup::detail::write_word<std::uint64_t>(message + parcel::fold_at + 4, name.second);
         parcel next;
         next.message = message;
         next.len = sizeof message;
         put(whole.pe, next, packed);
     }
-    void fill(std::uint64_t key, const ticket &of, const beside &bytes)
+    void fill(const fold_name &fold, const ticket &of, const beside &bytes)
     {
-        bodies_.fill(key, of, bytes);
+        bodies_.fill(fold, of, bytes);
         for (arrival &one : bodiless_.take(of)) revived_.push_back(std::move(one));
     }
     // A parcel that is this header's own.
@@ -920,8 +922,9 @@ protected:
             pup::unpack(of, next.object(), next.object_len());
             cuts_.take(std::move(of), [this](const share_of_fold &whole) { send_whole(whole); });
         } else {
-            const std::uint64_t key = pup::detail::read_word<std::uint64_t>(next.message + ticket_bytes);
-            fill(key, ticket_in(next.message), next.kept());
+            const std::uint8_t *const name = next.message + parcel::fold_at;
+            const fold_name fold(pup::detail::read_word<std::uint32_t>(name), pup::detail::read_word<std::uint64_t>(name + 4));
+            fill(fold, ticket_in(next.message), next.kept());
         }
     }
 
@@ -988,7 +991,7 @@ protected:
     void end_cut()
     {
         if (!cuts_.is_complete()) return;
-        link_.saved(cuts_.end(static_cast<std::uint32_t>(objects_.types())));
+        link_.saved(cuts_.end(objects_.types()));
     }
 
     // ---- Rounds ----
@@ -1250,7 +1253,7 @@ protected:
     // Rounds: where each element is, by the last decision, and those that start, go on or wait.
     std::vector<std::uint32_t> places_;
     std::uint32_t round_ = 0;
-    contributions results_, nothing_;
+    round_results results_, nothing_;
     std::deque<std::uint32_t> due_;
     std::vector<std::uint32_t> waiting_;
     std::vector<note> notes_;
