@@ -1,5 +1,5 @@
-// Features of a run that are used together: elements of several kinds that come and go, runs of several kinds that are saved and carried on, each
-// with several threads in a PE too; and what is refused together. On 1 to 4 PEs as threads, or on the ranks of MPI.
+// Features of a run that are used together: elements of several kinds that come and go, runs of several kinds, or of elements that come and go, that
+// are saved and carried on; each with several threads in a PE too; and what is refused together. On 1 to 4 PEs as threads, or on the ranks of MPI.
 //
 //     together FOLDER        it writes its files into the folder
 #include "saved.hpp"
@@ -348,45 +348,209 @@ void one_kind()
     expect(at("a kind of two dimensions is carried on"), again.is_good() && again.collect(found) == right);
 }
 
-// ---- What is refused together ----
+// ---- Elements that come and go in a run that is saved ----
 
-// Elements that come or go in a run that is saved: one is missing as it begins, one goes, or one comes.
-struct changer : tezgumi::chare {
-    using messages = tezgumi::messages<int>;
-    int kind = 0;
-    void pup(pup::er &p) { p(kind); }
-    void resume(tezgumi::round r, tezgumi::array<changer> &all)
+constexpr std::uint32_t guests_n = 17;
+// Whether element i takes part in round r, which is 1 for the first. The first one always does.
+bool is_in(std::uint32_t i, std::uint32_t r) { return i == 0 || (i * 7 + r * 3) % 5 < 2 || (i + r) % 6 == 0; }
+// The last round before this one in which it does, or 0.
+std::uint32_t last_in(std::uint32_t i, std::uint32_t before)
+{
+    for (before--; before > 0 && !is_in(i, before);) before--;
+    return before;
+}
+// How many letters wait for it as it comes in this round: one of each round in which it was missing, but for the first of these.
+std::uint32_t waiting(std::uint32_t i, std::uint32_t born)
+{
+    const std::uint32_t gone = last_in(i, born) + 2;
+    return born > gone ? born - gone : 0;
+}
+double part(std::uint32_t i, std::uint32_t r) { return 1.0 / (3 + i + 7 * static_cast<double>(r)); }
+
+// In each round others are there. Those that are contribute to it, once they have heard of the first one and have what waited for them.
+struct guests : tezgumi::chare {
+    using messages = tezgumi::messages<std::uint32_t, std::string, std::vector<double>>;
+    std::uint32_t born_in = 1, now = 1, heard = 0, waited = 0, all_heard = 0;
+    bool is_right = true, is_ready = false;
+    std::vector<double> ballast;
+    void pup(pup::er &p) { p(born_in, now, heard, waited, all_heard, is_right, is_ready, ballast); }
+    void resume(tezgumi::round r, tezgumi::array<guests> &all)
     {
-        work(1);
-        if (r == 3 && kind == 1 && all.me() == 2) return destroy();
-        if (r == 3 && kind == 2 && all.me() == 2) all[1].insert(changer());
-        if (r == 5) return finish();
+        work(1 + (all.me() + 5 * r) % all.size() % 4 * 100);
+        if (r > 0) {
+            double sum = 0;
+            for (std::uint32_t i = 0; i < all.size(); i++) sum += is_in(i, r) ? part(i, r) : 0;
+            is_right = is_right && r == now && all.result<double>() == sum;
+            if (exits_in != 0 && r == exits_in && all.me() == 0) return exit(r);
+            if (r == rounds) return finish();
+            now = r + 1;
+            if (!is_in(all.me(), now)) return destroy();
+        }
+        ballast.resize(3 * all.me() + 11 * now);
+        if (all.me() == 0) next(all);
+        is_ready = true;
+        ready(all);
+    }
+    void next(tezgumi::array<guests> &all)
+    {
+        if (now + 2 < rounds) all.send(std::vector<double>(now % 2 == 0 ? 3u : 400u, double(now)));
+        for (std::uint32_t i = 1; i < all.size(); i++) {
+            if (now > 1 && !is_in(i, now) && !is_in(i, now - 1)) all[i].send(std::string(now % 2 == 0 ? 10 : 3000, 'w'));
+            if (!is_in(i, now)) continue;
+            if (now > 1 && !is_in(i, now - 1)) {
+                guests one;
+                one.born_in = one.now = now;
+                one.ballast.resize(200 * (i % 3));
+                all[i].insert(one);
+            }
+            all[i].send(now);
+        }
+    }
+    void receive(std::uint32_t r, tezgumi::array<guests> &all)
+    {
+        is_right = is_right && (r == now || r == now + 1);
+        heard++;
+        ready(all);
+    }
+    void receive(const std::string &, tezgumi::array<guests> &all)
+    {
+        waited++;
+        ready(all);
+    }
+    void receive(const std::vector<double> &) { all_heard++; }
+    void ready(tezgumi::array<guests> &all)
+    {
+        if (!is_ready || (all.me() != 0 && (heard < now - born_in + 1 || waited < waiting(all.me(), born_in)))) return;
+        is_right = is_right && waited == waiting(all.me(), born_in);
+        is_ready = false;
+        contribute(tezgumi::sum(part(all.me(), now)));
         at_sync();
     }
-    void receive(int) {}
 };
+bool is_right(const launch::outcome<guests> &end)
+{
+    std::uint64_t there = 0, held = 0;
+    for (std::uint32_t i = 0; i < guests_n; i++) {
+        const std::uint32_t gone = last_in(i, rounds + 1);
+        there += is_in(i, rounds) ? 1 : 0;
+        held += rounds > gone + 1 ? rounds - gone - 1 : 0;
+    }
+    bool good = end.is_good() && end.letters.held == held && end.letters.posted == end.letters.executed + held;
+    const auto found = end.collect_by_index([](const guests &of) { return of.is_right; });
+    if (tests::prints()) good = good && found.size() == there;
+    for (const auto &one : found) good = good && one.second && is_in(one.first, rounds);
+    if (!good && tests::prints()) std::cerr << end.met.text() << " held " << end.letters.held << " of " << held << " there " << found.size() << " of " << there << std::endl;
+    return good;
+}
+
+// The first one is at sync, and inserts the others as messages come to it. So elements are on their way as the run is saved.
+struct latecomers : tezgumi::chare {
+    using messages = tezgumi::messages<std::uint32_t>;
+    static constexpr std::uint32_t last_round = 16, all_n = 12;
+    std::uint32_t last = 0;
+    bool is_right = true;
+    std::vector<std::uint8_t> ballast;
+    void pup(pup::er &p) { p(last, is_right, ballast); }
+    void resume(tezgumi::round r, tezgumi::array<latecomers> &all)
+    {
+        // Rounds come one after the other. What is inserted may start in any of them.
+        is_right = is_right && (r == 0 || last == 0 || r == last + 1);
+        last = r;
+        work(1 + all.me());
+        if (exits_in != 0 && r == exits_in && all.me() == 0) return exit(r);
+        ballast.resize(all.me() % 2 == 0 ? 10 : 2000);
+        if (r == last_round) return finish();
+        contribute(tezgumi::sum(1u));
+        at_sync();
+        if (all.me() == 0 && r + 2 < last_round && r + 1 < all.size()) all[0].send(r + 1);
+        if (all.me() != 0 && r % 5 == 3) all.self().send(1000u);
+    }
+    void receive(std::uint32_t which, tezgumi::array<latecomers> &all)
+    {
+        if (which == 1000) return destroy();
+        latecomers one;
+        one.ballast.resize(which % 2 == 0 ? 10 : 2000);
+        all.insert(which, one);
+    }
+};
+bool is_right(const launch::outcome<latecomers> &end)
+{
+    bool good = end.is_good() && end.letters.posted == end.letters.executed + end.letters.held;
+    const auto found = end.collect_by_index([](const latecomers &of) { return of.is_right && of.last == latecomers::last_round; });
+    if (tests::prints()) good = good && found.count(0) == 1;
+    for (const auto &one : found) good = good && one.second;
+    if (!good && tests::prints()) std::cerr << end.met.text() << std::endl;
+    return good;
+}
+
+// A run is ended in each of its rounds, and carried on to its end.
+template <class C, class Begin> void changing(const std::string &name, std::uint32_t last, Begin &&begin)
+{
+    const std::uint32_t before_pes = pes, before_threads = threads;
+    std::uint32_t saved = 0, turn = 0;
+    exits_in = 0;
+    bool good = is_right(begin(usual()));
+    for (std::uint32_t r = 2; r < last; r++) {
+        tezgumi::settings how = usual();
+        how.checkpoint = fresh("changing");
+        how.moves_all = r % 3 == 0;
+        if (r % 2 == 0) how.batch = 100;
+        exits_in = r;
+        const auto end = begin(how);
+        exits_in = 0;
+        good = good && end.is_good() && end.has_exited() && end.saved <= r;
+        if (!end.is_good() && tests::prints()) std::cerr << end.met.text() << std::endl;
+        if (end.saved == 0) continue;
+        saved++;
+        const auto all = others();
+        std::tie(pes, threads) = all[turn++ % all.size()];
+        tezgumi::settings carried = usual();
+        carried.moves_all = r % 3 == 1;
+        good = is_right(carried_on<C>(how.checkpoint, carried)) && good;
+        pes = before_pes;
+        threads = before_threads;
+    }
+    expect(at(name + " are carried on from " + std::to_string(saved) + " of " + std::to_string(last - 2) + " rounds"), good && saved > 0);
+}
 void changes()
 {
-    const std::string words = "elements come and go in no run that is saved or carried on";
-    for (int kind = 0; kind < 3; kind++) {
-        tezgumi::settings how = usual();
-        how.checkpoint = fresh("changes");
-        const auto end = launch::run<changer>(how, 4, [kind](std::uint32_t i) {
-            changer one;
-            one.kind = kind;
-            return kind == 0 && i == 2 ? std::optional<changer>() : one;
-        });
-        const char *const names[] = {"an element is missing", "an element goes", "an element comes"};
-        const bool good = end.met.kind == tezgumi::fault_kind::input && end.met.element == 2 && end.met.what == words;
-        if (!good && tests::prints()) std::cerr << end.met.text() << std::endl;
-        expect(at(std::string(names[kind]) + " in a run that is saved"), good);
+    changing<guests>("elements that come and go", rounds, [](const tezgumi::settings &how) {
+        return launch::run<guests>(how, guests_n, [](std::uint32_t i) { return is_in(i, 1) ? std::optional<guests>(guests()) : std::nullopt; });
+    });
+    changing<latecomers>("elements that come and go while others are at sync", latecomers::last_round, [](const tezgumi::settings &how) {
+        return launch::run<latecomers>(how, latecomers::all_n, [](std::uint32_t i) { return i == 0 ? std::optional<latecomers>(latecomers()) : std::nullopt; });
+    });
+}
+
+// ---- What is refused together ----
+
+// Folds that wait for no round, where an element goes in a run that is saved.
+struct folder_and_leaver : tezgumi::chare {
+    using messages = tezgumi::messages<tezgumi::folded>;
+    void pup(pup::er &) {}
+    void resume(tezgumi::round r, tezgumi::array<folder_and_leaver> &all)
+    {
+        if (all.me() == 2) return destroy();
+        if (r == 0) contribute(1, tezgumi::sum(1), all);
     }
+    void receive(const tezgumi::folded &) { finish(); }
+};
+void refusals()
+{
     tezgumi::settings how = usual();
+    how.checkpoint = fresh("refused");
+    const auto make = [](std::uint32_t) { return folder_and_leaver(); };
+    const auto end = launch::run<folder_and_leaver>(how, 4, make);
+    const std::string words = "in a run that is saved or carried on, and whose elements come and go, no fold waits for no round";
+    const bool good = end.met.kind == tezgumi::fault_kind::input && end.met.pe == 0 && end.met.what == words;
+    if (!good && tests::prints()) std::cerr << end.met.text() << std::endl;
+    expect(at("folds, elements that go, and a run that is saved"), good && launch::run<folder_and_leaver>(usual(), 4, make).is_good());
+    how.checkpoint.clear();
     how.events = folder + "/events";
     how.threads = 2;
     bool is_refused = false;
     try {
-        launch::run<changer>(how, 4, [](std::uint32_t) { return changer(); });
+        launch::run<folder_and_leaver>(how, 4, make);
     } catch (const std::invalid_argument &met) {
         is_refused = std::string(met.what()).find("events are written down only where a PE has one thread") == 0;
     }
@@ -399,9 +563,10 @@ void all()
         gardens();
         saved();
         one_kind();
+        changes();
     }
     threads = 1;
-    changes();
+    refusals();
 }
 
 } // namespace

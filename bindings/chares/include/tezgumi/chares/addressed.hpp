@@ -16,7 +16,7 @@ struct addressed {
     bool is_beside = false, is_to_all = false, is_element = false, is_call = false;
 
     // Whether it waits for an element, where its index has none.
-    bool waits() const { return !is_to_all && !is_element; }
+    bool waits() const { return !is_to_all && !is_element && !is_call; }
 
     // False where it is no body.
     static bool read(const std::uint8_t *body, std::size_t size, addressed &of)

@@ -180,11 +180,11 @@ public:
         pup::pack(message, *packed);
         put_beside(std::move(packed));
     }
-    // Sends what was packed to the element at this place. Where it throws, the letters of the answer are those that it had.
-    void post(std::uint32_t to)
+    // Sends what was packed to the element at this place. Where it throws, the letters of the answer are those that it had. A ticket has these bits.
+    void post(std::uint32_t to, std::uint64_t bits = 0)
     {
         if (!shared) return add(to);
-        const ticket made = keep(0, 1);
+        const ticket made = keep(bits, 1);
         try {
             add(to);
         } catch (...) {
@@ -253,9 +253,9 @@ public:
     {
         return letters + count <= most_letters && answer.len + count * letter_bytes + bytes <= most_answered;
     }
-    static std::size_t bytes_of(const beside &message) { return message->size() < longest_body ? 1 + message->size() : ticket_bytes; }
-    // A message that is packed.
-    void post_again(std::uint32_t to, std::uint8_t place, const beside &message, bool is_late)
+    static std::size_t bytes_of(const beside &message) { return message->size() < longest_body ? 2 + message->size() : ticket_bytes; }
+    // A message that is packed, or an element: to the one at this place, or to that as one of all.
+    void post_again(std::uint32_t to, std::uint8_t place, const beside &message, bool is_to_all, bool is_late)
     {
         shared.reset();
         body.assign(1, place);
@@ -264,10 +264,12 @@ public:
         } else {
             put_beside(message);
         }
+        if (is_to_all || place == no_message) mark();
+        const std::uint64_t bits = is_to_all ? all_bit : 0;
         if (is_late) {
-            when_quiet([&] { post(to); });
+            when_quiet([&] { post(to, bits); });
         } else {
-            post(to);
+            post(to, bits);
         }
         again++;
     }
@@ -302,7 +304,6 @@ public:
     // Sends an object to a place, where it becomes the element.
     template <class C> void insert(std::uint32_t to, const C &object)
     {
-        if (is_saved) throw run_fault(fault_kind::input, no_changes);
         reserve_one(shares);
         pack(no_message, object);
         mark();
@@ -341,7 +342,6 @@ public:
     const chain all; // elements
     std::uint32_t at = 0, kind = 0, me = 0; // the place of the element whose handler this is, its kind, and its number in that
     std::uint32_t round = 0; // the last that its PE knows
-    bool is_saved = false; // whether the run is saved or carried on, so that no element comes or goes
     std::uint64_t letters = 0;
     std::uint64_t again = 0, calls = 0; // of these: letters of a checkpoint, and of the header's own
     std::vector<std::uint32_t> receivers; // of these letters, in order

@@ -31,7 +31,6 @@ private:
         desk(const settings &how, const outgoing &of, std::uint32_t thread) : number(thread), out(of.pe, of.pes, of.all), clock(how.clock, of.all.kinds())
         {
             out.held = &bodies;
-            out.is_saved = of.is_saved;
             out.number_tickets(thread, how.threads + 1);
         }
         const std::uint32_t number;
@@ -146,7 +145,7 @@ private:
             at.has_to_start = false;
         }
         if (owes) at.owes = reports_;
-        owes_ = owes_ || owes || !notes_.empty();
+        owes_ = owes_ || owes;
         at.is_busy = false;
         running_--;
         if (at.is_due) due_.push_front(index);
@@ -260,7 +259,7 @@ private:
             return ++parks_ == most_parks;
         }
         const addressed of_next = read(index, next.body(), next.body_len());
-        if ((!at.exists && !of_next.is_element) || (of_next.is_call && cuts_.has_letters(index))) {
+        if ((!at.exists && !of_next.is_element) || (of_next.is_call && (cuts_.has_letters(index) || !at.is_resumed()))) {
             take_in(next);
             return true;
         }
@@ -290,6 +289,7 @@ private:
     {
         const bool did = did_;
         clock_.look();
+        empty_outbox(); // bodies follow their letters that have come by parcels alone
         did_ = hand_in();
         if (flush(!did)) did_ = true;
         give_way(did || did_ || running_ != 0);
@@ -313,7 +313,7 @@ private:
     }
     bool hand_in()
     {
-        if (!owes_) return false;
+        if (!owes_ && notes_.empty()) return false;
         owes_ = false;
         reports_++;
         return report();

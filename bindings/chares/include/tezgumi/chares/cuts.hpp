@@ -37,8 +37,11 @@ public:
     void begin(std::uint32_t index, slot &at) const
     {
         if (!from_) return;
-        at.finished = from_->finished[index] != 0;
-        at.meanwhile = from_->meanwhile[index];
+        const saved_element &of = from_->elements[index];
+        at.finished = of.finished;
+        at.early = of.early;
+        at.meanwhile = of.meanwhile;
+        at.load = of.load;
     }
 
     // ---- Letters that are posted again ----
@@ -49,25 +52,28 @@ public:
         if (!from_) return false;
         return posted_of_[index] < from_->letters[index].size() || (index == 0 && awaited_ < from_->awaited.size());
     }
-    // Posts as many as fit, with a letter of the header's own behind them.
-    void post(std::uint32_t index, outgoing &out)
+    // Posts as many as fit, and says how many of these are elements. A letter of the header's own is to follow.
+    std::size_t post(std::uint32_t index, outgoing &out)
     {
+        std::size_t elements = 0;
         constexpr std::size_t call_bytes = 1;
         for (; index == 0 && awaited_ < from_->awaited.size(); awaited_++) {
             const awaited_fold &one = from_->awaited[awaited_];
             if (!out.has_room(one.to.size() + 1, one.to.size() * ticket_bytes + call_bytes)) {
                 if (out.letters == 0) throw run_fault(fault_kind::toolong, "the letters that wait for a fold take more than 2^20 bytes together");
-                return;
+                return elements;
             }
             tickets_.emplace(one.before, out.post_awaited(one.fold, one.place, one.to));
         }
         std::vector<saved_letter> &letters = from_->letters[index];
         for (std::size_t &at = posted_of_[index]; at < letters.size(); at++) {
             saved_letter &one = letters[at];
-            if (!out.has_room(2, outgoing::bytes_of(one.message) + call_bytes)) return;
-            out.post_again(index, one.place, one.message, one.is_late);
+            if (!out.has_room(2, outgoing::bytes_of(one.message) + call_bytes)) return elements;
+            out.post_again(index, one.place, one.message, one.has(letter_flags::is_to_all), one.has(letter_flags::is_late));
+            elements += one.has(letter_flags::is_element) ? 1 : 0;
             one.message.reset();
         }
+        return elements;
     }
     // An answer was taken; and a letter of the header's own is executed.
     void posted(const outgoing &out)
@@ -108,7 +114,7 @@ public:
         std::sort(from_->shares.begin(), from_->shares.end(), [](const share_of_fold &a, const share_of_fold &b) { return a.count < b.count; });
         for (share_of_fold &one : from_->shares) {
             if (one.index >= n_) throw run_fault(fault_kind::mismatch, "the checkpoint has what no element contributes");
-            if (all_.number(one.index) == 0) {
+            if (one.what == change::none && all_.number(one.index) == 0) {
                 const ticket its = now(ticket{one.pe, one.number});
                 one.pe = its.pe;
                 one.number = its.number;

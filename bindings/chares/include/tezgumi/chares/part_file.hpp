@@ -11,23 +11,26 @@
 namespace tezgumi {
 namespace detail {
 
+// What stands at an index, but for its object.
+struct saved_element {
+    bool exists = true, finished = false, early = false;
+    std::uint64_t meanwhile = 0, load = 0;
+
+    void pup(pup::er &p) { p(exists, finished, early, meanwhile, load); }
+};
+
 enum class record : std::uint8_t { head = 1, element, letters, body, awaited, share, whole, end };
 
-// A letter, as records have it.
-struct letter_record {
-    static constexpr std::uint8_t is_late = 1, has_ticket = 2;
-    std::uint8_t flags = 0, place = 0;
-    std::uint32_t to = 0;
-    ticket its; // where several letters name its body
-    const std::uint8_t *at = nullptr;
-    std::size_t len = 0;
+// What records say of a letter: it leaves once nothing is to be done, several name its body, it is one for all, or it is an element.
+struct letter_flags {
+    static constexpr std::uint8_t is_late = 1, has_ticket = 2, is_to_all = 4, is_element = 8;
 };
 
 // What a PE writes of a checkpoint.
 class part_file {
 public:
     part_file(const std::string &prefix, std::uint32_t slot, std::uint32_t pe, std::uint32_t pes, std::uint32_t n, std::uint32_t round)
-        : path_(part_path(prefix, slot, pe)), file_(path_)
+        : file_(part_path(prefix, slot, pe))
     {
         note_.pe = pe;
         begin_file(buffer_, part_mark);
@@ -37,13 +40,13 @@ public:
     }
     part_file(const part_file &) = delete;
     part_file &operator=(const part_file &) = delete;
-    const std::string &path() const { return path_; }
 
-    template <class F> void element(std::uint32_t index, bool finished, std::uint64_t meanwhile, F &&pack)
+    // What stands at an index, and its object, where it has one.
+    template <class F> void element(std::uint32_t index, saved_element of, F &&pack)
     {
         write(record::element, [&](pup::er &p) {
-            p(index, finished, meanwhile);
-            pack(p);
+            p(index, of);
+            if (of.exists) pack(p);
         });
         note_.elements++;
     }
@@ -121,11 +124,14 @@ private:
     {
         addressed about;
         if (!addressed::read(of.body(), of.body_len(), about)) throw run_fault(fault_kind::mismatch, "a letter without a message is saved", of.receiver());
-        if (about.is_call || about.is_element) throw run_fault(fault_kind::mismatch, "a letter of the header's own is saved", of.receiver());
+        if (about.is_call) throw run_fault(fault_kind::mismatch, "a letter of the header's own is saved", of.receiver());
         const bool names = about.is_beside && !of.has_extra() && of.its_ticket().is_shared();
-        const std::uint8_t late = is_late ? letter_record::is_late : 0, shared = names ? letter_record::has_ticket : 0;
+        std::uint8_t flags = 0, place = static_cast<std::uint8_t>(about.place);
+        if (is_late) flags |= letter_flags::is_late;
+        if (names) flags |= letter_flags::has_ticket;
+        if (about.is_to_all) flags |= letter_flags::is_to_all;
+        if (about.is_element) flags |= letter_flags::is_element;
         pup::er p = pup::er::onto(letters_);
-        std::uint8_t flags = late | shared, place = static_cast<std::uint8_t>(about.place);
         std::uint32_t to = of.receiver();
         p(flags, place, to);
         if (names) {
@@ -156,7 +162,6 @@ private:
         letters_.clear();
     }
 
-    const std::string path_;
     written_file file_;
     pup::bytes buffer_, letters_;
     std::unordered_set<ticket, ticket_hash> bodies_; // that it has

@@ -8,9 +8,10 @@ namespace tezgumi {
 namespace detail {
 
 struct saved_letter {
-    std::uint8_t place = 0;
-    bool is_late = false;
+    std::uint8_t flags = 0, place = 0;
     beside message;
+
+    bool has(std::uint8_t flag) const { return (flags & flag) != 0; }
 };
 struct awaited_fold {
     fold_name fold;
@@ -30,8 +31,7 @@ struct restored_run {
     chain all = 0;
     round_results results;
     account before; // the letters up to then
-    std::vector<std::uint8_t> finished; // of each element
-    std::vector<std::uint64_t> meanwhile;
+    std::vector<saved_element> elements; // of each index
     std::vector<std::vector<saved_letter>> letters; // for each element
     std::vector<awaited_fold> awaited;
     std::vector<share_of_fold> shares;
@@ -47,8 +47,7 @@ public:
         run.all = of_.all;
         run.results = of_.results;
         run.before = account{of_.letters.posted, of_.letters.executed, 0, of_.letters.failed};
-        run.finished.resize(of_.all.size());
-        run.meanwhile.resize(of_.all.size());
+        run.elements.resize(of_.all.size());
         run.letters.resize(of_.all.size());
         seen_.resize(of_.all.size());
     }
@@ -184,9 +183,8 @@ private:
         seen_[index] = 1;
         elements_++;
         if (!is_needed) return;
-        bool finished = false;
-        p(finished, run.meanwhile[index]);
-        run.finished[index] = finished;
+        p(run.elements[index]);
+        if (!run.elements[index].exists) return;
         try {
             unpack(index, p);
         } catch (const std::bad_alloc &) {
@@ -199,9 +197,10 @@ private:
     {
         named_letter one;
         p(one.flags, one.place, one.to);
-        if (one.to >= of_.all.size() || one.place >= of_.types[of_.all.kind(one.to)] || one.flags > 3) file.refuse("has a letter that is none");
+        if (one.to >= of_.all.size() || one.flags > 15) file.refuse("has a letter that is none");
+        if ((one.flags & letter_flags::is_element) == 0 && one.place >= of_.types[of_.all.kind(one.to)]) file.refuse("has a letter that is none");
         letters_++;
-        if (one.flags & letter_record::has_ticket) {
+        if (one.flags & letter_flags::has_ticket) {
             p(one.its.pe, one.its.number);
             named_.push_back(one);
             return;
@@ -215,7 +214,7 @@ private:
     }
     void add(const named_letter &of, beside message)
     {
-        run.letters[of.to].push_back(saved_letter{of.place, (of.flags & letter_record::is_late) != 0, std::move(message)});
+        run.letters[of.to].push_back(saved_letter{of.flags, of.place, std::move(message)});
     }
     // A letter whose body is one of several, or what a fold comes to.
     template <class Here> void settle(const named_letter &one, Here &&is_here, const read_file &file)

@@ -4,6 +4,7 @@
 
 #include "board.hpp"
 #include "crew.hpp"
+#include "folds.hpp"
 #include "saver.hpp"
 
 #include <atomic>

@@ -16,6 +16,7 @@ inline constexpr std::uint32_t nobody = UINT32_MAX;
 // which waits for each round from the start. An element that comes there is early until it is at sync, or the index goes on after the round.
 struct slot {
     bool waits = false, finished = false, exists = true, early = false;
+    bool has_call = false; // whether a letter of the header's own is on its way, by which it goes on
     std::uint32_t round = 0, waits_for = 0;
     std::uint32_t adds_to = nobody; // the PE to which it went on adding letters, where those were over the limit
     std::uint64_t bytes = 0;

@@ -357,9 +357,6 @@ template <class... T> void tell(const std::function<void(T...)> &of, const typen
     }
 }
 
-// Why an element neither comes nor goes in some runs.
-inline constexpr const char *no_changes = "elements come and go in no run that is saved or carried on";
-
 // What a note or a share tells besides, in runs whose elements come and go.
 enum class change : std::uint8_t {
     none,

@@ -24,7 +24,6 @@ public:
           clock_(how.clock, out_.all.kinds()), patience_(pes_), bodies_(pes_), places_(n_), has_crew_(has_crew), cuts_(how, me_, pes_, out_.all, from)
     {
         out_.round = cuts_.before();
-        out_.is_saved = cuts_.is_on();
         own_.from = me_;
         out_.held = &bodies_.all();
         out_.results = &nothing_;
@@ -135,12 +134,11 @@ protected:
             cuts_.begin(i, *room_[i]);
             due_.push_back(i);
             if (objects_.has(i)) continue;
-            if (cuts_.is_on()) throw run_fault(fault_kind::input, no_changes, i);
             room_[i]->exists = false;
             absent_here_++;
             absent.push_back(changed(change::goes, i));
         }
-        if (!absent.empty()) link_.contribute(absent);
+        if (!absent.empty()) tell_folds(absent);
     }
 
     // ---- A turn ----
@@ -548,27 +546,27 @@ protected:
         if (trace_) with.ended = time_trace::now();
         if (at.waits) at.meanwhile = units < UINT64_MAX - at.meanwhile ? at.meanwhile + units : UINT64_MAX;
         if (so.at_sync && !at.waits) guarded(index, [&] { at.bytes = objects_.size(index); });
-        if (so.destroyed && cuts_.is_on()) throw run_fault(fault_kind::input, no_changes, index);
-        if (so.destroyed) return with.out.end(units, true, false, 0); // its index waits from now on
+        if (so.destroyed) return with.out.end(units, !at.has_call, false, 0); // its index waits from now on, or once it has gone on
         if (at.early) at.load += units;
         with.out.end(at.early ? 0 : units, so.at_sync && !at.early, so.finished, at.bytes);
     }
 
-    // The answer was taken: what the element said holds.
+    // The answer was taken: what it sends is posted, and what the element said holds, where there is one.
     void handled(std::uint32_t index, slot &at)
     {
-        said &so = objects_.said_by(index);
         out_.taken();
         for (const auto &some : out_.late) late_.expect(posted_ + some.first, posted_ + some.second);
         posted_ += out_.letters;
         inside_ += out_.letters;
         cuts_.posted(out_);
-        if (so.exits) link_.exit(index, so.exits);
         for (const auto &one : out_.awaited) bodies_.await(one.first, one.second);
         tell_inserted();
         if (!out_.shares.empty()) contribute(at);
         add_to_outbox(out_.letters, true);
         mark(at);
+        if (!at.exists) return;
+        said &so = objects_.said_by(index);
+        if (so.exits) link_.exit(index, so.exits);
         if (so.destroyed) {
             remove(index, at);
         } else if (so.finished) {
@@ -601,8 +599,9 @@ protected:
     {
         slot &at = here(index);
         addressed of = read(index, body, len);
-        if (!at.exists && of.waits()) return pass_on(index, body, len);
+        if (!at.exists && (of.waits() || (of.is_element && at.has_call))) return pass_on(index, body, len);
         if (of.is_call && cuts_.has_letters(index)) return carry_on(index, at, of);
+        if (of.is_call && !at.is_resumed()) return go_on_quietly(index, at, [&] { executed(index, at, of); });
         const beside longer = take_beside(of, body);
         if (of.is_call) goes_on(at);
         if (of.is_element) insert(index, at, of);
@@ -657,8 +656,7 @@ protected:
         executed_++;
         if (of.is_call) cuts_.called();
         if (of.is_element) inserted(index);
-        if (at.exists) handled(index, at);
-        else out_.taken();
+        handled(index, at);
         if (of.is_call && index == 0) begin_folds();
     }
 
@@ -704,7 +702,8 @@ protected:
         out_.begin(index);
         out_.end(units, at_sync, false, 0);
     }
-    // A letter that was in the hand as its element started and was destroyed by that: it is posted anew, and waits.
+    // A letter that was in the hand as its element started and was destroyed by that, or an element that was there as its index did, which in a run
+    // that is carried on goes on by a letter: it is posted anew, and waits.
     void pass_on(std::uint32_t index, const std::uint8_t *body, std::size_t len)
     {
         out_.begin(index);
@@ -736,7 +735,7 @@ protected:
     {
         notes_.push_back(note_of(change::comes, index, here(index)));
         std::vector<share_of_fold> told(1, changed(change::comes, index));
-        link_.contribute(told);
+        tell_folds(told);
         claim(unclaimed_, index);
     }
     // The last handler inserts elements: no round is decided, and the run does not end, before they have come.
@@ -778,7 +777,7 @@ protected:
             wait(index, at);
         }
         std::vector<share_of_fold> told(1, changed(change::goes, index));
-        link_.contribute(told);
+        tell_folds(told);
     }
     // An index without an element waits for the next round.
     void wait(std::uint32_t index, slot &at)
@@ -791,13 +790,24 @@ protected:
     // An index goes on after a round, or starts, and has no element; or one that came meanwhile, and was not at sync.
     void go_on_quietly(std::uint32_t index, slot &at)
     {
+        go_on_quietly(index, at, [&] {
+            pe_resumes(index, at);
+            out_.taken();
+        });
+        if (index == 0 && at.round == 0) begin_folds();
+    }
+    // By what hands in the answer. One where an element has finished waits for nothing any more; the board is told anew that it has gone.
+    template <class F> void go_on_quietly(std::uint32_t index, slot &at, F &&hands_in)
+    {
+        const bool is_to_wait = !at.exists && !at.finished, has_gone = !at.exists && at.finished && round_ == 0;
         goes_on(at);
-        answer_nothing(index, at.load, !at.exists);
-        pe_resumes(index, at);
-        out_.taken();
+        if (at.exists) objects_.said_by(index).begin();
+        answer_nothing(index, at.load, is_to_wait);
+        hands_in();
         at.early = false;
         at.load = 0;
-        if (!at.exists) wait(index, at);
+        if (is_to_wait) wait(index, at);
+        if (has_gone) notes_.push_back(note_of(change::goes, index, at));
         claim(arriving_, index);
     }
 
@@ -805,8 +815,8 @@ protected:
 
     void resume(std::uint32_t index, slot &at)
     {
-        if (!at.is_resumed()) return go_on_quietly(index, at);
         if (is_to_post(index, at)) return post_first(index, at);
+        if (!at.is_resumed()) return go_on_quietly(index, at);
         goes_on(at);
         out_.results = &results_;
         resume(tools_, index, at);
@@ -816,7 +826,7 @@ protected:
     }
     void goes_on(slot &at) const
     {
-        at.waits = false;
+        at.waits = at.has_call = false;
         at.round = round_;
     }
     void resume(tools &with, std::uint32_t index, slot &at)
@@ -857,13 +867,15 @@ protected:
     }
     void post_again(std::uint32_t index, slot &at)
     {
-        objects_.said_by(index).begin();
+        if (at.exists) objects_.said_by(index).begin();
         out_.begin(index);
-        cuts_.post(index, out_);
+        // The board is told of elements that were on their way.
+        for (std::size_t left = cuts_.post(index, out_); left > 0; left--) notes_.push_back(note_of(change::asks, index, slot()));
         out_.post_call();
         out_.end(at.meanwhile, false, at.finished, 0);
         at.meanwhile = 0;
-        at.waits = true; // so that it is not at sync before its handler
+        at.waits = !at.early; // so that it is not at sync before its handler, and no element comes before its index goes on
+        at.has_call = true;
         at.round = round_;
     }
 
@@ -872,10 +884,16 @@ protected:
     // They are parcels, as letters are: what is contributed goes to PE 0, and what a fold came to from there to the PE of its letters.
     void contribute(slot &at)
     {
-        if (!cuts_.is_on()) return link_.contribute(out_.shares);
-        const std::uint8_t message = 4;
         for (share_of_fold &one : out_.shares) {
-            one.count = ++at.shares;
+            if (one.what == change::none) one.count = ++at.shares;
+        }
+        tell_folds(out_.shares);
+    }
+    void tell_folds(std::vector<share_of_fold> &shares)
+    {
+        if (!cuts_.is_on()) return link_.contribute(shares);
+        const std::uint8_t message = 4;
+        for (const share_of_fold &one : shares) {
             auto packed = std::make_shared<pup::bytes>();
             pup::pack(one, *packed);
             parcel next;
@@ -942,8 +960,15 @@ protected:
         part_file &part = cuts_.begin(next, account{posted_, executed_, 0, failed_});
         for (std::uint32_t i = 0; i < n_; i++) {
             if (!room_[i]) continue;
-            if (!room_[i]->waits) throw run_fault(fault_kind::mismatch, "a round was decided without an element", i);
-            part.element(i, room_[i]->finished, room_[i]->meanwhile, [&](pup::er &p) { guarded(i, [&] { objects_.pack(i, p); }); });
+            const slot &at = *room_[i];
+            if (!at.waits && !at.early) throw run_fault(fault_kind::mismatch, "a round was decided without an element", i);
+            saved_element of;
+            of.exists = at.exists;
+            of.finished = at.finished;
+            of.early = at.early;
+            of.meanwhile = at.meanwhile;
+            of.load = at.load;
+            part.element(i, of, [&](pup::er &p) { guarded(i, [&] { objects_.pack(i, p); }); });
         }
         if (has_hand_) part.parcel_of(hand_letter_, bodies_, false);
         late_.each([&](const parcel &one) { part.parcel_of(one, bodies_, true); });
@@ -960,6 +985,8 @@ protected:
         outbound_.each(save_all);
         held_own_.each(save_all);
         held_others_.each(save_all);
+        unclaimed_.each(save_all);
+        arriving_.each(save_all);
         bodiless_.each(save_all);
         each_parked(save_all);
         for (const auto &one : bodies_.all()) {
