@@ -1,10 +1,11 @@
-//! `lb_report [--procs P[,P..]] [--tolerance T] [--csv] [--moves] FILE..` reports on dumps of load databases: how balanced the
-//! loads are at present and after the least division into consecutive blocks, and what moves; and with `--tolerance` the same
+//! `lb_report [--procs P[,P..]] [--tolerance T] [--csv] [--moves] FILE..` reports on dumps of load databases, and on tables of
+//! loads: how balanced the loads are at present and after the least division into consecutive blocks, and what moves; and with `--tolerance` the same
 //! for the decision within a tolerance of that.
 //!
 //! - `program_words::on_words`: the arguments of the command line, and the status. `report_command_line::asked`: what the
 //!   arguments ask for, and `numbers` the numbers of PEs in them; `refuse_numbers`: what is printed where there are none;
 //!   `program_words::refused`: the status where the arguments ask for no report.
+//! - `load_tables::load_input`: a file as it is, or the dump that a table in it stands for; `TableError`: what is wrong with a table.
 //! - `dump_report::report_file`: the report on one dump, and how it ended; `Ended::status` is the status for it, and
 //!   `dump_report::tell` writes what was wrong, and `dump_lengths::said_of_end` says where a dump ends that is cut off.
 #![tactic(auto)]
@@ -13,11 +14,13 @@ ghost use Rattle.std.specs.Prelude.{All};
 ghost use Rattle.report_command_line.specs.Numbers.{IsNumber};
 
 use chain_refinement::Tolerance;
+use chare_index::Pes;
 use dump_format::DumpError;
 use dump_lengths::{HeadWitness, said_of_end};
 use dump_report::{report_file, tell};
 use lb_replay::{Ended, dump_advice};
 use load_report::Style;
+use load_tables::{TableError, load_input};
 use program_files::{InputFile, Watched, open_input};
 use program_words::{on_words, refused};
 use report_command_line::{NumbersError, ReportOptions, asked, numbers, refuse_numbers};
@@ -94,7 +97,12 @@ fn print_one<R: Files + Input + Print + AllocGlobal, E: Write>(
     let alloc = rt.alloc();
     let mut output = Noted::new(io::writer(rt));
     let mut head = HeadWitness::new();
-    let file = open_watched(rt, name, &mut head);
+    let opened = open_watched(rt, name, &mut head);
+    let pes = procs.first().copied().and_then(Pes::new);
+    let file = match load_input(alloc, opened, name, pes) {
+        Ok(file) => file,
+        Err(error) => return tell_table(rt, errors, name, &error),
+    };
     let (ended, reason) = report_file(alloc, file, &mut output, name, procs, tolerance, style);
     if let Some(said) = said_of(rt, &head, ended) {
         let todo = dump_advice(DumpError::Short(0));
@@ -104,6 +112,26 @@ fn print_one<R: Files + Input + Print + AllocGlobal, E: Write>(
     let reason = reason.or(output.failure());
     let _told = tell(alloc, errors, name, ended, reason);
     ended
+}
+
+// Writes what is wrong with a table, and what to do about it. The table counts as a dump that was not read, and has its status.
+fn tell_table<R: AllocGlobal, E: Write>(
+    rt: &R,
+    errors: &mut E,
+    name: &str,
+    error: &TableError,
+) -> Ended {
+    let todo = error.advice();
+    if let Ok(said) = error.said(rt.alloc()) {
+        let _told = match error.reason() {
+            Some(reason) => writeln!(errors, "lb_report: {name}: {said}: {reason}; {todo}"),
+            None => writeln!(errors, "lb_report: {name}: {said}; {todo}"),
+        };
+    }
+    match error {
+        TableError::OutOfMemory => Ended::Dump(DumpError::OutOfMemory),
+        _ => Ended::Dump(DumpError::Read),
+    }
 }
 
 // Opens the file of this name, or the standard input for `-`, whose head is seen as it is read.

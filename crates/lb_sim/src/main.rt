@@ -1,5 +1,5 @@
-//! `lb_sim [--procs P] [--tolerance T] [--keep-order] [--any-order] [--check] FILE` replays a dump of the load database offline: it
-//! prints the least division of the elements into consecutive blocks, with the fence that proves it, the PE of each block and the
+//! `lb_sim [--procs P] [--tolerance T] [--keep-order] [--any-order] [--check] FILE` replays a dump of the load database offline, or a
+//! table of loads: it prints the least division of the elements into consecutive blocks, with the fence that proves it, the PE of each block and the
 //! bytes that move. With `--tolerance` the blocks may weigh up to a limit above the least load, and fewer bytes move; with
 //! `--keep-order` the PEs then keep their order, and with `--any-order` they may change it, so that the fewest bytes move. With
 //! `--check` it prints instead whether the decision in the dump is right.
@@ -8,6 +8,7 @@
 //!   arguments ask for; `program_words::refused`: the status where they ask for nothing to be done.
 //! - `lb_replay::Asked::task`: which task that is, if the options can be combined; `lb_replay::refuse_both`: what is
 //!   printed if they cannot.
+//! - `load_tables::load_input`: the file as it is, or the dump that a table in it stands for; `TableError`: what is wrong with a table.
 //! - `lb_replay::run`: the task, and its end with the status for that; `lb_replay::dump_advice`: what to do about a fault of the
 //!   dump, and `dump_lengths::said_of_end`: where one ends that is cut off; `streams::Advice`: what is printed about a file with a fault.
 #![tactic(auto)]
@@ -16,16 +17,17 @@ ghost use Rattle.lb_replay.specs.Requests.{MayRun};
 ghost use Rattle.std.specs.Prelude.{◌≤◌};
 ghost use Rattle.std.specs.Option.{ForSome};
 
-use chare_index::Limits;
+use chare_index::{Limits, Pes};
 use dump_format::DumpError;
 use dump_lengths::{HeadWitness, said_of_end};
 use lb_replay::{Asked, Ended, Task, asked, dump_advice, refuse_both, run};
+use load_tables::{TableError, load_input};
 use program_files::{InputFile, Watched, open_input};
-use program_words::{BAD_FILE, on_words, refused};
+use program_words::{BAD_FILE, NO_OUTPUT, on_words, refused};
 use std::fs::Files;
 use std::io::{self, Input, Write};
 use std::process::ExitCode;
-use streams::{Advice, Noted};
+use streams::{Advice, Noted, write_out};
 
 /// What to do about a file that cannot be read, and in general about one with a fault.
 const ADVICE: Advice<'static> = Advice {
@@ -64,12 +66,51 @@ fn run_task<R: Files + Input + Print + AllocGlobal, E: Write>(
     requires { MayRun task }
 {
     let mut head = HeadWitness::new();
-    let file = open_watched(rt, name, &mut head);
+    let opened = open_watched(rt, name, &mut head);
+    let file = match load_input(rt.alloc(), opened, name, pes_of(task)) {
+        Ok(file) => file,
+        Err(error) => return refuse_table(rt, errors, name, &error),
+    };
     let mut output = Noted::new(io::writer(rt));
     let (ended, reason) = run(rt.alloc(), task, file, &mut output);
     tell_output(errors, output.failure());
     tell_file(rt, errors, name, &head, ended, reason);
     ended.status()
+}
+
+// The number of PEs that the elements of a table without places are on. A check needs none, since a table has no decision.
+fn pes_of(task: Task) -> Option<Pes> {
+    match task {
+        Task::Replay(procs)
+        | Task::Refine(procs, _)
+        | Task::RefineInOrder(procs, _)
+        | Task::RefineInAnyOrder(procs, _) => procs.and_then(Pes::new),
+        Task::Check => Pes::new(1),
+    }
+}
+
+// Writes what is wrong with a table to the standard output, and its name and what to do to `errors`, and returns the status.
+fn refuse_table<R: Print + AllocGlobal, E: Write>(
+    rt: &R,
+    errors: &mut E,
+    name: &str,
+    error: &TableError,
+) -> u8 {
+    let mut output = Noted::new(io::writer(rt));
+    let is_written = match error.line(rt.alloc()) {
+        Ok(line) => write_out(&mut output, line.as_bytes()),
+        Err(_) => write_out(&mut output, b"out of memory\n"),
+    };
+    tell_output(errors, output.failure());
+    let status = if is_written { error.status() } else { NO_OUTPUT };
+    let advice = Advice {
+        program: "lb_sim",
+        unread: error.advice(),
+        wrong: error.advice(),
+    };
+    let is_fault = status == BAD_FILE;
+    let _told = advice.tell(rt.alloc(), errors, name, error.reason(), is_fault);
+    status
 }
 
 // Opens the file of this name, or the standard input, whose head is seen as it is read.
