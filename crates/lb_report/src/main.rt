@@ -1,6 +1,6 @@
-//! `lb_report [--procs P[,P..]] [--tolerance T] [--csv] [--moves] FILE..` reports on dumps of load databases, and on tables of
-//! loads: how balanced the loads are at present and after the least division into consecutive blocks, and what moves; and with `--tolerance` the same
-//! for the decision within a tolerance of that.
+//! `lb_report [--procs P[,P..]] [--tolerance T] [--csv] [--moves] FILE..` reports on dumps of load databases, and on tables of loads:
+//! how balanced the loads are at present and after the least division into consecutive blocks, and what moves; and with `--tolerance`
+//! the same for the decision within a tolerance of that.
 //!
 //! - `program_words::on_words`: the arguments of the command line, and the status. `report_command_line::asked`: what the
 //!   arguments ask for, and `numbers` the numbers of PEs in them; `refuse_numbers`: what is printed where there are none;

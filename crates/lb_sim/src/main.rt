@@ -1,6 +1,6 @@
 //! `lb_sim [--procs P] [--tolerance T] [--keep-order] [--any-order] [--check] FILE` replays a dump of the load database offline, or a
-//! table of loads: it prints the least division of the elements into consecutive blocks, with the fence that proves it, the PE of each block and the
-//! bytes that move. With `--tolerance` the blocks may weigh up to a limit above the least load, and fewer bytes move; with
+//! table of loads: it prints the least division of the elements into consecutive blocks, with the fence that proves it, the PE of each
+//! block and the bytes that move. With `--tolerance` the blocks may weigh up to a limit above the least load, and fewer bytes move; with
 //! `--keep-order` the PEs then keep their order, and with `--any-order` they may change it, so that the fewest bytes move. With
 //! `--check` it prints instead whether the decision in the dump is right.
 //!
@@ -102,7 +102,11 @@ fn refuse_table<R: Print + AllocGlobal, E: Write>(
         Err(_) => write_out(&mut output, b"out of memory\n"),
     };
     tell_output(errors, output.failure());
-    let status = if is_written { error.status() } else { NO_OUTPUT };
+    let status = if is_written {
+        error.status()
+    } else {
+        NO_OUTPUT
+    };
     let advice = Advice {
         program: "lb_sim",
         unread: error.advice(),

@@ -52,6 +52,7 @@ pub(crate) const MOST_BYTES: u64 = 1_048_576;
 pub(crate) const MOST_PLACE: u64 = 255;
 
 const _: () = prove!(MOST_BYTES == Limits::STATE_BYTES as u64);
+
 const _: () = prove!(MOST_PLACE + 1 == Limits::PES as u64);
 
 /// What is said of a load that is no whole number.

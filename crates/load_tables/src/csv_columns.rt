@@ -90,7 +90,9 @@ pub(crate) fn joined(alloc: Global, names: &[&str]) -> Result<String, AllocError
 
 // Where this name first stands.
 fn place_of(names: &[&str], column: Column) -> Option<usize> {
-    names.iter().position(|name| name.eq_ignore_ascii_case(column.name()))
+    names
+        .iter()
+        .position(|name| name.eq_ignore_ascii_case(column.name()))
 }
 
 // How many columns have this name.

@@ -182,12 +182,14 @@ impl<'a> Records<'a> {
         let missing = column.missing();
         if cell.is_empty() {
             return format!(in self.alloc;
-                "line {line}, column {number}: {missing}, and a whole number from 0 to {most} is wanted");
+                "line {line}, column {number}: {missing}, and a whole number from 0 to {most} is wanted"
+            );
         }
         let there = column.there();
         let cell = shown(self.alloc, cell)?;
         format!(in self.alloc;
-            "line {line}, column {number}: {there} {cell}, and a whole number from 0 to {most} is wanted{hint}")
+            "line {line}, column {number}: {there} {cell}, and a whole number from 0 to {most} is wanted{hint}"
+        )
     }
 
     // That a row has another number of cells than there are columns.
@@ -199,7 +201,8 @@ impl<'a> Records<'a> {
         let names = columns.names.as_str();
         let hint = if count == 1 { hint(self.cell(0)) } else { "" };
         TableError::of(format!(in self.alloc;
-            "line {line} has {count} column{plural}, and {wanted} are wanted: {names}{hint}"))
+            "line {line} has {count} column{plural}, and {wanted} are wanted: {names}{hint}"
+        ))
     }
 
     // That the first record is neither a row nor names columns.
@@ -213,7 +216,8 @@ impl<'a> Records<'a> {
         let hint = hint(all.as_str());
         let all = shown(self.alloc, all.as_str())?;
         format!(in self.alloc;
-            "line {line} is {all}, and numbers are wanted, or names of columns, among them load{hint}")
+            "line {line} is {all}, and numbers are wanted, or names of columns, among them load{hint}"
+        )
     }
 
     // That two columns have one name.
@@ -227,7 +231,8 @@ impl<'a> Records<'a> {
     fn too_many_columns(&self, count: usize) -> TableError {
         let line = self.line();
         TableError::of(format!(in self.alloc;
-            "line {line} has {count} columns without names, and at most load, bytes and place are taken"))
+            "line {line} has {count} columns without names, and at most load, bytes and place are taken"
+        ))
     }
 }
 

@@ -26,9 +26,9 @@ pub(crate) fn text_of(alloc: Global, data: &[u8]) -> Result<&str, TableError> {
             None => Ok(text),
             Some(at) => {
                 let line = line_at(bytes, at);
-                Err(TableError::of(
-                    format!(in alloc; "line {line} has a NUL byte, and a text in UTF-8 is wanted"),
-                ))
+                Err(TableError::of(format!(in alloc;
+                    "line {line} has a NUL byte, and a text in UTF-8 is wanted"
+                )))
             }
         },
         Err(error) => {
@@ -36,7 +36,8 @@ pub(crate) fn text_of(alloc: Global, data: &[u8]) -> Result<&str, TableError> {
             let line = line_at(bytes, at);
             let byte = bytes.get(at).copied().unwrap_or(0);
             Err(TableError::of(format!(in alloc;
-                "line {line} has the byte {byte:#04x} at byte {at}, and a text in UTF-8 is wanted")))
+                "line {line} has the byte {byte:#04x} at byte {at}, and a text in UTF-8 is wanted"
+            )))
         }
     }
 }

@@ -47,9 +47,7 @@ impl TableError {
                 let most = Limits::ELEMENTS;
                 format!(in alloc; "table: more than {most} elements")
             }
-            TableError::Length => {
-                format!(in alloc; "table: more than {TABLE_BYTES} bytes")
-            }
+            TableError::Length => { format!(in alloc; "table: more than {TABLE_BYTES} bytes") }
             TableError::NoPlaces => String::from_str(
                 alloc,
                 "table: there are no places, so the number of PEs has to be given: --procs P",

@@ -85,7 +85,12 @@ fn begins_with_digit(line: &str) -> bool {
 
 fn names_load(line: &str) -> bool {
     for name in line.split(',') {
-        if name.trim().trim_matches('"').trim().eq_ignore_ascii_case("load") {
+        if name
+            .trim()
+            .trim_matches('"')
+            .trim()
+            .eq_ignore_ascii_case("load")
+        {
             return true;
         }
     }

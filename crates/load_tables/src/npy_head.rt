@@ -41,12 +41,14 @@ pub(crate) fn read_head(alloc: Global, data: &[u8]) -> Result<(Head<'_>, &[u8]),
     let Some((length, behind)) = length_of(data, width) else {
         let end = 8 + width;
         return Err(TableError::of(format!(in alloc;
-            "its head is to end at byte {end}, and there are {count}")));
+            "its head is to end at byte {end}, and there are {count}"
+        )));
     };
     let Some((head, array)) = parts_of(behind, length) else {
         let end = length.saturating_add(8 + width as u64);
         return Err(TableError::of(format!(in alloc;
-            "its head is to end at byte {end}, and there are {count}")));
+            "its head is to end at byte {end}, and there are {count}"
+        )));
     };
     match str::from_utf8(head).ok().and_then(head_of) {
         Some(head) => Ok((head, array)),

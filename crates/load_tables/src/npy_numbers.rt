@@ -80,7 +80,11 @@ impl NumberType {
 fn raw_of(bytes: &[u8], is_big: bool) -> u64 {
     let mut raw = 0;
     for i in 0..bytes.len() {
-        let byte = if is_big { bytes[i] } else { bytes[bytes.len() - 1 - i] };
+        let byte = if is_big {
+            bytes[i]
+        } else {
+            bytes[bytes.len() - 1 - i]
+        };
         raw = raw << 8 | u64::from(byte);
     }
     raw

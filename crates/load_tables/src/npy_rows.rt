@@ -39,11 +39,13 @@ fn array_of<'a>(alloc: Global, head: &Head<'_>, data: &'a [u8]) -> Result<Array<
     let (kind, shape) = (head.kind, head.shape);
     let Some(numbers) = NumberType::of(kind) else {
         return Err(TableError::of(format!(in alloc;
-            "the array is of the type {kind}, and numbers are wanted, whole ones or floats")));
+            "the array is of the type {kind}, and numbers are wanted, whole ones or floats"
+        )));
     };
     if head.columns < 1 || 3 < head.columns {
         return Err(TableError::of(format!(in alloc;
-            "the array has the shape ({shape}), and rows of load, bytes and place are wanted")));
+            "the array has the shape ({shape}), and rows of load, bytes and place are wanted"
+        )));
     }
     if head.rows > u64::from(Limits::ELEMENTS) {
         return Err(TableError::Count);
@@ -52,7 +54,8 @@ fn array_of<'a>(alloc: Global, head: &Head<'_>, data: &'a [u8]) -> Result<Array<
     let count = data.len();
     if count as u64 != wanted {
         return Err(TableError::of(format!(in alloc;
-            "there are {count} bytes behind the head, and an array of {kind} and the shape ({shape}) has {wanted}")));
+            "there are {count} bytes behind the head, and an array of {kind} and the shape ({shape}) has {wanted}"
+        )));
     }
     Ok(Array {
         numbers,
@@ -153,14 +156,21 @@ fn said_of(
     let there = column.there();
     match number {
         Number::Whole(value) => format!(in alloc;
-            "element {element}: {there} {value}, and a whole number from 0 to {most} is wanted"),
+            "element {element}: {there} {value}, and a whole number from 0 to {most} is wanted"
+        ),
         Number::Negative(value) => format!(in alloc;
-            "element {element}: {there} -{value}, and a whole number from 0 to {most} is wanted"),
+            "element {element}: {there} -{value}, and a whole number from 0 to {most} is wanted"
+        ),
         Number::Float(bits) => {
             let value = f64_from_bits_with_nan(bits);
-            let hint = if column == Column::Load && is_fraction(number) { WHOLE } else { "" };
+            let hint = if column == Column::Load && is_fraction(number) {
+                WHOLE
+            } else {
+                ""
+            };
             format!(in alloc;
-                "element {element}: {there} {value}, and a whole number from 0 to {most} is wanted{hint}")
+                "element {element}: {there} {value}, and a whole number from 0 to {most} is wanted{hint}"
+            )
         }
     }
 }

@@ -30,7 +30,8 @@ pub(crate) fn whole(cell: &str, most: u64) -> Option<u64>
 /// Whether a cell has a number that is not written in digits alone, as 0.5 or 2e3, from 0 on.
 pub(crate) fn is_fraction(cell: &str) -> bool {
     match float(cell) {
-        Some(value) => value >= 0.0 && (cell.contains('.') || cell.contains('e') || cell.contains('E')),
+        Some(value) => value >= 0.0
+            && (cell.contains('.') || cell.contains('e') || cell.contains('E')),
         None => false,
     }
 }
