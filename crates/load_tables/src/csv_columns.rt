@@ -39,7 +39,7 @@ pub(crate) fn named(alloc: Global, names: &[&str]) -> Result<Named, AllocError> 
         return Ok(Named::NoLoad);
     };
     for column in [Column::Load, Column::Bytes, Column::Place] {
-        if times(names, column) > 1 {
+        if stands_twice(names, column) {
             return Ok(Named::Twice(column));
         }
     }
@@ -90,15 +90,18 @@ pub(crate) fn joined(alloc: Global, names: &[&str]) -> Result<String, AllocError
 
 // Where this name first stands.
 fn place_of(names: &[&str], column: Column) -> Option<usize> {
-    names
-        .iter()
-        .position(|name| name.eq_ignore_ascii_case(column.name()))
+    for k in 0..names.len() {
+        if names[k].eq_ignore_ascii_case(column.name()) {
+            return Some(k);
+        }
+    }
+    None
 }
 
-// How many columns have this name.
-fn times(names: &[&str], column: Column) -> usize {
-    names
-        .iter()
-        .filter(|name| name.eq_ignore_ascii_case(column.name()))
-        .count()
+// Whether two columns have this name.
+fn stands_twice(names: &[&str], column: Column) -> bool {
+    match place_of(names, column) {
+        Some(k) => place_of(&names[k + 1..], column).is_some(),
+        None => false,
+    }
 }

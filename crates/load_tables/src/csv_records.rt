@@ -92,7 +92,7 @@ impl<'a> Records<'a> {
 
     // The columns where the first record has these cells and is a row. A comment before it may name them.
     fn columns_of_row(&self, cells: &[&str]) -> Result<Columns, TableError> {
-        if !cells.iter().any(|cell| is_number(cell)) {
+        if !has_number(cells) {
             return Err(self.no_row(cells));
         }
         let before = &self.text.as_bytes()[..self.start().min(self.text.len())];
@@ -163,9 +163,13 @@ impl<'a> Records<'a> {
     fn wrong(&self, k: usize, column: Column, cell: &str, most: u64) -> TableError {
         let is_float = column == Column::Load && is_fraction(cell);
         let hint = if is_float { WHOLE } else { hint(cell) };
-        match self.said_of(k, column, cell, most, hint) {
-            Ok(said) if is_float => TableError::Fraction(said),
-            said => TableError::of(said),
+        let Ok(said) = self.said_of(k, column, cell, most, hint) else {
+            return TableError::OutOfMemory;
+        };
+        if is_float {
+            TableError::Fraction(said)
+        } else {
+            TableError::Wrong(said)
         }
     }
 
@@ -244,6 +248,16 @@ fn is_empty(record: &StringRecord) -> bool {
     }
 }
 
+// Whether one of these cells is a number.
+fn has_number(cells: &[&str]) -> bool {
+    for k in 0..cells.len() {
+        if is_number(cells[k]) {
+            return true;
+        }
+    }
+    false
+}
+
 // Adds the cells of a record, without the spaces around them.
 fn cells_of<'a>(record: &'a StringRecord, cells: &mut Vec<&'a str>) -> Result<(), AllocError> {
     for k in 0..record.len() {
@@ -265,14 +279,27 @@ fn hint(cell: &str) -> &'static str {
 
 // A cell between quotes, on one line, and not all of it where it is long.
 fn shown(alloc: Global, cell: &str) -> Result<String, AllocError> {
-    let is_long = cell.chars().count() > SHOWN;
-    let most = if is_long { SHOWN - 3 } else { SHOWN };
+    let is_long = letters(cell) > SHOWN;
+    let mut left = if is_long { SHOWN - 3 } else { SHOWN };
     let mut text = String::from_str(alloc, "'")?;
-    for letter in cell.chars().take(most) {
+    for letter in cell.chars() {
+        if left == 0 {
+            break;
+        }
+        left -= 1;
         push_shown(&mut text, letter)?;
     }
     text.push_str(if is_long { "..'" } else { "'" })?;
     Ok(text)
+}
+
+// How many characters a cell has.
+fn letters(cell: &str) -> usize {
+    let mut count: usize = 0;
+    for _letter in cell.chars() {
+        count = count.saturating_add(1);
+    }
+    count
 }
 
 fn push_shown(text: &mut String, letter: char) -> Result<(), AllocError> {

@@ -5,41 +5,39 @@ use crate::kind::without_mark;
 use std::alloc::Global;
 use std::str;
 
-/// How texts in UTF-16 begin.
-const UTF_16: [&[u8]; 2] = [b"\xff\xfe", b"\xfe\xff"];
-
 /// The text of a CSV, without a byte order mark.
 ///
 /// # Errors
 ///
 /// It is no text in UTF-8, or has a NUL byte.
 pub(crate) fn text_of(alloc: Global, data: &[u8]) -> Result<&str, TableError> {
-    for start in UTF_16 {
-        if data.starts_with(start) {
-            let said = "the text is UTF-16, and UTF-8 is wanted: save it as CSV in UTF-8";
-            return Err(TableError::plain(alloc, said));
-        }
+    if data.starts_with(b"\xff\xfe") || data.starts_with(b"\xfe\xff") {
+        let said = "the text is UTF-16, and UTF-8 is wanted: save it as CSV in UTF-8";
+        return Err(TableError::plain(alloc, said));
     }
     let bytes = without_mark(data);
     match str::from_utf8(bytes) {
         Ok(text) => match nul_in(bytes) {
             None => Ok(text),
-            Some(at) => {
-                let line = line_at(bytes, at);
-                Err(TableError::of(format!(in alloc;
-                    "line {line} has a NUL byte, and a text in UTF-8 is wanted"
-                )))
-            }
+            Some(at) => Err(nul_at(alloc, bytes, at)),
         },
-        Err(error) => {
-            let at = error.valid_up_to();
-            let line = line_at(bytes, at);
-            let byte = bytes.get(at).copied().unwrap_or(0);
-            Err(TableError::of(format!(in alloc;
-                "line {line} has the byte {byte:#04x} at byte {at}, and a text in UTF-8 is wanted"
-            )))
-        }
+        Err(error) => Err(no_text_at(alloc, bytes, error.valid_up_to())),
     }
+}
+
+// That a NUL byte is at this place.
+fn nul_at(alloc: Global, bytes: &[u8], at: usize) -> TableError {
+    let line = line_at(bytes, at);
+    TableError::of(format!(in alloc; "line {line} has a NUL byte, and a text in UTF-8 is wanted"))
+}
+
+// That the byte at this place begins no character.
+fn no_text_at(alloc: Global, bytes: &[u8], at: usize) -> TableError {
+    let line = line_at(bytes, at);
+    let byte = bytes.get(at).copied().unwrap_or(0);
+    TableError::of(format!(in alloc;
+        "line {line} has the byte 0x{byte:02x} at byte {at}, and a text in UTF-8 is wanted"
+    ))
 }
 
 // Where the first NUL byte is.

@@ -1,6 +1,7 @@
 //! A file that a program reads: a dump as it is, or the text of the dump that a table stands for.
 
-ghost use Rattle.std.specs.Prelude.{◌≡◌, ◌≤◌, length};
+ghost use Rattle.std.specs.Prelude.{IfOk};
+ghost use Rattle.load_tables.specs.Inputs.{IsInput, IsSomeTable};
 
 use crate::csv_rows::csv_rows;
 use crate::error::TableError;
@@ -57,6 +58,7 @@ impl<R: Read> Read for Begun<R> {
 }
 
 /// How reading for a while ended.
+#[derive(Drop)]
 enum Filled {
     /// At the end of the file.
     End,
@@ -78,7 +80,9 @@ pub fn load_input<R: Read + Drop>(
     file: io::Result<R>,
     name: &str,
     pes: Option<Pes>,
-) -> Result<io::Result<LoadInput<R>>, TableError> {
+) -> Result<io::Result<LoadInput<R>>, TableError>
+    ensures text { IfOk result (λ opened. IfOk opened IsInput) }
+{
     match file {
         Ok(file) => match read_input(alloc, file, name, pes) {
             Ok(input) => Ok(Ok(input)),
@@ -94,7 +98,9 @@ fn read_input<R: Read + Drop>(
     mut file: R,
     name: &str,
     pes: Option<Pes>,
-) -> Result<LoadInput<R>, TableError> {
+) -> Result<LoadInput<R>, TableError>
+    ensures text { IfOk result IsInput }
+{
     let mut head = Vec::new(alloc);
     let filled = fill(&mut file, &mut head, HEAD_BYTES, DUMP_MAGIC)?;
     let failure = match filled {
@@ -131,7 +137,9 @@ fn text_of(
     kind: TableKind,
     data: &[u8],
     pes: Option<Pes>,
-) -> Result<Vec<u8>, TableError> {
+) -> Result<Vec<u8>, TableError>
+    ensures text { IfOk result (λ text. IsSomeTable text.items) }
+{
     let rows = match kind {
         TableKind::Csv => csv_rows(alloc, data)?,
         TableKind::Npy => npy_rows(alloc, data)?,

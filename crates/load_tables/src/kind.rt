@@ -77,9 +77,10 @@ fn first_line(head: &[u8]) -> &str {
 }
 
 fn begins_with_digit(line: &str) -> bool {
-    match line.as_bytes() {
-        [b'"', first, ..] | [first, ..] => first.is_ascii_digit(),
-        [] => false,
+    let line = line.strip_prefix('"').unwrap_or(line);
+    match line.as_bytes().first() {
+        Some(byte) => byte.is_ascii_digit(),
+        None => false,
     }
 }
 

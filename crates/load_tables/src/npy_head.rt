@@ -50,13 +50,13 @@ pub(crate) fn read_head(alloc: Global, data: &[u8]) -> Result<(Head<'_>, &[u8]),
             "its head is to end at byte {end}, and there are {count}"
         )));
     };
-    match str::from_utf8(head).ok().and_then(head_of) {
-        Some(head) => Ok((head, array)),
-        None => {
-            let said = "its head is not the type, the order and the shape of an array";
-            Err(TableError::plain(alloc, said))
+    if let Ok(text) = str::from_utf8(head) {
+        if let Some(head) = head_of(text) {
+            return Ok((head, array));
         }
     }
+    let said = "its head is not the type, the order and the shape of an array";
+    Err(TableError::plain(alloc, said))
 }
 
 // The length of the head, in this number of bytes behind the version, and what follows them.

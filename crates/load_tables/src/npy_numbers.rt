@@ -40,18 +40,24 @@ impl NumberType {
         let [order, sort, len] = name.as_bytes() else {
             return None;
         };
-        let is_big = match order {
+        let is_big = match *order {
             b'<' | b'|' | b'=' => false,
             b'>' => true,
             _ => return None,
         };
-        let (sort, len) = match (sort, len) {
-            (b'u', b'1' | b'2' | b'4' | b'8') => (Sort::Unsigned, len - b'0'),
-            (b'i', b'1' | b'2' | b'4' | b'8') => (Sort::Signed, len - b'0'),
-            (b'f', b'4' | b'8') => (Sort::Float, len - b'0'),
+        let len = match *len {
+            b'1' => 1,
+            b'2' => 2,
+            b'4' => 4,
+            b'8' => 8,
             _ => return None,
         };
-        let len = usize::from(len);
+        let sort = match *sort {
+            b'u' => Sort::Unsigned,
+            b'i' => Sort::Signed,
+            b'f' if len >= 4 => Sort::Float,
+            _ => return None,
+        };
         Some(NumberType { is_big, sort, len })
     }
 
@@ -102,5 +108,5 @@ fn signed(raw: u64, len: usize) -> Number {
         return Number::Whole(raw);
     }
     // In two's complement the number is what the bits below the sign are less the sign.
-    Number::Negative(sign - (raw & (sign - 1)))
+    Number::Negative(sign.saturating_sub(raw & sign.saturating_sub(1)))
 }

@@ -129,9 +129,13 @@ impl Array<'_> {
 // That a number is not within the limit of its column.
 fn wrong(alloc: Global, element: usize, column: Column, number: Number, most: u64) -> TableError {
     let is_fraction = column == Column::Load && is_fraction(number);
-    match said_of(alloc, element, column, number, most) {
-        Ok(said) if is_fraction => TableError::Fraction(said),
-        said => TableError::of(said),
+    let Ok(said) = said_of(alloc, element, column, number, most) else {
+        return TableError::OutOfMemory;
+    };
+    if is_fraction {
+        TableError::Fraction(said)
+    } else {
+        TableError::Wrong(said)
     }
 }
 

@@ -87,5 +87,5 @@ pub(crate) fn widened(bits: u32) -> u64 {
         // 0, or a number far below 1.
         return sign | (digits << 29);
     }
-    sign | ((exponent + 896) << 52) | (digits << 29)
+    sign | (exponent.wrapping_add(896) << 52) | (digits << 29)
 }
