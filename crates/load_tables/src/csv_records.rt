@@ -124,16 +124,31 @@ impl<'a> Records<'a> {
             return Err(self.ragged(columns));
         }
         let load = self.value(columns.load, Column::Load, MOST_LOAD)?;
-        let bytes = match columns.bytes {
-            Some(k) => self.value(k, Column::Bytes, MOST_BYTES)? as u32,
-            None => 1,
-        };
-        let place = match columns.place {
-            Some(k) => self.value(k, Column::Place, MOST_PLACE)? as u32,
-            None => 0,
-        };
-        let place = Pe::new(place).unwrap();
+        let bytes = self.bytes(columns)?;
+        let place = self.place(columns)?;
         Ok(Row { load, bytes, place })
+    }
+
+    // The bytes in the record, or 1 where there is no such column.
+    fn bytes(&self, columns: &Columns) -> Result<u32, TableError> {
+        match columns.bytes {
+            Some(k) => {
+                let bytes = self.value(k, Column::Bytes, MOST_BYTES)?;
+                Ok(bytes as u32)
+            }
+            None => Ok(1),
+        }
+    }
+
+    // The place in the record, or PE 0 where there is no such column.
+    fn place(&self, columns: &Columns) -> Result<Pe, TableError> {
+        match columns.place {
+            Some(k) => {
+                let place = self.value(k, Column::Place, MOST_PLACE)?;
+                Ok(Pe::new(place as u32).unwrap())
+            }
+            None => Ok(Pe::new(0).unwrap()),
+        }
     }
 
     // The number in a cell, at most this.

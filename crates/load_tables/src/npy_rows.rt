@@ -78,18 +78,27 @@ impl Array<'_> {
     // The row of an element.
     fn row(&self, alloc: Global, element: usize) -> Result<Row, TableError> {
         let load = self.value(alloc, element, 0, Column::Load, MOST_LOAD)?;
-        let bytes = if self.columns > 1 {
-            self.value(alloc, element, 1, Column::Bytes, MOST_BYTES)? as u32
-        } else {
-            1
-        };
-        let place = if self.columns > 2 {
-            self.value(alloc, element, 2, Column::Place, MOST_PLACE)? as u32
-        } else {
-            0
-        };
-        let place = Pe::new(place).unwrap();
+        let bytes = self.bytes(alloc, element)?;
+        let place = self.place(alloc, element)?;
         Ok(Row { load, bytes, place })
+    }
+
+    // The bytes of an element, or 1 where there is no such column.
+    fn bytes(&self, alloc: Global, element: usize) -> Result<u32, TableError> {
+        if self.columns < 2 {
+            return Ok(1);
+        }
+        let bytes = self.value(alloc, element, 1, Column::Bytes, MOST_BYTES)?;
+        Ok(bytes as u32)
+    }
+
+    // The place of an element, or PE 0 where there is no such column.
+    fn place(&self, alloc: Global, element: usize) -> Result<Pe, TableError> {
+        if self.columns < 3 {
+            return Ok(Pe::new(0).unwrap());
+        }
+        let place = self.value(alloc, element, 2, Column::Place, MOST_PLACE)?;
+        Ok(Pe::new(place as u32).unwrap())
     }
 
     // The number of an element in a column, at most this.
