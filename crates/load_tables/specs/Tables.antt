@@ -10,3 +10,7 @@ table_dump A procs loads sizes = record { snapshot = record { step = 0; procs = 
 -- these bytes are the text of that dump, in the format LBD2
 abbrev pub IsTableText : Type 0 → ℕ → List ℕ → List (ℕ × ℕ) → List ℕ → Type 0
 IsTableText A procs loads sizes text = IsLbd2 (table_dump A procs loads sizes) text
+
+-- these bytes are the text of the dump of some table
+abbrev pub IsSomeTable : Type 0 → List ℕ → Type 0
+IsSomeTable A text = (procs : ℕ) × (loads : List ℕ) × (sizes : List (ℕ × ℕ)) × IsTableText A procs loads sizes text

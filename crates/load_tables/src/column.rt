@@ -46,14 +46,10 @@ impl Column {
 pub(crate) const MOST_LOAD: u64 = Limits::LOAD;
 
 /// The greatest packed size.
-pub(crate) const MOST_BYTES: u64 = 1_048_576;
+pub(crate) const MOST_BYTES: u64 = Limits::STATE_BYTES as u64;
 
 /// The last PE.
-pub(crate) const MOST_PLACE: u64 = 255;
-
-const _: () = prove!(MOST_BYTES == Limits::STATE_BYTES as u64);
-
-const _: () = prove!(MOST_PLACE + 1 == Limits::PES as u64);
+pub(crate) const MOST_PLACE: u64 = Limits::PES as u64 - 1;
 
 /// What is said of a load that is no whole number.
 pub(crate) const WHOLE: &str = "; give whole numbers, for example microseconds";

@@ -1,5 +1,7 @@
 //! Which cell of a row is in which column.
 
+ghost use Rattle.std.specs.Prelude.{◌<◌, length, IfSome};
+
 use crate::column::Column;
 use std::alloc::{AllocError, Global};
 
@@ -89,7 +91,9 @@ pub(crate) fn joined(alloc: Global, names: &[&str]) -> Result<String, AllocError
 }
 
 // Where this name first stands.
-fn place_of(names: &[&str], column: Column) -> Option<usize> {
+fn place_of(names: &[&str], column: Column) -> Option<usize>
+    ensures { IfSome result (λ k. k < length names.now) }
+{
     for k in 0..names.len() {
         if names[k].eq_ignore_ascii_case(column.name()) {
             return Some(k);

@@ -1,6 +1,6 @@
 //! The records of a CSV, one after another, and what is said of a cell.
 
-ghost use Rattle.std.specs.Prelude.{◌≤◌, IfOk};
+ghost use Rattle.std.specs.Prelude.{◌≤◌, IfOk, IfSome};
 
 use crate::column::{Column, MOST_BYTES, MOST_LOAD, MOST_PLACE, WHOLE};
 use crate::csv_columns::{Columns, Named, joined, named, unnamed};
@@ -81,8 +81,7 @@ impl<'a> Records<'a> {
     ///
     /// The record is neither a row nor names with `load` among them, or memory was refused.
     pub(crate) fn columns(&self) -> Result<(Columns, bool), TableError> {
-        let mut names = Vec::new(self.alloc);
-        cells_of(&self.record, &mut names)?;
+        let names = cells_of(self.alloc, &self.record)?;
         match named(self.alloc, &names)? {
             Named::Columns(columns) => Ok((columns, true)),
             Named::Twice(column) => Err(self.twice(column)),
@@ -96,10 +95,7 @@ impl<'a> Records<'a> {
             return Err(self.no_row(cells));
         }
         let before = &self.text.as_bytes()[..self.start().min(self.text.len())];
-        let mut names = Vec::new(self.alloc);
-        for name in last_comment(before).split(',') {
-            names.push(name.trim())?;
-        }
+        let names = names_in(self.alloc, last_comment(before))?;
         if names.len() == cells.len() {
             match named(self.alloc, &names)? {
                 Named::Columns(columns) => return Ok(columns),
@@ -156,11 +152,7 @@ impl<'a> Records<'a> {
         ensures { IfOk result (λ value. value ≤ most) }
     {
         let cell = self.cell(k);
-        let value = match column {
-            Column::Load => digits(cell, most),
-            Column::Bytes | Column::Place => whole(cell, most),
-        };
-        match value {
+        match number_in(cell, column, most) {
             Some(value) => Ok(value),
             None => Err(self.wrong(k, column, cell, most)),
         }
@@ -255,6 +247,16 @@ impl<'a> Records<'a> {
     }
 }
 
+// The number in a cell of a column, at most this.
+fn number_in(cell: &str, column: Column, most: u64) -> Option<u64>
+    ensures { IfSome result (λ value. value ≤ most) }
+{
+    match column {
+        Column::Load => digits(cell, most),
+        Column::Bytes | Column::Place => whole(cell, most),
+    }
+}
+
 // Whether a record has nothing in it.
 fn is_empty(record: &StringRecord) -> bool {
     match record.get(0) {
@@ -273,14 +275,24 @@ fn has_number(cells: &[&str]) -> bool {
     false
 }
 
-// Adds the cells of a record, without the spaces around them.
-fn cells_of<'a>(record: &'a StringRecord, cells: &mut Vec<&'a str>) -> Result<(), AllocError> {
+// The cells of a record, without the spaces around them.
+fn cells_of(alloc: Global, record: &StringRecord) -> Result<Vec<&str>, AllocError> {
+    let mut cells = Vec::new(alloc);
     for k in 0..record.len() {
         if let Some(cell) = record.get(k) {
             cells.push(cell.trim())?;
         }
     }
-    Ok(())
+    Ok(cells)
+}
+
+// The names in a comment, without the spaces around them.
+fn names_in(alloc: Global, comment: &str) -> Result<Vec<&str>, AllocError> {
+    let mut names = Vec::new(alloc);
+    for name in comment.split(',') {
+        names.push(name.trim())?;
+    }
+    Ok(names)
 }
 
 // What is said of a cell in which several numbers seem to be.

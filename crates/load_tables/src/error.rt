@@ -40,9 +40,8 @@ impl TableError {
     /// Memory was refused.
     pub fn said<A: Allocator>(&self, alloc: A) -> Result<String<A>, AllocError> {
         match self {
-            TableError::Wrong(said) | TableError::Fraction(said) => {
-                format!(in alloc; "table: {said}")
-            }
+            TableError::Wrong(said) => format!(in alloc; "table: {said}"),
+            TableError::Fraction(said) => format!(in alloc; "table: {said}"),
             TableError::Count => {
                 let most = Limits::ELEMENTS;
                 format!(in alloc; "table: more than {most} elements")

@@ -1,7 +1,9 @@
 //! A file that a program reads: a dump as it is, or the text of the dump that a table stands for.
 
 ghost use Rattle.std.specs.Prelude.{IfOk};
-ghost use Rattle.load_tables.specs.Inputs.{IsInput, IsSomeTable};
+ghost use Rattle.std.specs.Global.{Global};
+ghost use Rattle.load_tables.specs.Inputs.{IsInput};
+ghost use Rattle.load_tables.specs.Tables.{IsSomeTable};
 
 use crate::csv_rows::csv_rows;
 use crate::error::TableError;
@@ -138,7 +140,7 @@ fn text_of(
     data: &[u8],
     pes: Option<Pes>,
 ) -> Result<Vec<u8>, TableError>
-    ensures text { IfOk result (λ text. IsSomeTable text.items) }
+    ensures text { IfOk result (λ text. IsSomeTable Global text.items) }
 {
     let rows = match kind {
         TableKind::Csv => csv_rows(alloc, data)?,

@@ -39,13 +39,13 @@ pub(crate) fn read_head(alloc: Global, data: &[u8]) -> Result<(Head<'_>, &[u8]),
     };
     let count = data.len();
     let Some((length, behind)) = length_of(data, width) else {
-        let end = 8 + width;
+        let end = width.saturating_add(8);
         return Err(TableError::of(format!(in alloc;
             "its head is to end at byte {end}, and there are {count}"
         )));
     };
     let Some((head, array)) = parts_of(behind, length) else {
-        let end = length.saturating_add(8 + width as u64);
+        let end = length.saturating_add(width as u64).saturating_add(8);
         return Err(TableError::of(format!(in alloc;
             "its head is to end at byte {end}, and there are {count}"
         )));

@@ -50,7 +50,10 @@ fn array_of<'a>(alloc: Global, head: &Head<'_>, data: &'a [u8]) -> Result<Array<
     if head.rows > u64::from(Limits::ELEMENTS) {
         return Err(TableError::Count);
     }
-    let wanted = head.rows * head.columns * numbers.len as u64;
+    let wanted = head
+        .rows
+        .saturating_mul(head.columns)
+        .saturating_mul(numbers.len as u64);
     let count = data.len();
     if count as u64 != wanted {
         return Err(TableError::of(format!(in alloc;

@@ -1,7 +1,7 @@
 //! The rows of a table, and the dump that they stand for.
 
-ghost use Rattle.std.specs.Prelude.{◌≡◌, ◌≤◌, ◌++◌, ◌∷◌, [], List, ℕ, length, IfOk, OnOk};
-ghost use Rattle.load_tables.specs.Tables.{IsTableText};
+ghost use Rattle.std.specs.Prelude.{◌≡◌, ◌++◌, ◌∷◌, [], IfOk, OnOk};
+ghost use Rattle.load_tables.specs.Tables.{IsSomeTable, IsTableText};
 
 use crate::error::TableError;
 use chare_index::{Index, Limits, Pe, Pes, opening_pe};
@@ -66,7 +66,7 @@ impl<A: Allocator + Copy> Rows<A> {
     ///
     /// There are no places, and no number of PEs is given; or memory was refused.
     pub(crate) fn text(self, alloc: A, pes: Option<Pes>) -> Result<Vec<u8, A>, TableError>
-        ensures text { IfOk result (λ text. (procs : ℕ) × (sizes : List (ℕ × ℕ)) × IsTableText A procs self.loads.items sizes text.items) }
+        ensures text { IfOk result (λ text. IsSomeTable A text.items) }
     {
         let Rows {
             loads,
@@ -82,7 +82,8 @@ impl<A: Allocator + Copy> Rows<A> {
             spread(&mut sizes, pes)?;
             pes.get()
         };
-        dump_text(alloc, procs, loads, sizes)
+        let text = dump_text(alloc, procs, loads, sizes)?;
+        Ok(text)
     }
 }
 
