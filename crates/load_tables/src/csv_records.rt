@@ -169,7 +169,7 @@ impl<'a> Records<'a> {
     // That a cell has no number within the limit of its column.
     fn wrong(&self, k: usize, column: Column, cell: &str, most: u64) -> TableError {
         let is_float = column == Column::Load && is_fraction(cell);
-        let hint = if is_float { WHOLE } else { hint(cell) };
+        let hint = if is_float { WHOLE } else { commas_in(cell) };
         let Ok(said) = self.said_of(k, column, cell, most, hint) else {
             return TableError::OutOfMemory;
         };
@@ -210,7 +210,11 @@ impl<'a> Records<'a> {
         let plural = if count == 1 { "" } else { "s" };
         let wanted = columns.count;
         let names = columns.names.as_str();
-        let hint = if count == 1 { hint(self.cell(0)) } else { "" };
+        let hint = if count == 1 {
+            commas_in(self.cell(0))
+        } else {
+            ""
+        };
         TableError::of(format!(in self.alloc;
             "line {line} has {count} column{plural}, and {wanted} are wanted: {names}{hint}"
         ))
@@ -224,7 +228,7 @@ impl<'a> Records<'a> {
     fn said_of_no_row(&self, cells: &[&str]) -> Result<String, AllocError> {
         let line = self.line();
         let all = joined(self.alloc, cells)?;
-        let hint = hint(all.as_str());
+        let hint = commas_in(all.as_str());
         let all = shown(self.alloc, all.as_str())?;
         format!(in self.alloc;
             "line {line} is {all}, and numbers are wanted, or names of columns, among them load{hint}"
@@ -296,7 +300,7 @@ fn names_in(alloc: Global, comment: &str) -> Result<Vec<&str>, AllocError> {
 }
 
 // What is said of a cell in which several numbers seem to be.
-fn hint(cell: &str) -> &'static str {
+fn commas_in(cell: &str) -> &'static str {
     if cell.contains(';') || cell.contains('\t') || cell.contains(' ') {
         COMMAS
     } else {

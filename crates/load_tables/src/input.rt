@@ -1,9 +1,7 @@
 //! A file that a program reads: a dump as it is, or the text of the dump that a table stands for.
 
 ghost use Rattle.std.specs.Prelude.{IfOk};
-ghost use Rattle.std.specs.Global.{Global};
-ghost use Rattle.load_tables.specs.Inputs.{IsInput};
-ghost use Rattle.load_tables.specs.Tables.{IsSomeTable};
+ghost use Rattle.load_tables.specs.Inputs.{IsInput, IsTable};
 
 use crate::csv_rows::csv_rows;
 use crate::error::TableError;
@@ -83,7 +81,7 @@ pub fn load_input<R: Read + Drop>(
     name: &str,
     pes: Option<Pes>,
 ) -> Result<io::Result<LoadInput<R>>, TableError>
-    ensures text { IfOk result (λ opened. IfOk opened IsInput) }
+    ensures text { IfOk result (λ opened. IfOk opened (λ input. IsInput input)) }
 {
     match file {
         Ok(file) => match read_input(alloc, file, name, pes) {
@@ -101,7 +99,7 @@ fn read_input<R: Read + Drop>(
     name: &str,
     pes: Option<Pes>,
 ) -> Result<LoadInput<R>, TableError>
-    ensures text { IfOk result IsInput }
+    ensures text { IfOk result (λ input. IsInput input) }
 {
     let mut head = Vec::new(alloc);
     let filled = fill(&mut file, &mut head, HEAD_BYTES, DUMP_MAGIC)?;
@@ -140,7 +138,7 @@ fn text_of(
     data: &[u8],
     pes: Option<Pes>,
 ) -> Result<Vec<u8>, TableError>
-    ensures text { IfOk result (λ text. IsSomeTable Global text.items) }
+    ensures text { IfOk result (λ text. IsTable text.items) }
 {
     let rows = match kind {
         TableKind::Csv => csv_rows(alloc, data)?,
