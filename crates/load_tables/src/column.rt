@@ -52,4 +52,4 @@ pub(crate) const MOST_BYTES: u64 = Limits::STATE_BYTES as u64;
 pub(crate) const MOST_PLACE: u64 = Limits::PES as u64 - 1;
 
 /// What is said of a load that is no whole number.
-pub(crate) const WHOLE: &str = "; give whole numbers, for example microseconds";
+pub(crate) const WHOLE_LOADS: &str = "; give whole numbers, for example microseconds";

@@ -36,7 +36,7 @@ pub(crate) enum Named {
 /// # Errors
 ///
 /// Memory was refused.
-pub(crate) fn named(alloc: Global, names: &[&str]) -> Result<Named, AllocError> {
+pub(crate) fn columns_named(alloc: Global, names: &[&str]) -> Result<Named, AllocError> {
     let Some(load) = place_of(names, Column::Load) else {
         return Ok(Named::NoLoad);
     };

@@ -2,8 +2,8 @@
 
 ghost use Rattle.std.specs.Prelude.{◌≤◌, IfOk, IfSome};
 
-use crate::column::{Column, MOST_BYTES, MOST_LOAD, MOST_PLACE, WHOLE};
-use crate::csv_columns::{Columns, Named, joined, named, unnamed};
+use crate::column::{Column, MOST_BYTES, MOST_LOAD, MOST_PLACE, WHOLE_LOADS};
+use crate::csv_columns::{Columns, Named, columns_named, joined, unnamed};
 use crate::csv_text::{last_comment, line_at, record_start};
 use crate::error::TableError;
 use crate::numbers::{digits, is_fraction, is_number, whole};
@@ -16,7 +16,7 @@ use std::alloc::{AllocError, Global};
 const COMMAS: &str = "; columns are separated by commas";
 
 /// The most characters of a cell that are shown.
-const SHOWN: usize = 60;
+const MOST_SHOWN: usize = 60;
 
 /// The records of a text.
 #[derive(Drop)]
@@ -24,7 +24,7 @@ pub(crate) struct Records<'a> {
     alloc: Global,
     text: &'a str,
     reader: Reader<&'a [u8]>,
-    record: StringRecord,
+    current: StringRecord,
 }
 
 impl<'a> Records<'a> {
@@ -39,7 +39,7 @@ impl<'a> Records<'a> {
             alloc,
             text,
             reader,
-            record: StringRecord::new(alloc),
+            current: StringRecord::new(alloc),
         }
     }
 
@@ -51,10 +51,10 @@ impl<'a> Records<'a> {
     pub(crate) fn advance(&mut self) -> Result<bool, TableError> {
         for _ in 0..u64::MAX {
             // The text is in memory, and in UTF-8, and records may differ in length.
-            let Ok(found) = self.reader.read_record(&mut self.record) else {
+            let Ok(found) = self.reader.read_record(&mut self.current) else {
                 return Err(TableError::OutOfMemory);
             };
-            if !found || !is_empty(&self.record) {
+            if !found || !is_empty(&self.current) {
                 return Ok(found);
             }
         }
@@ -63,7 +63,7 @@ impl<'a> Records<'a> {
 
     // Where the record begins.
     fn start(&self) -> usize {
-        let from = match self.record.position() {
+        let from = match self.current.position() {
             Some(position) => position.byte(),
             None => 0,
         };
@@ -81,8 +81,8 @@ impl<'a> Records<'a> {
     ///
     /// The record is neither a row nor names with `load` among them, or memory was refused.
     pub(crate) fn columns(&self) -> Result<(Columns, bool), TableError> {
-        let names = cells_of(self.alloc, &self.record)?;
-        match named(self.alloc, &names)? {
+        let names = cells_of(self.alloc, &self.current)?;
+        match columns_named(self.alloc, &names)? {
             Named::Columns(columns) => Ok((columns, true)),
             Named::Twice(column) => Err(self.twice(column)),
             Named::NoLoad => Ok((self.columns_of_row(&names)?, false)),
@@ -97,7 +97,7 @@ impl<'a> Records<'a> {
         let before = &self.text.as_bytes()[..self.start().min(self.text.len())];
         let names = names_in(self.alloc, last_comment(before))?;
         if names.len() == cells.len() {
-            match named(self.alloc, &names)? {
+            match columns_named(self.alloc, &names)? {
                 Named::Columns(columns) => return Ok(columns),
                 Named::Twice(column) => return Err(self.twice(column)),
                 Named::NoLoad => {}
@@ -116,7 +116,7 @@ impl<'a> Records<'a> {
     /// It has another number of cells than there are columns, a cell in a column that counts has no number within its limit, or memory
     /// was refused.
     pub(crate) fn row(&self, columns: &Columns) -> Result<Row, TableError> {
-        if self.record.len() != columns.count {
+        if self.current.len() != columns.count {
             return Err(self.ragged(columns));
         }
         let load = self.value(columns.load, Column::Load, MOST_LOAD)?;
@@ -160,7 +160,7 @@ impl<'a> Records<'a> {
 
     // A cell, without the spaces around it.
     fn cell(&self, k: usize) -> &str {
-        match self.record.get(k) {
+        match self.current.get(k) {
             Some(cell) => cell.trim(),
             None => "",
         }
@@ -169,7 +169,11 @@ impl<'a> Records<'a> {
     // That a cell has no number within the limit of its column.
     fn wrong(&self, k: usize, column: Column, cell: &str, most: u64) -> TableError {
         let is_float = column == Column::Load && is_fraction(cell);
-        let hint = if is_float { WHOLE } else { commas_in(cell) };
+        let hint = if is_float {
+            WHOLE_LOADS
+        } else {
+            commas_in(cell)
+        };
         let Ok(said) = self.said_of(k, column, cell, most, hint) else {
             return TableError::OutOfMemory;
         };
@@ -206,7 +210,7 @@ impl<'a> Records<'a> {
     // That a row has another number of cells than there are columns.
     fn ragged(&self, columns: &Columns) -> TableError {
         let line = self.line();
-        let count = self.record.len();
+        let count = self.current.len();
         let plural = if count == 1 { "" } else { "s" };
         let wanted = columns.count;
         let names = columns.names.as_str();
@@ -262,9 +266,9 @@ fn number_in(cell: &str, column: Column, most: u64) -> Option<u64>
 }
 
 // Whether a record has nothing in it.
-fn is_empty(record: &StringRecord) -> bool {
-    match record.get(0) {
-        Some(cell) => record.len() == 1 && cell.trim().is_empty(),
+fn is_empty(found: &StringRecord) -> bool {
+    match found.get(0) {
+        Some(cell) => found.len() == 1 && cell.trim().is_empty(),
         None => true,
     }
 }
@@ -280,10 +284,10 @@ fn has_number(cells: &[&str]) -> bool {
 }
 
 // The cells of a record, without the spaces around them.
-fn cells_of(alloc: Global, record: &StringRecord) -> Result<Vec<&str>, AllocError> {
+fn cells_of(alloc: Global, found: &StringRecord) -> Result<Vec<&str>, AllocError> {
     let mut cells = Vec::new(alloc);
-    for k in 0..record.len() {
-        if let Some(cell) = record.get(k) {
+    for k in 0..found.len() {
+        if let Some(cell) = found.get(k) {
             cells.push(cell.trim())?;
         }
     }
@@ -310,8 +314,8 @@ fn commas_in(cell: &str) -> &'static str {
 
 // A cell between quotes, on one line, and not all of it where it is long.
 fn shown(alloc: Global, cell: &str) -> Result<String, AllocError> {
-    let is_long = letters(cell) > SHOWN;
-    let mut left = if is_long { SHOWN - 3 } else { SHOWN };
+    let is_long = letters(cell) > MOST_SHOWN;
+    let mut left = if is_long { MOST_SHOWN - 3 } else { MOST_SHOWN };
     let mut text = String::from_str(alloc, "'")?;
     for letter in cell.chars() {
         if left == 0 {

@@ -12,8 +12,8 @@ use std::alloc::Global;
 /// # Errors
 ///
 /// The first fault from its first line to its last; or memory was refused.
-pub(crate) fn csv_rows(alloc: Global, data: &[u8]) -> Result<Rows, TableError> {
-    let text = text_of(alloc, data)?;
+pub(crate) fn csv_rows(alloc: Global, file: &[u8]) -> Result<Rows, TableError> {
+    let text = text_of(alloc, file)?;
     let mut records = Records::new(alloc, text);
     if !records.advance()? {
         let said = "there is no line of numbers or of names";

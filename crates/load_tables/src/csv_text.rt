@@ -10,12 +10,12 @@ use std::str;
 /// # Errors
 ///
 /// It is no text in UTF-8, or has a NUL byte.
-pub(crate) fn text_of(alloc: Global, data: &[u8]) -> Result<&str, TableError> {
-    if data.starts_with(b"\xff\xfe") || data.starts_with(b"\xfe\xff") {
+pub(crate) fn text_of(alloc: Global, file: &[u8]) -> Result<&str, TableError> {
+    if file.starts_with(b"\xff\xfe") || file.starts_with(b"\xfe\xff") {
         let said = "the text is UTF-16, and UTF-8 is wanted: save it as CSV in UTF-8";
         return Err(TableError::plain(alloc, said));
     }
-    let bytes = without_mark(data);
+    let bytes = without_mark(file);
     match str::from_utf8(bytes) {
         Ok(text) => match nul_in(bytes) {
             None => Ok(text),

@@ -123,8 +123,8 @@ fn read_input<R: Read + Drop>(
 }
 
 // Reads a table to its end.
-fn read_rest<R: Read>(file: &mut R, data: &mut Vec<u8>) -> Result<(), TableError> {
-    match fill(file, data, TABLE_BYTES + 1, b"")? {
+fn read_rest<R: Read>(file: &mut R, bytes: &mut Vec<u8>) -> Result<(), TableError> {
+    match fill(file, bytes, TABLE_BYTES + 1, b"")? {
         Filled::End => Ok(()),
         Filled::Failed(reason) => Err(TableError::Read(reason)),
         Filled::Enough => Err(TableError::Length),
@@ -135,14 +135,14 @@ fn read_rest<R: Read>(file: &mut R, data: &mut Vec<u8>) -> Result<(), TableError
 fn text_of(
     alloc: Global,
     kind: TableKind,
-    data: &[u8],
+    bytes: &[u8],
     pes: Option<Pes>,
 ) -> Result<Vec<u8>, TableError>
     ensures text { IfOk result (λ text. IsTable text.items) }
 {
     let rows = match kind {
-        TableKind::Csv => csv_rows(alloc, data)?,
-        TableKind::Npy => npy_rows(alloc, data)?,
+        TableKind::Csv => csv_rows(alloc, bytes)?,
+        TableKind::Npy => npy_rows(alloc, bytes)?,
     };
     rows.text(alloc, pes)
 }
@@ -150,19 +150,19 @@ fn text_of(
 // Reads behind these bytes, until there are so many, or until they begin with a mark that is not empty.
 fn fill<R: Read>(
     file: &mut R,
-    data: &mut Vec<u8>,
+    bytes: &mut Vec<u8>,
     most: usize,
     mark: &[u8],
 ) -> Result<Filled, AllocError> {
     let mut piece = [0; PIECE];
     for _ in 0..CALLS {
-        let is_marked = !mark.is_empty() && data.starts_with(mark);
-        if is_marked || data.len() >= most {
+        let is_marked = !mark.is_empty() && bytes.starts_with(mark);
+        if is_marked || bytes.len() >= most {
             return Ok(Filled::Enough);
         }
         match file.read(&mut piece) {
             Ok(0) => return Ok(Filled::End),
-            Ok(len) => data.extend_from_slice(&piece[..len])?,
+            Ok(len) => bytes.extend_from_slice(&piece[..len])?,
             Err(reason) => return Ok(Filled::Failed(reason)),
         }
     }

@@ -5,7 +5,7 @@ use std::alloc::Global;
 use std::str;
 
 /// The most bytes up to the array.
-const HEAD: usize = 65_536;
+const MOST_BYTES: usize = 65_536;
 
 /// What the head says of the array.
 #[derive(Clone, Copy, Debug)]
@@ -28,8 +28,8 @@ pub(crate) struct Head<'a> {
 ///
 /// The version is not 1 to 3, the head does not end within the file or within 65,536 bytes, it does not say what it has to, or memory was
 /// refused.
-pub(crate) fn read_head(alloc: Global, data: &[u8]) -> Result<(Head<'_>, &[u8]), TableError> {
-    let width = match data.get(6) {
+pub(crate) fn read_head(alloc: Global, file: &[u8]) -> Result<(Head<'_>, &[u8]), TableError> {
+    let width = match file.get(6).copied() {
         Some(1) => 2,
         Some(2 | 3) => 4,
         _ => {
@@ -37,8 +37,8 @@ pub(crate) fn read_head(alloc: Global, data: &[u8]) -> Result<(Head<'_>, &[u8]),
             return Err(TableError::plain(alloc, said));
         }
     };
-    let count = data.len();
-    let Some((length, behind)) = length_of(data, width) else {
+    let count = file.len();
+    let Some((length, behind)) = length_of(file, width) else {
         let end = width.saturating_add(8);
         return Err(TableError::of(format!(in alloc;
             "its head is to end at byte {end}, and there are {count}"
@@ -60,8 +60,8 @@ pub(crate) fn read_head(alloc: Global, data: &[u8]) -> Result<(Head<'_>, &[u8]),
 }
 
 // The length of the head, in this number of bytes behind the version, and what follows them.
-fn length_of(data: &[u8], width: usize) -> Option<(u64, &[u8])> {
-    let (_, behind) = data.split_at_checked(8)?;
+fn length_of(file: &[u8], width: usize) -> Option<(u64, &[u8])> {
+    let (_, behind) = file.split_at_checked(8)?;
     let (length, behind) = behind.split_at_checked(width)?;
     let mut value: u64 = 0;
     for byte in length.iter().rev() {
@@ -72,7 +72,7 @@ fn length_of(data: &[u8], width: usize) -> Option<(u64, &[u8])> {
 
 // The head, of this length, and what follows it.
 fn parts_of(behind: &[u8], length: u64) -> Option<(&[u8], &[u8])> {
-    if length > HEAD as u64 {
+    if length > MOST_BYTES as u64 {
         return None;
     }
     behind.split_at_checked(length as usize)

@@ -2,7 +2,7 @@
 
 ghost use Rattle.std.specs.Prelude.{◌≤◌, IfOk};
 
-use crate::column::{Column, MOST_BYTES, MOST_LOAD, MOST_PLACE, WHOLE};
+use crate::column::{Column, MOST_BYTES, MOST_LOAD, MOST_PLACE, WHOLE_LOADS};
 use crate::error::TableError;
 use crate::npy_head::{Head, read_head};
 use crate::npy_numbers::{Number, NumberType};
@@ -18,7 +18,7 @@ struct Array<'a> {
     rows: usize,
     columns: usize,
     is_fortran: bool,
-    data: &'a [u8],
+    held: &'a [u8],
 }
 
 /// The rows of an NPY.
@@ -26,8 +26,8 @@ struct Array<'a> {
 /// # Errors
 ///
 /// The first fault of its head, its type, its shape and its length, and then of its elements; or memory was refused.
-pub(crate) fn npy_rows(alloc: Global, data: &[u8]) -> Result<Rows, TableError> {
-    let (head, behind) = read_head(alloc, data)?;
+pub(crate) fn npy_rows(alloc: Global, file: &[u8]) -> Result<Rows, TableError> {
+    let (head, behind) = read_head(alloc, file)?;
     let array = array_of(alloc, &head, behind)?;
     let mut rows = Rows::new(alloc, array.columns > 2);
     push_rows(alloc, &array, &mut rows)?;
@@ -35,7 +35,7 @@ pub(crate) fn npy_rows(alloc: Global, data: &[u8]) -> Result<Rows, TableError> {
 }
 
 // The array of which this is the head, and these are the bytes.
-fn array_of<'a>(alloc: Global, head: &Head<'_>, data: &'a [u8]) -> Result<Array<'a>, TableError> {
+fn array_of<'a>(alloc: Global, head: &Head<'_>, held: &'a [u8]) -> Result<Array<'a>, TableError> {
     let (kind, shape) = (head.kind, head.shape);
     let Some(numbers) = NumberType::of(kind) else {
         return Err(TableError::of(format!(in alloc;
@@ -54,7 +54,7 @@ fn array_of<'a>(alloc: Global, head: &Head<'_>, data: &'a [u8]) -> Result<Array<
         .rows
         .saturating_mul(head.columns)
         .saturating_mul(numbers.len as u64);
-    let count = data.len();
+    let count = held.len();
     if count as u64 != wanted {
         return Err(TableError::of(format!(in alloc;
             "there are {count} bytes behind the head, and an array of {kind} and the shape ({shape}) has {wanted}"
@@ -65,7 +65,7 @@ fn array_of<'a>(alloc: Global, head: &Head<'_>, data: &'a [u8]) -> Result<Array<
         rows: head.rows as usize,
         columns: head.columns as usize,
         is_fortran: head.is_fortran,
-        data,
+        held,
     })
 }
 
@@ -130,7 +130,7 @@ impl Array<'_> {
         };
         let len = self.numbers.len;
         let first = place.saturating_mul(len);
-        match self.data.get(first..first.saturating_add(len)) {
+        match self.held.get(first..first.saturating_add(len)) {
             Some(bytes) => self.numbers.number(bytes),
             // There are as many bytes as the shape says.
             None => Number::Whole(u64::MAX),
@@ -180,7 +180,7 @@ fn said_of(
         Number::Float(bits) => {
             let value = f64_from_bits_with_nan(bits);
             let hint = if column == Column::Load && is_fraction(number) {
-                WHOLE
+                WHOLE_LOADS
             } else {
                 ""
             };
