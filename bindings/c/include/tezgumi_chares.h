@@ -12,6 +12,7 @@
  *         while a handler is due     (tezgumi_pe_due):     run it;  tezgumi_pe_execute(&pe, answer.bytes, answer.len);
  *         while an element is wanted (tezgumi_pe_wanted):  tezgumi_pe_look(&pe, where it was known to be last);
  *         while tezgumi_pe_act does anything:              nothing more;
+ *         while tezgumi_pe_take_own takes a parcel:        that is in the hand now;
  *         while tezgumi_pe_send gives a message:           carry it;
  *         a message that came:                             tezgumi_pe_receive(&pe, message, len);
  *     tezgumi_pe_close(&pe);
@@ -106,6 +107,10 @@ int32_t tezgumi_pe_depart(struct tezgumi_pe *pe, uint32_t index, uint32_t to);
 /* Where the front of the outbox goes, and that parcel as a message. */
 int32_t tezgumi_pe_front(struct tezgumi_pe *pe, uint32_t *to);
 int32_t tezgumi_pe_send(struct tezgumi_pe *pe, uint32_t *to, uint8_t *message, size_t room, size_t *len);
+
+/* The front of the outbox is taken into the hand, where it goes to this PE and the hand is empty: as a send and a receive, without a
+ * message. */
+int32_t tezgumi_pe_take_own(struct tezgumi_pe *pe);
 
 /* A message that came is taken into the hand, where that is empty. */
 int32_t tezgumi_pe_receive(struct tezgumi_pe *pe, const uint8_t *message, size_t len);

@@ -33,7 +33,7 @@ static void closed_calls(const char *what)
     size_t len = 7;
     int32_t worst = TEZGUMI_PE_CLOSED;
     const uint8_t none[18] = {0};
-    int32_t found[13];
+    int32_t found[14];
     size_t i, other = 0;
     found[0] = tezgumi_pe_close(&pe);
     found[1] = tezgumi_pe_due(&pe, &number, body, sizeof body, &len);
@@ -47,6 +47,7 @@ static void closed_calls(const char *what)
     found[9] = tezgumi_pe_send(&pe, &number, message, sizeof message, &len);
     found[10] = tezgumi_pe_next_note(&pe, &number, &number, &number, &load, &number);
     found[11] = tezgumi_pe_note_done(&pe);
+    found[13] = tezgumi_pe_take_own(&pe);
     found[12] = tezgumi_pe_receive(&pe, none, 0) == TEZGUMI_PE_BAD_INPUT ? worst : 0;
     for (i = 0; i < sizeof found / sizeof *found; i++) other += found[i] != worst;
     test(what, other == 0 && number == 7 && load == 7 && len == 7);
@@ -76,6 +77,7 @@ static void idle_calls(void)
     same("a look to PE 256", tezgumi_pe_look(&pe, 256), TEZGUMI_PE_BAD_INPUT);
     same("an act", tezgumi_pe_act(&pe), TEZGUMI_PE_NOT_NOW);
     same("a send", tezgumi_pe_send(&pe, &number, message, sizeof message, &len), TEZGUMI_PE_NOT_NOW);
+    same("a parcel of its own", tezgumi_pe_take_own(&pe), TEZGUMI_PE_NOT_NOW);
     same("a note that is done", tezgumi_pe_note_done(&pe), TEZGUMI_PE_NOT_NOW);
     same("a departure", tezgumi_pe_depart(&pe, 0, 0), TEZGUMI_PE_NOT_NOW);
     same("a departure to PE 1 of 1", tezgumi_pe_depart(&pe, 0, 1), TEZGUMI_PE_BAD_INPUT);
@@ -138,9 +140,11 @@ static int carry(size_t len)
     return tezgumi_pe_receive(&pe, message, len) == TEZGUMI_PE_NOT_NOW;
 }
 
-/* One step of the PE: 1 where there was one, 0 where there is none, and -1 where it is wrong. */
+/* One step of the PE: 1 where there was one, 0 where there is none, and -1 where it is wrong. Every second letter is taken as it is, and
+ * the others as messages. */
 static int step(void)
 {
+    static uint32_t turn;
     uint32_t index, to, found;
     size_t len, needed;
     int32_t status = tezgumi_pe_due(&pe, &index, body, sizeof body, &len);
@@ -148,6 +152,7 @@ static int step(void)
     if (status != TEZGUMI_PE_NOTHING) return -1;
     if (tezgumi_pe_wanted(&pe, &index) == TEZGUMI_PE_OK) return tezgumi_pe_look(&pe, 0) == TEZGUMI_PE_OK ? 1 : -1;
     if (tezgumi_pe_front(&pe, &found) == TEZGUMI_PE_NOTHING) return 0;
+    if (turn++ % 2 == 1) return tezgumi_pe_take_own(&pe) == TEZGUMI_PE_OK && tezgumi_pe_take_own(&pe) == TEZGUMI_PE_NOT_NOW ? 1 : -1;
     if (tezgumi_pe_send(&pe, &to, message, 4, &needed) != TEZGUMI_PE_LONGER) return -1;
     if (tezgumi_pe_send(&pe, &to, message, needed, &len) != TEZGUMI_PE_OK || len != needed || to != found) return -1;
     return carry(len) ? 1 : -1;

@@ -82,7 +82,7 @@ static void moves(void)
     same("it departs", tezgumi_pe_depart(&pes[0], 0, 1), TEZGUMI_PE_OK);
     same("and once", tezgumi_pe_depart(&pes[0], 0, 1), TEZGUMI_PE_NOT_NOW);
     same("it is on its way", tezgumi_pe_send(&pes[0], &to, element, sizeof element, &len), TEZGUMI_PE_OK);
-    test("to PE 1, in a message of 56 bytes and two marks of 25, without its zeros", to == 1 && len == 106);
+    test("to PE 1, in a message of 60 bytes, without its zeros and its marks", to == 1 && len == 60);
     test("the letter comes too late", carries(1, 0) && tezgumi_pe_wanted(&pes[0], &wanted) == TEZGUMI_PE_OK && wanted == 0);
     same("no handler is due", tezgumi_pe_execute(&pes[0], answer.bytes, answer.len), TEZGUMI_PE_NOT_NOW);
     same("its element is on PE 1 now", tezgumi_pe_look(&pes[0], 1), TEZGUMI_PE_OK);

@@ -1,6 +1,6 @@
 //! An element on a PE.
 
-ghost use Rattle.std.specs.Prelude.{◌≡◌, ◌≢◌, ℕ, List, ◌+◌, ◌∷◌, ◌++◌, [], ◌<◌, ◌≤◌, length, false, true, IfOk, IfErr, IfSome, OnOk, OnErr, Some, None, slice_get, vec_len, vec_capacity};
+ghost use Rattle.std.specs.Prelude.{◌≡◌, ◌≢◌, ℕ, List, ◌+◌, ◌∷◌, ◌++◌, [], ◌<◌, ◌≤◌, length, false, true, IfOk, IfErr, IfSome, OnOk, OnErr, Some, None, slice_get};
 ghost use Rattle.chare_index.specs.declared.limits.TheConstants.Limits.{LOAD, ROUND};
 ghost use Rattle.chares.specs.declared.entry.Entry.{Entry};
 ghost use Rattle.chares.specs.declared.sends.SendError.TheVariants.{OutOfMemory};
@@ -15,6 +15,7 @@ use crate::chare::{Armed, Chare, Here};
 use crate::history::History;
 use crate::kept_mark::KeptMark;
 use crate::letter::Letter;
+use crate::marks::Marks;
 use crate::note::Note;
 use crate::progress::{Ending, Progress};
 use crate::sends::{SendError, Sends};
@@ -28,27 +29,27 @@ use std::marker::Model;
 /// A chare with what it has done. Contracts see it as the record `ElementView`. Each element on a PE is what its journal says:
 /// the chare that its array opened with, after each entry in turn. The type of the PE says so, and names the array.
 #[derive(Drop)]
-pub struct Element<C: Chare<A>, A: Allocator = Global> {
+pub struct Element<C: Chare<A>, A: Allocator = Global, M: Marks<A> = Vec<KeptMark, A>> {
     index: Index,
     chare: C,
     journal: Annals<A>,
     progress: Progress,
-    marks: Vec<KeptMark, A>,
+    marks: M,
 }
 
-impl<C: Chare<A>, A: Allocator> Model for Element<C, A> {
+impl<C: Chare<A>, A: Allocator, M: Marks<A>> Model for Element<C, A, M> {
     ghost use Rattle.std.specs.Prelude.{◌<◌};
     ghost use Rattle.chare_index.specs.declared.limits.TheConstants.Limits.{ROUND};
     ghost use Rattle.chares.specs.Elements.{ElementView};
 
     ghost Value = { ElementView C };
 
-    ghost view = { λ e. record { index = e.index; chare = e.chare; journal = e.journal.entries; progress = e.progress; marks = e.marks.items } };
+    ghost view = { λ e. record { index = e.index; chare = e.chare; journal = e.journal.entries; progress = e.progress; marks = M.all e.marks } };
 
     ghost invariant = { λ e. e.progress.round < ROUND };
 }
 
-impl<C: Chare<A>, A: Allocator> Element<C, A> {
+impl<C: Chare<A>, A: Allocator, M: Marks<A>> Element<C, A, M> {
     /// The element with this index, as the array opens.
     pub fn new(alloc: A, index: Index, chare: C) -> Self
     where
@@ -60,7 +61,7 @@ impl<C: Chare<A>, A: Allocator> Element<C, A> {
             chare,
             journal: Annals::new(alloc),
             progress: Progress::opening(),
-            marks: Vec::new(alloc),
+            marks: M::new(alloc),
         }
     }
 
@@ -144,14 +145,14 @@ impl<C: Chare<A>, A: Allocator> Element<C, A> {
     }
 
     /// Its marks of the rounds that it has seen.
-    pub fn marks(&self) -> &[KeptMark]
-        ensures value { result.now ≡ self.now.marks }
+    pub fn marks(&self) -> &M
+        ensures value { M.all result.now ≡ self.now.marks }
     {
-        self.marks.as_slice()
+        &self.marks
     }
 }
 
-impl<C: Armed<A>, A: Allocator> Element<C, A> {
+impl<C: Armed<A>, A: Allocator, M: Marks<A>> Element<C, A, M> {
     /// Gives its chare what no contract sees.
     pub fn arm(&mut self, given: C::Given)
         requires fit { C.may_take self.old.chare given }
@@ -161,13 +162,13 @@ impl<C: Armed<A>, A: Allocator> Element<C, A> {
     }
 }
 
-impl<C: Chare<A>, A: Allocator> Element<C, A> {
+impl<C: Chare<A>, A: Allocator, M: Marks<A>> Element<C, A, M> {
     /// All but its chare, which is dropped.
-    pub(crate) fn into_parts(self) -> (Index, Annals<A>, Progress, Vec<KeptMark, A>)
+    pub(crate) fn into_parts(self) -> (Index, Annals<A>, Progress, M)
         ensures index { result.0 ≡ self.index }
         ensures journal { result.1.entries ≡ self.journal }
         ensures progress { result.2 ≡ self.progress }
-        ensures marks { result.3.items ≡ self.marks }
+        ensures marks { M.all result.3 ≡ self.marks }
         ensures before_last_round { self.progress.round < ROUND }
     {
         let Element {
@@ -186,10 +187,10 @@ impl<C: Chare<A>, A: Allocator> Element<C, A> {
         chare: C,
         journal: Annals<A>,
         progress: Progress,
-        marks: Vec<KeptMark, A>,
+        marks: M,
     ) -> Self
         requires before_last_round { progress.round < ROUND }
-        ensures value { result ≡ record { index = index; chare = chare; journal = journal.entries; progress = progress; marks = marks.items } }
+        ensures value { result ≡ record { index = index; chare = chare; journal = journal.entries; progress = progress; marks = M.all marks } }
     {
         Element {
             index,
@@ -210,7 +211,7 @@ pub struct Unread<A: Allocator = Global> {
     pub error: SendError,
 }
 
-impl<C: Chare<A>, A: Allocator> Element<C, A> {
+impl<C: Chare<A>, A: Allocator, M: Marks<A>> Element<C, A, M> {
     /// Executes a letter on this PE, enters it in the trace, and returns the note that is owed for it. On a refusal the letter is
     /// given back, the element is unchanged, and what the handler had posted is taken back.
     pub fn execute<G: Gate, P: Drop>(
@@ -260,7 +261,7 @@ impl<C: Chare<A>, A: Allocator> Element<C, A> {
         let note = owed(&self.chare, &progress, ending, self.index, pe);
         self.progress = progress.ended(ending);
         self.journal.push_letter(letter);
-        mark(&mut self.marks, &note);
+        mark::<A, M>(&mut self.marks, &note);
         Ok(note)
     }
 
@@ -303,12 +304,9 @@ impl<C: Chare<A>, A: Allocator> Element<C, A> {
         let ending = progress.ending(effect);
         let note = owed(&self.chare, &progress, ending, self.index, pe);
         self.progress = progress.ended(ending);
-        let kept = KeptMark::resumed(round, pe);
         self.journal.push_resumption(round);
-        let Ok(()) = self.marks.push(kept) else {
-            unreachable!()
-        };
-        mark(&mut self.marks, &note);
+        self.marks.push(KeptMark::resumed(round, pe));
+        mark::<A, M>(&mut self.marks, &note);
         Ok(note)
     }
 }
@@ -338,10 +336,10 @@ fn owed<C: Chare<A>, A: Allocator>(
 }
 
 // Adds the mark of a note by which an element waits; any other note leaves no mark.
-fn mark<A: Allocator>(marks: &mut Vec<KeptMark, A>, note: &Option<Note>)
-    requires room { vec_len marks.old < vec_capacity marks.old }
+fn mark<A: Allocator, M: Marks<A>>(marks: &mut M, note: &Option<Note>)
+    requires room { 0 < M.room marks.old }
     requires light { IfSome note.now IsLight }
-    ensures { marks.new.items ≡ marks.old.items ++ synced_mark note.now }
+    ensures { M.all marks.new ≡ M.all marks.old ++ synced_mark note.now }
 {
     let Some(note) = note else {
         return;
@@ -350,7 +348,5 @@ fn mark<A: Allocator>(marks: &mut Vec<KeptMark, A>, note: &Option<Note>)
         return;
     }
     let kept = KeptMark::synced(*note).unwrap();
-    let Ok(()) = marks.push(kept) else {
-        unreachable!()
-    };
+    marks.push(kept);
 }

@@ -8,6 +8,7 @@ use crate::annals::Annals;
 use crate::chare::{Chare, Openings};
 use crate::element::Element;
 use crate::kept_mark::KeptMark;
+use crate::marks::Marks;
 use crate::past::Past;
 use crate::progress::Progress;
 use chare_index::Index;
@@ -17,23 +18,23 @@ use std::marker::{Model, PhantomData};
 
 // The parts of an element on its way.
 #[derive(Drop)]
-struct Luggage<A: Allocator> {
+struct Luggage<A: Allocator, M: Marks<A>> {
     index: Index,
     bytes: Vec<u8, A>,
     journal: Annals<A>,
     progress: Progress,
-    marks: Vec<KeptMark, A>,
+    marks: M,
 }
 
 /// An element on its way, with its state packed. It is as small as a pointer, since queues move it. Contracts see it as the
 /// record `PackedView`. Its type does not say that its bytes are the pack of what its journal says: the type [`PackedElement`]
 /// does.
 #[derive(Drop)]
-pub struct Packed<A: Allocator = Global> {
-    luggage: Box<Luggage<A>, A>,
+pub struct Packed<A: Allocator = Global, M: Marks<A> = Vec<KeptMark, A>> {
+    luggage: Box<Luggage<A, M>, A>,
 }
 
-impl<A: Allocator> Model for Packed<A> {
+impl<A: Allocator, M: Marks<A>> Model for Packed<A, M> {
     ghost use Rattle.std.specs.Prelude.{◌<◌};
     ghost use Rattle.chare_index.specs.declared.limits.TheConstants.Limits.{ROUND};
     ghost use Rattle.chares.specs.Elements.{PackedView};
@@ -45,13 +46,13 @@ impl<A: Allocator> Model for Packed<A> {
       bytes = e.luggage.value.bytes.items;
       journal = e.luggage.value.journal.entries;
       progress = e.luggage.value.progress;
-      marks = e.luggage.value.marks.items;
+      marks = M.all e.luggage.value.marks;
     } };
 
     ghost invariant = { λ e. e.luggage.value.progress.round < ROUND };
 }
 
-impl<A: Allocator> Packed<A> {
+impl<A: Allocator, M: Marks<A>> Packed<A, M> {
     /// An element that came as a message from another process, where it was given up as this one is made: with the pack of its chare,
     /// how many entries its journal has, which are those of `past` and all settled, how far it has come, and its marks. The only
     /// error is that memory was refused.
@@ -62,13 +63,13 @@ impl<A: Allocator> Packed<A> {
         past: Past,
         settled: u64,
         progress: Progress,
-        marks: Vec<KeptMark, A>,
+        marks: M,
     ) -> Result<Self, AllocError>
     where
         A: Copy,
         requires counted { length past.entries ≡ settled }
         requires before_last_round { progress.round < ROUND }
-        ensures value { IfOk result (λ e. e ≡ record { index = index; bytes = bytes.items; journal = past.entries; progress = progress; marks = marks.items }) }
+        ensures value { IfOk result (λ e. e ≡ record { index = index; bytes = bytes.items; journal = past.entries; progress = progress; marks = M.all marks }) }
     {
         let luggage = Luggage {
             index,
@@ -112,10 +113,10 @@ impl<A: Allocator> Packed<A> {
     }
 
     /// Its marks of the rounds that it has seen.
-    pub fn marks(&self) -> &[KeptMark]
-        ensures value { result.now ≡ self.now.marks }
+    pub fn marks(&self) -> &M
+        ensures value { M.all result.now ≡ self.now.marks }
     {
-        self.luggage.marks.as_slice()
+        &self.luggage.marks
     }
 
     /// Unpacks its chare, where its bytes are the pack of what its journal says, of the array that `H` names. Such bytes
@@ -134,7 +135,7 @@ impl<A: Allocator> Packed<A> {
     }
 
     /// The element with the chare that its bytes unpacked to.
-    pub fn open<C: Chare<A>>(self, chare: C) -> Element<C, A>
+    pub fn open<C: Chare<A>>(self, chare: C) -> Element<C, A, M>
         ensures value { result ≡ unpacked self chare }
     {
         let Packed { luggage } = self;
@@ -152,13 +153,18 @@ impl<A: Allocator> Packed<A> {
 /// An element on its way whose bytes are the pack of what its journal says, of the array that `H` names: what queues carry.
 /// Contracts see it as the record `PackedView`.
 #[derive(Drop)]
-pub struct PackedElement<C: Chare<A>, H: Openings<C>, A: Allocator = Global> {
-    packed: Packed<A>,
+pub struct PackedElement<
+    C: Chare<A>,
+    H: Openings<C>,
+    A: Allocator = Global,
+    M: Marks<A> = Vec<KeptMark, A>,
+> {
+    packed: Packed<A, M>,
     chare: PhantomData<C>,
     of: PhantomData<H>,
 }
 
-impl<C: Chare<A>, H: Openings<C>, A: Allocator> Model for PackedElement<C, H, A> {
+impl<C: Chare<A>, H: Openings<C>, A: Allocator, M: Marks<A>> Model for PackedElement<C, H, A, M> {
     ghost use Rattle.chares.specs.Elements.{PackedView, IsPackedHistory};
 
     ghost Value = { PackedView };
@@ -168,9 +174,9 @@ impl<C: Chare<A>, H: Openings<C>, A: Allocator> Model for PackedElement<C, H, A>
     ghost invariant = { λ e. IsPackedHistory C.step C.fits C.pack H.opened e.packed };
 }
 
-impl<C: Chare<A>, H: Openings<C>, A: Allocator> PackedElement<C, H, A> {
+impl<C: Chare<A>, H: Openings<C>, A: Allocator, M: Marks<A>> PackedElement<C, H, A, M> {
     /// Takes what a PE has packed, where its bytes are the pack of what its journal says.
-    pub fn new(packed: Packed<A>) -> Self
+    pub fn new(packed: Packed<A, M>) -> Self
         requires consistent { IsPackedHistory C.step C.fits C.pack H.opened packed }
         ensures value { result ≡ packed }
     {
@@ -182,14 +188,14 @@ impl<C: Chare<A>, H: Openings<C>, A: Allocator> PackedElement<C, H, A> {
     }
 
     /// What was packed.
-    pub fn packed(&self) -> &Packed<A>
+    pub fn packed(&self) -> &Packed<A, M>
         ensures value { result.now ≡ self.now }
     {
         &self.packed
     }
 
     /// What was packed. The clause `consistent` says what its type said.
-    pub fn into_packed(self) -> Packed<A>
+    pub fn into_packed(self) -> Packed<A, M>
         ensures value { result ≡ self }
         ensures consistent { IsPackedHistory C.step C.fits C.pack H.opened self }
     {
@@ -227,8 +233,8 @@ impl<C: Chare<A>, H: Openings<C>, A: Allocator> PackedElement<C, H, A> {
     }
 
     /// Its marks of the rounds that it has seen.
-    pub fn marks(&self) -> &[KeptMark]
-        ensures value { result.now ≡ self.now.marks }
+    pub fn marks(&self) -> &M
+        ensures value { M.all result.now ≡ self.now.marks }
     {
         self.packed.marks()
     }
@@ -236,11 +242,11 @@ impl<C: Chare<A>, H: Openings<C>, A: Allocator> PackedElement<C, H, A> {
 
 /// The memory that an element needs to leave, with its state packed in it. Contracts see it as the pack.
 #[derive(Drop)]
-pub struct Packing<A: Allocator = Global> {
-    luggage: Box<Luggage<A>, A>,
+pub struct Packing<A: Allocator = Global, M: Marks<A> = Vec<KeptMark, A>> {
+    luggage: Box<Luggage<A, M>, A>,
 }
 
-impl<A: Allocator> Model for Packing<A> {
+impl<A: Allocator, M: Marks<A>> Model for Packing<A, M> {
     ghost use Rattle.std.specs.Prelude.{List, ℕ};
 
     ghost Value = { List ℕ };
@@ -248,9 +254,9 @@ impl<A: Allocator> Model for Packing<A> {
     ghost view = { λ p. p.luggage.value.bytes.items };
 }
 
-impl<A: Allocator> Packing<A> {
+impl<A: Allocator, M: Marks<A>> Packing<A, M> {
     /// Packs the state of an element that stays. This takes all the memory that leaving takes.
-    pub fn of<C: Chare<A>>(alloc: A, element: &Element<C, A>) -> Result<Self, AllocError>
+    pub fn of<C: Chare<A>>(alloc: A, element: &Element<C, A, M>) -> Result<Self, AllocError>
     where
         A: Copy,
         ensures pack { IfOk result (λ packing. packing ≡ C.pack element.now.chare) }
@@ -267,7 +273,7 @@ impl<A: Allocator> Packing<A> {
             bytes,
             journal: Annals::new(alloc),
             progress: element.progress(),
-            marks: Vec::new(alloc),
+            marks: M::new(alloc),
         };
         match Box::new(alloc, luggage) {
             Ok(luggage) => Ok(Packing { luggage }),
@@ -276,9 +282,9 @@ impl<A: Allocator> Packing<A> {
     }
 }
 
-impl<A: Allocator> Packing<A> {
+impl<A: Allocator, M: Marks<A>> Packing<A, M> {
     /// The element leaves. Its chare is dropped, since the pack has its state.
-    pub fn close<C: Chare<A>>(self, element: Element<C, A>) -> Packed<A>
+    pub fn close<C: Chare<A>>(self, element: Element<C, A, M>) -> Packed<A, M>
         requires pack { self ≡ C.pack element.chare }
         ensures value { result ≡ packed C.pack element }
     {

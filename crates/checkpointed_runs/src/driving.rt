@@ -57,7 +57,7 @@ pub fn drive_from<
     requires some_turn { 1 ≤ turns }
     requires few_turns { turns ≤ Limits.IDLE_TURNS }
     requires within { IsWithin from }
-    ensures ends { EndsFrom ⟦<Tally<A> as Pup<A>>⟧.fits options.now.strategy from (W.contents writer.old) (W.contents writer.new) result.outcome result.ended }
+    ensures ends { EndsFrom ⟦<Tally<A> as Pup<A>>⟧.fits options.now from (W.contents writer.old) (W.contents writer.new) result.outcome result.ended }
 {
     let Checkpoint {
         decided,
@@ -109,7 +109,7 @@ fn run_rest<
     requires some_turn { 1 ≤ turns }
     requires few_turns { turns ≤ Limits.IDLE_TURNS }
     requires within { IsWithin (record { decided = decided.items; places = places.items; workload = workload }) }
-    ensures ends { EndsFrom ⟦<Tally<A> as Pup<A>>⟧.fits options.now.strategy (record { decided = decided.items; places = places.items; workload = workload })
+    ensures ends { EndsFrom ⟦<Tally<A> as Pup<A>>⟧.fits options.now (record { decided = decided.items; places = places.items; workload = workload })
         (W.contents writer.old) (W.contents writer.new) result.outcome result.ended }
 {
     let chares = workload.chares as usize;
@@ -169,7 +169,7 @@ fn outcome_from<
     requires some_turn { 1 ≤ turns }
     requires few_turns { turns ≤ Limits.IDLE_TURNS }
     requires within { IsWithin (record { decided = decided.items; places = places.items; workload = workload }) }
-    ensures left { IfOk result (IsLeftFrom ⟦<Tally<A> as Pup<A>>⟧.fits (record { decided = decided.items; places = places.items; workload = workload }) options.now.strategy) }
+    ensures left { IfOk result (IsLeftFrom ⟦<Tally<A> as Pup<A>>⟧.fits (record { decided = decided.items; places = places.items; workload = workload }) options.now) }
 {
     let config = Config {
         pes: workload.pes,

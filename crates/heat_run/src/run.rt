@@ -4,7 +4,7 @@ ghost use Rattle.std.specs.Prelude.{◌≡◌, IfOk, MatchResult};
 ghost use Rattle.heat_rod.specs.Rods.{opening_rod};
 ghost use Rattle.rts_core.specs.Worlds.{opening_words};
 ghost use Rattle.rts_run.specs.Configs.{MayBegin, RefusesRun};
-ghost use Rattle.rts_run.specs.Outcomes.{EndsIdle, IsOutcome};
+ghost use Rattle.rts_run.specs.Outcomes.{EndsIdle, IsOutcome, StopsEarly};
 
 use chare_index::NoGate;
 use chares::Chare;
@@ -32,6 +32,7 @@ pub fn run_rod<R: Threads + Wait + Sync, A: Allocator + Copy + Send + Sync>(
     ensures outcome { IfOk result (IsOutcome ⟦<RodChare<A> as Chare<A>>⟧.step ⟦<RodChare<A> as Pup<A>>⟧.fits ⟦<RodChare<A> as Pup<A>>⟧.pack
         ⟦<RodChare<A> as Chare<A>>⟧.refuses (opening_rod rod.now.plan rod.now.strips) config.now.pes options.now.strategy) }
     ensures idle { IfOk result (EndsIdle options.now.idle) }
+    ensures stopped { IfOk result StopsEarly }
     ensures homes { IfOk result (λ o. o.homes ≡ opening_words rod.now.strips config.now.pes) }
 {
     if let Some(_setting) = config.first_outside(rod.strips as usize) {

@@ -5,7 +5,7 @@ ghost use Rattle.hot_spot_strip.specs.Openings.{opening_strips};
 ghost use Rattle.hot_spot_strip.specs.Strips.{StripRefuses, strip_step};
 ghost use Rattle.hot_spot_strip.specs.declared.error.StripChainError.TheVariants.{Limit};
 ghost use Rattle.rts_core.specs.Worlds.{opening_words};
-ghost use Rattle.rts_run.specs.Outcomes.{EndsIdle, IsOutcome};
+ghost use Rattle.rts_run.specs.Outcomes.{EndsIdle, IsOutcome, StopsEarly};
 ghost use Rattle.hot_spot_run.specs.Limits.{MayRun};
 
 use chare_index::NoGate;
@@ -33,6 +33,7 @@ pub fn run_chain<R: Threads + Wait + Sync, A: Allocator + Copy + Send + Sync>(
     ensures outcome { IfOk result (IsOutcome strip_step ⟦<Strip<A> as Pup<A>>⟧.fits ⟦<Strip<A> as Pup<A>>⟧.pack StripRefuses
         (opening_strips chain.now.mode chain.now.rounds chain.now.work 0 chain.now.cells.now) config.now.pes options.now.strategy) }
     ensures idle { IfOk result (EndsIdle options.now.idle) }
+    ensures stopped { IfOk result StopsEarly }
     ensures homes { IfOk result (λ o. o.homes ≡ opening_words (length chain.now.cells.now) config.now.pes) }
     ensures within { IfOk result (λ _. MayRun chain.now.mode chain.now.rounds chain.now.work chain.now.cells.now config.now) }
     ensures refused { IfErr result (λ e. e ≡ Limit → ¬ (MayRun chain.now.mode chain.now.rounds chain.now.work chain.now.cells.now config.now)) }
@@ -60,6 +61,7 @@ pub fn run_chain_watched<
     ensures outcome { IfOk result (IsOutcome strip_step ⟦<Strip<A> as Pup<A>>⟧.fits ⟦<Strip<A> as Pup<A>>⟧.pack StripRefuses
         (opening_strips chain.now.mode chain.now.rounds chain.now.work 0 chain.now.cells.now) config.now.pes options.now.strategy) }
     ensures idle { IfOk result (EndsIdle options.now.idle) }
+    ensures stopped { IfOk result StopsEarly }
     ensures homes { IfOk result (λ o. o.homes ≡ opening_words (length chain.now.cells.now) config.now.pes) }
     ensures within { IfOk result (λ _. MayRun chain.now.mode chain.now.rounds chain.now.work chain.now.cells.now config.now) }
     ensures refused { IfErr result (λ e. e ≡ Limit → ¬ (MayRun chain.now.mode chain.now.rounds chain.now.work chain.now.cells.now config.now)) }

@@ -6,20 +6,20 @@ use Rattle.chares.specs.declared.progress.Progress.{Progress}
 use Rattle.chares.specs.Elements.{PackedView}
 use Rattle.chares.specs.Letters.{Done}
 
--- its index, the pack of its chare, how many entries its journal has, how far it has come, and its marks
+-- its index, the pack of its chare, how many entries its journal has, how far it has come, and how many marks it has
 pub record SentElement : Type 0 where
   pub index : ℕ
   pub bytes : List ℕ
   pub entries : ℕ
   pub progress : Progress
-  pub marks : List Mark
+  pub marks : ℕ
 
 -- its fields, in the order in which they are packed
 abbrev pub ProgressParts : Type 0
 ProgressParts = ℕ × (Bool × (Bool × (Bool × ℕ)))
 
 abbrev pub Parts : Type 0
-Parts = ℕ × (List ℕ × (ℕ × (ProgressParts × List Mark)))
+Parts = ℕ × (List ℕ × (ℕ × (ProgressParts × ℕ)))
 
 abbrev pub progress_parts : Progress → ProgressParts
 progress_parts p = (p.round, (p.started, (p.synced, (p.finished, p.load))))
@@ -39,8 +39,8 @@ is_element e = nat_lt e.index ELEMENTS && nat_lt e.progress.round ROUND
 
 -- what is sent of an element
 abbrev pub sent_of : PackedView → SentElement
-sent_of p = record { index = p.index; bytes = p.bytes; entries = length p.journal; progress = p.progress; marks = p.marks }
+sent_of p = record { index = p.index; bytes = p.bytes; entries = length p.journal; progress = p.progress; marks = length p.marks }
 
--- the element of which that was sent, with these entries
-abbrev pub arrived : SentElement → List Done → PackedView
-arrived e entries = record { index = e.index; bytes = e.bytes; journal = entries; progress = e.progress; marks = e.marks }
+-- the element of which that was sent, with these entries and marks
+abbrev pub arrived : SentElement → List Done → List Mark → PackedView
+arrived e entries marks = record { index = e.index; bytes = e.bytes; journal = entries; progress = e.progress; marks = marks }

@@ -6,6 +6,7 @@ use Rattle.std.proofs.lemmas.Bool.Decides.{nat_tests}
 use Rattle.chare_index.specs.declared.limits.TheConstants.Limits.{STATE_BYTES}
 use Rattle.chares.specs.declared.carried.Carried.{Carried}
 use Rattle.chares.specs.declared.carried.Carried.TheVariants as Carried
+use Rattle.chares.specs.declared.note.Mark.{Mark}
 use Rattle.chares.specs.Elements.{PackedView}
 use Rattle.chares.specs.Letters.{LetterView, Done}
 use Rattle.pup_pack.specs.Packing.{and_then, RoundTrip}
@@ -20,15 +21,15 @@ abbrev pub sent : Carried LetterView PackedView → WireParcel
 sent (Carried.Letter l) = Letter l
 sent (Carried.Element p) = Element (sent_of p)
 
--- whether these are as many entries as the journal of an element has that was sent
-abbrev pub AreEntriesOf : WireParcel → List Done → Type 0
-AreEntriesOf (Letter l) entries = Unit {0}
-AreEntriesOf (Element e) entries = length entries ≡ e.entries
+-- whether these are as many entries as the journal of an element has that was sent, and as many marks as it has
+abbrev pub ArePastOf : WireParcel → List Done → List Mark → Type 0
+ArePastOf (Letter l) entries marks = Unit {0}
+ArePastOf (Element e) entries marks = (length entries ≡ e.entries) × (length marks ≡ e.marks)
 
--- the parcel of which that was sent, where it is an element with these entries
-abbrev pub came : WireParcel → List Done → Carried LetterView PackedView
-came (Letter l) entries = Carried.Letter l
-came (Element e) entries = Carried.Element (arrived e entries)
+-- the parcel of which that was sent, where it is an element with these entries and marks
+abbrev pub came : WireParcel → List Done → List Mark → Carried LetterView PackedView
+came (Letter l) entries marks = Carried.Letter l
+came (Element e) entries marks = Carried.Element (arrived e entries marks)
 
 -- the message of what is sent
 abbrev pub encoded : (LetterView → List ℕ) → (SentElement → List ℕ) → WireParcel → List ℕ

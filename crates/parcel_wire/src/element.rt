@@ -3,17 +3,15 @@
 ghost use Rattle.std.specs.Prelude.{◌≡◌, ◌↔◌, false, length, IfOk, IfSome, IsNone};
 ghost use Rattle.parcel_wire.specs.Elements.{arrived, is_element, of_parts, sent_of};
 
-use crate::mark::WireMark;
-use crate::marks::{kept_marks, wire_marks};
 use chare_index::{Index, Limits, Round};
-use chares::{Packed, Past, Progress};
-use pup_pack::{Fields, Items, Pup, PupError};
+use chares::{ForgottenMarks, Packed, Past, PastMarks, Progress};
+use pup_pack::{Fields, Pup, PupError};
 use std::alloc::{AllocError, Global};
 use std::marker::Model;
 use zero_tails::Trimmed;
 
-/// What is sent of an element: its index, the pack of its chare, how many entries its journal has, how far it has come, and its
-/// marks. Contracts see it as the record `SentElement`.
+/// What is sent of an element: its index, the pack of its chare, how many entries its journal has, how far it has come, and how many
+/// marks it has. Contracts see it as the record `SentElement`.
 #[derive(Drop)]
 pub struct WireElement {
     index: u32,
@@ -21,14 +19,14 @@ pub struct WireElement {
     entries: u64,
     // The round, whether it has started, waits and has finished, and the load.
     progress: ProgressParts,
-    marks: Items<WireMark>,
+    marks: u64,
 }
 
 /// How far an element has come, as it is packed.
 type ProgressParts = (u32, (bool, (bool, (bool, u64))));
 
 /// The fields of an element, as they are packed.
-type Parts = (u32, (Trimmed, (u64, (ProgressParts, Items<WireMark>))));
+type Parts = (u32, (Trimmed, (u64, (ProgressParts, u64))));
 
 impl Model for WireElement {
     ghost use Rattle.std.specs.Prelude.{◌≡◌, true};
@@ -48,9 +46,12 @@ impl WireElement {
     ///
     /// - [`OutOfMemory`](PupError::OutOfMemory): memory was refused.
     /// - [`TooLong`](PupError::TooLong): its journal has 2^64 entries or more, or its pack more than 1,048,576 bytes.
-    /// - [`Bad`](PupError::Bad): it waits for the last round, or the load of a mark is above the limit of a load.
+    /// - [`Bad`](PupError::Bad): it waits for the last round.
     #[tactic(auto, using(crate::proofs::Lengths::journal_length))]
-    pub fn of(alloc: Global, element: &Packed) -> Result<Self, PupError>
+    pub fn of(
+        alloc: Global,
+        element: &Packed<Global, ForgottenMarks>,
+    ) -> Result<Self, PupError>
         ensures value { IfOk result (λ e. e ≡ sent_of element.now) }
     {
         let progress = element.progress();
@@ -61,7 +62,6 @@ impl WireElement {
         let Some(entries) = journal.settled().checked_add(journal.kept().len() as u64) else {
             return Err(PupError::TooLong);
         };
-        let marks = wire_marks(alloc, element.marks())?;
         let bytes = Trimmed::of(alloc, element.bytes())?;
         Ok(WireElement {
             index: element.index().get(),
@@ -74,7 +74,7 @@ impl WireElement {
                     (progress.synced, (progress.finished, progress.load)),
                 ),
             ),
-            marks: Items::new(marks),
+            marks: element.marks().count(),
         })
     }
 
@@ -96,11 +96,17 @@ impl WireElement {
         })
     }
 
-    /// The element, where it came as a message, with the entries of its journal, which are as many as were sent. The only error is
-    /// that memory was refused.
-    pub fn into_packed(self, alloc: Global, past: Past) -> Result<Packed, AllocError>
+    /// The element, where it came as a message, with the entries of its journal and its marks, which are as many as were sent. The only
+    /// error is that memory was refused.
+    pub fn into_packed(
+        self,
+        alloc: Global,
+        past: Past,
+        marked: PastMarks,
+    ) -> Result<Packed<Global, ForgottenMarks>, AllocError>
         requires counted { length past.entries ≡ self.entries }
-        ensures value { IfOk result (λ e. e ≡ arrived self past.entries) }
+        requires marked { length marked.marks ≡ self.marks }
+        ensures value { IfOk result (λ e. e ≡ arrived self past.entries marked.marks) }
     {
         let WireElement {
             index,
@@ -117,7 +123,7 @@ impl WireElement {
             finished,
             load,
         };
-        let marks = kept_marks(alloc, marks.as_slice())?;
+        let marks = ForgottenMarks::arrived(marked, marks);
         let index = Index::new(index).unwrap();
         let bytes = bytes.into_vec()?;
         Packed::arrived(alloc, index, bytes, past, entries, progress, marks)
@@ -127,10 +133,9 @@ impl WireElement {
 impl Pup<Global> for WireElement {
     ghost use Rattle.std.specs.Prelude.{◌≡◌, refl, true};
     ghost use Rattle.pup_pack.specs.Structs.{made, judged};
-    ghost use Rattle.pup_pack.specs.Trips.{bool_trips, judged_trips, list_trips, pair_trips, struct_trips, u32_trips, u64_trips};
+    ghost use Rattle.pup_pack.specs.Trips.{bool_trips, judged_trips, pair_trips, struct_trips, u32_trips, u64_trips};
     ghost use Rattle.zero_tails.specs.Tails.{trimmed_trips};
     ghost use Rattle.parcel_wire.specs.Elements.{is_element, of_parts, parts};
-    ghost use Rattle.parcel_wire.specs.Marks.{mark_trips};
 
     ghost fits = { λ e. ⟦<Parts as Pup<Global>>⟧.fits (parts e) × (is_element e ≡ true) };
 
@@ -143,7 +148,7 @@ impl Pup<Global> for WireElement {
     ghost round_trip = { (judged_trips is_element (struct_trips parts of_parts (λ _. refl)
         (pair_trips u32_trips (pair_trips trimmed_trips (pair_trips u64_trips (pair_trips
         (pair_trips u32_trips (pair_trips bool_trips (pair_trips bool_trips (pair_trips bool_trips u64_trips))))
-        (list_trips mark_trips))))))).trip };
+        u64_trips)))))).trip };
 
     fn packed_len(&self) -> u32 {
         (

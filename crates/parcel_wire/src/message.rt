@@ -3,11 +3,11 @@
 ghost use Rattle.std.specs.Prelude.{◌≡◌, ◌++◌, ◌∷◌, ◌≤◌, length, IfOk, OnOk, OnErr, Ok};
 ghost use Rattle.parcel_wire.specs.declared.message.WireParcel.{WireParcel};
 ghost use Rattle.pup_pack.specs.Packing.{PackAnswer, UnpackAnswer};
-ghost use Rattle.parcel_wire.specs.Messages.{came, decoded, encoded, sent, AreEntriesOf, FitsMessage};
+ghost use Rattle.parcel_wire.specs.Messages.{came, decoded, encoded, sent, ArePastOf, FitsMessage};
 
 use crate::element::WireElement;
 use crate::letter::WireLetter;
-use chares::{Carried, Letter, Packed, Past};
+use chares::{Carried, ForgottenMarks, Letter, Packed, Past, PastMarks};
 use pup_pack::{Pup, PupError};
 use std::alloc::{AllocError, Global};
 
@@ -22,7 +22,10 @@ pub enum WireParcel {
 
 impl WireParcel {
     /// What is sent of this parcel, with the errors of [`WireLetter::of`] and [`WireElement::of`].
-    pub fn of(alloc: Global, parcel: &Carried<Letter, Packed>) -> Result<Self, PupError>
+    pub fn of(
+        alloc: Global,
+        parcel: &Carried<Letter, Packed<Global, ForgottenMarks>>,
+    ) -> Result<Self, PupError>
         ensures value { IfOk result (λ p. p ≡ sent parcel.now) }
     {
         match parcel {
@@ -31,19 +34,20 @@ impl WireParcel {
         }
     }
 
-    /// The parcel, where it came as a message. An element gets the entries of its journal, which are as many as were sent. The only
-    /// error is that memory was refused.
+    /// The parcel, where it came as a message. An element gets the entries of its journal and its marks, which are as many as were sent.
+    /// The only error is that memory was refused.
     pub fn into_parcel(
         self,
         alloc: Global,
         past: Past,
-    ) -> Result<Carried<Letter, Packed>, AllocError>
-        requires counted { AreEntriesOf self past.entries }
-        ensures value { IfOk result (λ p. p ≡ came self past.entries) }
+        marks: PastMarks,
+    ) -> Result<Carried<Letter, Packed<Global, ForgottenMarks>>, AllocError>
+        requires counted { ArePastOf self past.entries marks.marks }
+        ensures value { IfOk result (λ p. p ≡ came self past.entries marks.marks) }
     {
         match self {
             WireParcel::Letter(letter) => Ok(Carried::Letter(letter.into_letter(alloc)?)),
-            WireParcel::Element(element) => Ok(Carried::Element(element.into_packed(alloc, past)?)),
+            WireParcel::Element(element) => Ok(Carried::Element(element.into_packed(alloc, past, marks)?)),
         }
     }
 }

@@ -9,7 +9,7 @@ ghost use Rattle.pe_state.specs.Taking.{taken};
 use crate::parcel::Item;
 use crate::room::Room;
 use chare_index::{Index, Limits, Pe};
-use chares::{BodyLimit, Chare, Element, Letter, Note};
+use chares::{BodyLimit, Chare, Element, KeptMark, Letter, Marks, Note};
 use std::alloc::{Allocator, Global};
 use std::collections::VecDeque;
 use std::marker::Model;
@@ -19,18 +19,18 @@ use std::marker::Model;
 /// [`into_end`](crate::PeState::into_end) gives it away and says what holds of it; its type does not name the array of the
 /// run. Contracts see it as the record `PeView`.
 #[derive(Drop)]
-pub struct PeEnd<C: Chare<A>, A: Allocator = Global> {
+pub struct PeEnd<C: Chare<A>, A: Allocator = Global, M: Marks<A> = Vec<KeptMark, A>> {
     pub(crate) me: Pe,
     // How many elements there are on all PEs.
     pub(crate) n: u32,
     // The elements that stand here.
-    pub(crate) room: Room<C, A>,
+    pub(crate) room: Room<C, A, M>,
     // What was taken from the queue last, with the address that a look gave.
-    pub(crate) hand: Option<Item<A>>,
+    pub(crate) hand: Option<Item<A, M>>,
     // Letters that came before their element, in the order in which they came.
     pub(crate) shelf: VecDeque<Letter<A>, A>,
     // What leaves this PE, the first first.
-    pub(crate) outbox: VecDeque<Item<A>, A>,
+    pub(crate) outbox: VecDeque<Item<A, M>, A>,
     // What it owes the board, the first first.
     pub(crate) notes: VecDeque<Note, A>,
     // How many letters it has posted.
@@ -41,7 +41,7 @@ pub struct PeEnd<C: Chare<A>, A: Allocator = Global> {
     pub(crate) kept: Option<Pe>,
 }
 
-impl<C: Chare<A>, A: Allocator> Model for PeEnd<C, A> {
+impl<C: Chare<A>, A: Allocator, M: Marks<A>> Model for PeEnd<C, A, M> {
     ghost use Rattle.std.specs.Prelude.{◌<◌, ◌≤◌, IsSome};
     ghost use Rattle.std.specs.VecDeque.{deque_len, deque_capacity};
     ghost use Rattle.chare_index.specs.declared.limits.TheConstants.Limits.{LETTERS};
@@ -65,7 +65,7 @@ impl<C: Chare<A>, A: Allocator> Model for PeEnd<C, A> {
     ghost invariant = { λ p. (p.count ≤ LETTERS) × (IsSome p.kept → deque_len p.outbox < deque_capacity p.outbox) };
 }
 
-impl<C: Chare<A>, A: Allocator + Copy> PeEnd<C, A> {
+impl<C: Chare<A>, A: Allocator + Copy, M: Marks<A>> PeEnd<C, A, M> {
     /// PE `me` of an array of `n` elements, before any is placed.
     pub(crate) fn new(alloc: A, me: Pe, n: u32) -> Self
         ensures value { result ≡ new_pe me n }
@@ -85,7 +85,7 @@ impl<C: Chare<A>, A: Allocator + Copy> PeEnd<C, A> {
     }
 }
 
-impl<C: Chare<A>, A: Allocator> PeEnd<C, A> {
+impl<C: Chare<A>, A: Allocator, M: Marks<A>> PeEnd<C, A, M> {
     /// Its number.
     pub fn me(&self) -> Pe
         ensures value { result ≡ self.now.me }
@@ -101,7 +101,7 @@ impl<C: Chare<A>, A: Allocator> PeEnd<C, A> {
     }
 
     /// The elements that stand here.
-    pub fn room(&self) -> &Room<C, A>
+    pub fn room(&self) -> &Room<C, A, M>
         ensures value { result.now ≡ self.now.room }
         ensures keyed { IsKeyed self.now.room }
     {
@@ -111,7 +111,7 @@ impl<C: Chare<A>, A: Allocator> PeEnd<C, A> {
 
     /// Takes the element with this index out of its room, or returns `None` where none stands there. Nothing else of it
     /// changes.
-    pub fn take(&mut self, index: Index) -> Option<Element<C, A>>
+    pub fn take(&mut self, index: Index) -> Option<Element<C, A, M>>
         ensures value { result ≡ found index self.old.room }
         ensures index { IfSome result (λ element. element.index ≡ index) }
         ensures left { self.new ≡ taken index self.old }
@@ -120,7 +120,7 @@ impl<C: Chare<A>, A: Allocator> PeEnd<C, A> {
     }
 
     /// The parcel in its hand, with the address that a look gave.
-    pub fn hand(&self) -> Option<&Item<A>>
+    pub fn hand(&self) -> Option<&Item<A, M>>
         ensures value { option_copied result ≡ self.now.hand }
     {
         self.hand.as_ref()
@@ -134,7 +134,7 @@ impl<C: Chare<A>, A: Allocator> PeEnd<C, A> {
     }
 
     /// The parcels that leave it, the first first, with the PEs that they go to.
-    pub fn outbox(&self) -> &VecDeque<Item<A>, A>
+    pub fn outbox(&self) -> &VecDeque<Item<A, M>, A>
         ensures value { result.now.items ≡ self.now.outbox }
     {
         &self.outbox

@@ -15,22 +15,22 @@ ghost use Rattle.pe_state.specs.Rooms.{found, ran_in, sends_in, execution_entrie
 use crate::parcel::Item;
 use crate::room::Room;
 use chare_index::{Gate, Index, Limits, Pe, Round};
-use chares::{BodyLimit, Chare, Letter, Note, SendError, Sends, TraceEntry, Unread};
+use chares::{BodyLimit, Chare, Letter, Marks, Note, SendError, Sends, TraceEntry, Unread};
 use std::alloc::Allocator;
 use std::collections::VecDeque;
 use std::mem::{forget, replace};
 
 /// Executes a letter by its element, which stands in the room, and returns the note that is owed for it.
 #[tactic(auto, using(crate::proofs::Traces::traced_twice))]
-pub(crate) fn execute<C: Chare<A>, A: Allocator + Copy, G: Gate>(
+pub(crate) fn execute<C: Chare<A>, A: Allocator + Copy, M: Marks<A>, G: Gate>(
     alloc: A,
     gate: &G,
     me: Pe,
     n: u32,
     longest: BodyLimit,
     letter: Letter<A>,
-    room: &mut Room<C, A>,
-    outbox: &mut VecDeque<Item<A>, A>,
+    room: &mut Room<C, A, M>,
+    outbox: &mut VecDeque<Item<A, M>, A>,
     count: &mut u64,
     tracing: bool,
     trace: &mut Vec<TraceEntry, A>,
@@ -66,7 +66,7 @@ pub(crate) fn execute<C: Chare<A>, A: Allocator + Copy, G: Gate>(
 
 /// Resumes an element, which stands in the room, and returns the note that is owed for it.
 #[tactic(auto, using(crate::proofs::Traces::traced_twice))]
-pub(crate) fn resume<C: Chare<A>, A: Allocator + Copy, G: Gate>(
+pub(crate) fn resume<C: Chare<A>, A: Allocator + Copy, M: Marks<A>, G: Gate>(
     alloc: A,
     gate: &G,
     me: Pe,
@@ -74,8 +74,8 @@ pub(crate) fn resume<C: Chare<A>, A: Allocator + Copy, G: Gate>(
     longest: BodyLimit,
     index: Index,
     round: Round,
-    room: &mut Room<C, A>,
-    outbox: &mut VecDeque<Item<A>, A>,
+    room: &mut Room<C, A, M>,
+    outbox: &mut VecDeque<Item<A, M>, A>,
     count: &mut u64,
     tracing: bool,
     trace: &mut Vec<TraceEntry, A>,

@@ -14,7 +14,8 @@ use crate::parcel::{HeldParcel, Item, Parcel, into_held, into_parcel};
 use crate::room::Room;
 use chare_index::{Index, Limits, Pe, Round};
 use chares::{
-    Addressed, Armed, BodyLimit, Carried, Chare, History, Letter, Note, Openings, Progress,
+    Addressed, Armed, BodyLimit, Carried, Chare, History, KeptMark, Letter, Marks, Note, Openings,
+    Progress,
 };
 use std::alloc::{AllocError, Allocator, Global};
 use std::collections::VecDeque;
@@ -31,16 +32,21 @@ mod reopening;
 /// After [`sent`](PeState::sent) it keeps the address of the parcel that it gave up until the next call that changes
 /// it, so that [`hand_back`](PeState::hand_back) can put the parcel back.
 #[derive(Drop)]
-pub struct PeState<C: Chare<A>, H: Openings<C>, A: Allocator = Global> {
+pub struct PeState<
+    C: Chare<A>,
+    H: Openings<C>,
+    A: Allocator = Global,
+    M: Marks<A> = Vec<KeptMark, A>,
+> {
     // What it holds.
-    end: PeEnd<C, A>,
+    end: PeEnd<C, A, M>,
     // How many PEs there are.
     pes: u32,
     alloc: A,
     of: PhantomData<H>,
 }
 
-impl<C: Chare<A>, H: Openings<C>, A: Allocator> Model for PeState<C, H, A> {
+impl<C: Chare<A>, H: Openings<C>, A: Allocator, M: Marks<A>> Model for PeState<C, H, A, M> {
     ghost use Rattle.std.specs.Prelude.{◌≡◌};
     ghost use Rattle.pe_state.specs.Pes.{PeView};
     ghost use Rattle.pe_state.specs.Standing.{IsOfRun};
@@ -52,7 +58,7 @@ impl<C: Chare<A>, H: Openings<C>, A: Allocator> Model for PeState<C, H, A> {
     ghost invariant = { λ p. (p.pes ≡ H.pes) × IsOfRun C.step C.fits C.pack H.opened H.pes p.end };
 }
 
-impl<C: Chare<A>, H: Openings<C>, A: Allocator + Copy> PeState<C, H, A> {
+impl<C: Chare<A>, H: Openings<C>, A: Allocator + Copy, M: Marks<A>> PeState<C, H, A, M> {
     /// PE `me` of `pes`, as an array of `n` elements opens, before any is placed.
     pub fn new(alloc: A, me: Pe, pes: u32, n: u32) -> Self
         requires member { me < pes }
@@ -84,7 +90,7 @@ impl<C: Chare<A>, H: Openings<C>, A: Allocator + Copy> PeState<C, H, A> {
     }
 
     /// Takes a parcel into its hand, which is empty.
-    pub fn receive(&mut self, parcel: Parcel<C, H, A>)
+    pub fn receive(&mut self, parcel: Parcel<C, H, A, M>)
         requires empty { self.old.hand ≡ None }
         ensures ok { self.new ≡ received self.old parcel }
     {
@@ -112,7 +118,7 @@ impl<C: Chare<A>, H: Openings<C>, A: Allocator + Copy> PeState<C, H, A> {
 
     /// Gives up the front of the outbox, which has an address, and keeps that.
     #[tactic(auto, using(crate::proofs::Below::first_below, crate::proofs::Below::rest_below))]
-    pub fn sent(&mut self) -> Parcel<C, H, A>
+    pub fn sent(&mut self) -> Parcel<C, H, A, M>
         requires addressed { IsSome (front_address self.old.outbox) }
         ensures value { front_parcel self.old.outbox ≡ Some result }
         ensures ok { self.new ≡ gave_up self.old }
@@ -127,7 +133,7 @@ impl<C: Chare<A>, H: Openings<C>, A: Allocator + Copy> PeState<C, H, A> {
 
     /// The element of the letter at the front of the outbox was looked for, and is believed to be on this PE: gives the
     /// letter up, and keeps that address. It is a look and then a flush, where the hand is empty.
-    pub fn look_and_flush(&mut self, address: Pe) -> Parcel<C, H, A>
+    pub fn look_and_flush(&mut self, address: Pe) -> Parcel<C, H, A, M>
         requires idle { self.old.hand ≡ None }
         requires wanted { IsSome (front_wants self.old.outbox) }
         requires known { address < H.pes }
@@ -144,7 +150,7 @@ impl<C: Chare<A>, H: Openings<C>, A: Allocator + Copy> PeState<C, H, A> {
 
     /// Puts a parcel back to the front of the outbox, with the address that was kept. This takes no memory. See "What
     /// `hand_back` is for" in docs/EVENTS.md.
-    pub fn hand_back(&mut self, parcel: Parcel<C, H, A>)
+    pub fn hand_back(&mut self, parcel: Parcel<C, H, A, M>)
         requires kept { IsSome self.old.kept }
         ensures ok { self.new ≡ handed_back self.old parcel }
     {
@@ -196,9 +202,9 @@ impl<C: Chare<A>, H: Openings<C>, A: Allocator + Copy> PeState<C, H, A> {
     }
 }
 
-impl<C: Chare<A>, H: Openings<C>, A: Allocator> PeState<C, H, A> {
+impl<C: Chare<A>, H: Openings<C>, A: Allocator, M: Marks<A>> PeState<C, H, A, M> {
     /// What it holds. [`PeEnd`] has its readers.
-    pub fn as_end(&self) -> &PeEnd<C, A>
+    pub fn as_end(&self) -> &PeEnd<C, A, M>
         ensures value { result.now ≡ self.now }
     {
         &self.end
@@ -230,7 +236,7 @@ impl<C: Chare<A>, H: Openings<C>, A: Allocator> PeState<C, H, A> {
 
     /// The elements that stand here. The clauses `keyed` and `histories` say what holds of every room and of every PE,
     /// for a caller that knows nothing else of this one.
-    pub fn room(&self) -> &Room<C, A>
+    pub fn room(&self) -> &Room<C, A, M>
         ensures value { result.now ≡ self.now.room }
         ensures keyed { IsKeyed self.now.room }
         ensures histories { HasHistories C.step C.fits C.pack H.opened self.now }
@@ -239,7 +245,7 @@ impl<C: Chare<A>, H: Openings<C>, A: Allocator> PeState<C, H, A> {
     }
 
     /// The parcel in its hand, with the address that a look gave.
-    pub fn hand(&self) -> Option<&Item<A>>
+    pub fn hand(&self) -> Option<&Item<A, M>>
         ensures value { option_copied result ≡ self.now.hand }
     {
         self.end.hand()
@@ -253,7 +259,7 @@ impl<C: Chare<A>, H: Openings<C>, A: Allocator> PeState<C, H, A> {
     }
 
     /// The parcels that leave it, the first first, with the PEs that they go to.
-    pub fn outbox(&self) -> &VecDeque<Item<A>, A>
+    pub fn outbox(&self) -> &VecDeque<Item<A, M>, A>
         ensures value { result.now.items ≡ self.now.outbox }
     {
         self.end.outbox()
@@ -370,7 +376,7 @@ impl<C: Chare<A>, H: Openings<C>, A: Allocator> PeState<C, H, A> {
     }
 }
 
-impl<C: Armed<A>, H: Openings<C>, A: Allocator> PeState<C, H, A> {
+impl<C: Armed<A>, H: Openings<C>, A: Allocator, M: Marks<A>> PeState<C, H, A, M> {
     /// Gives the chare of an element, which stands here, what no contract sees.
     pub fn arm(&mut self, index: Index, given: C::Given)
         requires stands { IsSome (found index self.old.room) }
@@ -382,9 +388,9 @@ impl<C: Armed<A>, H: Openings<C>, A: Allocator> PeState<C, H, A> {
     }
 }
 
-impl<C: Chare<A>, H: Openings<C>, A: Allocator> PeState<C, H, A> {
+impl<C: Chare<A>, H: Openings<C>, A: Allocator, M: Marks<A>> PeState<C, H, A, M> {
     /// What it holds, as the run leaves it. This takes no memory. The clause `histories` says what its type said.
-    pub fn into_end(self) -> PeEnd<C, A>
+    pub fn into_end(self) -> PeEnd<C, A, M>
         ensures value { result ≡ self }
         ensures histories { HasHistories C.step C.fits C.pack H.opened self }
     {
@@ -392,9 +398,9 @@ impl<C: Chare<A>, H: Openings<C>, A: Allocator> PeState<C, H, A> {
     }
 }
 
-impl<C: Chare<A>, H: Openings<C>, A: Allocator> PeState<C, H, A> {
+impl<C: Chare<A>, H: Openings<C>, A: Allocator, M: Marks<A>> PeState<C, H, A, M> {
     // Holds a parcel in the hand, perhaps with an address.
-    fn hold(&mut self, parcel: HeldParcel<A>, address: Option<Pe>)
+    fn hold(&mut self, parcel: HeldParcel<A, M>, address: Option<Pe>)
         requires below { IsBelow H.pes address }
         requires history { IsParcelHistory C.step C.fits C.pack H.opened parcel }
         ensures ok { self.new ≡ held self.old parcel address }
@@ -434,7 +440,7 @@ impl<C: Chare<A>, H: Openings<C>, A: Allocator> PeState<C, H, A> {
     }
 }
 
-impl<C: Chare<A>, H: Openings<C>, A: Allocator> PeState<C, H, A> {
+impl<C: Chare<A>, H: Openings<C>, A: Allocator, M: Marks<A>> PeState<C, H, A, M> {
     // The element that the hand wants to be looked for.
     fn hand_wants(&self) -> Option<Index>
         ensures value { result ≡ hand_wants self.now }
@@ -449,7 +455,7 @@ impl<C: Chare<A>, H: Openings<C>, A: Allocator> PeState<C, H, A> {
 }
 
 // The element of a letter that has no address.
-fn unaddressed<A: Allocator>(item: &Item<A>) -> Option<Index>
+fn unaddressed<A: Allocator, M: Marks<A>>(item: &Item<A, M>) -> Option<Index>
     ensures value { result ≡ unaddressed item.now.parcel item.now.address }
 {
     let Carried::Letter(letter) = &item.parcel else {

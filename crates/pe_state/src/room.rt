@@ -12,7 +12,9 @@ ghost use Rattle.pe_state.specs.Rows.{row_of, row_count, entries_of, IsRoom};
 use crate::entries::Entries;
 use crate::row::Row;
 use chare_index::{Gate, Index, Limits, Pe, Round};
-use chares::{Armed, Chare, Element, History, Letter, Note, Packed, SendError, Sends, Unread};
+use chares::{
+    Armed, Chare, Element, History, KeptMark, Letter, Marks, Note, Packed, SendError, Sends, Unread,
+};
 use std::alloc::{AllocError, AllocFailed, Allocator, Global};
 use std::marker::Model;
 
@@ -23,12 +25,12 @@ const ROW_WIDTH: u32 = 64;
 /// indices, and never more than a search in a row of 64. To take one in or to let one go moves the others of its row.
 /// Contracts see it as the list of the indices, in order, each with its element.
 #[derive(Drop)]
-pub struct Room<C: Chare<A>, A: Allocator = Global> {
+pub struct Room<C: Chare<A>, A: Allocator = Global, M: Marks<A> = Vec<KeptMark, A>> {
     // The row of the indices from 64 r on has the number r. There is none after the last that ever had an element.
-    rows: Vec<Row<C, A>, A>,
+    rows: Vec<Row<C, A, M>, A>,
 }
 
-impl<C: Chare<A>, A: Allocator> Model for Room<C, A> {
+impl<C: Chare<A>, A: Allocator, M: Marks<A>> Model for Room<C, A, M> {
     ghost use Rattle.std.specs.Prelude.{ℕ, List};
     ghost use Rattle.chares.specs.Elements.{ElementView};
     ghost use Rattle.pe_state.specs.Rows.{entries_of, IsRoom};
@@ -49,9 +51,9 @@ fn row_number(index: Index) -> usize
 }
 
 // Makes the rows up to this one.
-fn open_rows<C: Chare<A>, A: Allocator + Copy>(
+fn open_rows<C: Chare<A>, A: Allocator + Copy, M: Marks<A>>(
     alloc: A,
-    rows: &mut Vec<Row<C, A>, A>,
+    rows: &mut Vec<Row<C, A, M>, A>,
     last: usize,
 ) -> Result<(), AllocError>
     requires room { IsRoom rows.old.items }
@@ -66,7 +68,7 @@ fn open_rows<C: Chare<A>, A: Allocator + Copy>(
     Ok(())
 }
 
-impl<C: Chare<A>, A: Allocator> Room<C, A> {
+impl<C: Chare<A>, A: Allocator, M: Marks<A>> Room<C, A, M> {
     /// How many elements stand in it. The clause `keyed` says what holds of every room, for a caller that knows nothing else
     /// of this one.
     pub fn len(&self) -> usize
@@ -95,7 +97,7 @@ impl<C: Chare<A>, A: Allocator> Room<C, A> {
     }
 
     /// The element with this index, or `None` where it stands elsewhere.
-    pub fn element(&self, index: Index) -> Option<&Element<C, A>>
+    pub fn element(&self, index: Index) -> Option<&Element<C, A, M>>
         ensures value { option_copied result ≡ found index self.now }
         ensures index { IfSome result (λ element. element.now.index ≡ index) }
     {
@@ -107,7 +109,7 @@ impl<C: Chare<A>, A: Allocator> Room<C, A> {
     }
 
     /// Takes the element with this index out, or returns `None` where it stands elsewhere.
-    pub(crate) fn take(&mut self, index: Index) -> Option<Element<C, A>>
+    pub(crate) fn take(&mut self, index: Index) -> Option<Element<C, A, M>>
         ensures value { result ≡ found index self.old }
         ensures index { IfSome result (λ element. element.index ≡ index) }
         ensures left { self.new ≡ without index self.old }
@@ -120,14 +122,14 @@ impl<C: Chare<A>, A: Allocator> Room<C, A> {
     }
 
     /// The elements beside their indices, in the order of these.
-    pub fn iter(&self) -> Entries<'_, C, A>
+    pub fn iter(&self) -> Entries<'_, C, A, M>
         ensures value { result ≡ self.now }
     {
         Entries::new(self.rows.as_slice())
     }
 }
 
-impl<C: Chare<A>, A: Allocator + Copy> Room<C, A> {
+impl<C: Chare<A>, A: Allocator + Copy, M: Marks<A>> Room<C, A, M> {
     /// A room where no element stands.
     pub(crate) fn new(alloc: A) -> Self
         ensures value { result ≡ [] }
@@ -211,9 +213,9 @@ impl<C: Chare<A>, A: Allocator + Copy> Room<C, A> {
     /// stands. Where no memory is left it comes back.
     pub(crate) fn install(
         &mut self,
-        packed: Packed<A>,
+        packed: Packed<A, M>,
         chare: C,
-    ) -> Result<(), AllocFailed<Packed<A>>>
+    ) -> Result<(), AllocFailed<Packed<A, M>>>
         requires lacks { found packed.index self.old ≡ None }
         ensures ok { OnOk result (self.new ≡ joined packed.index (unpacked packed chare) self.old) }
         ensures err { OnErr result (self.new ≡ self.old) }
@@ -228,7 +230,7 @@ impl<C: Chare<A>, A: Allocator + Copy> Room<C, A> {
     }
 
     /// Packs an element, which stands here, and lets it go.
-    pub(crate) fn depart(&mut self, alloc: A, index: Index) -> Result<Packed<A>, AllocError>
+    pub(crate) fn depart(&mut self, alloc: A, index: Index) -> Result<Packed<A, M>, AllocError>
         requires stands { IsSome (found index self.old) }
         ensures value { IfOk result (λ element. option_map (packed C.pack) (found index self.old) ≡ Some element) }
         ensures fits { OnOk result (IfSome (found index self.old) (λ el. C.fits el.chare)) }
@@ -240,7 +242,7 @@ impl<C: Chare<A>, A: Allocator + Copy> Room<C, A> {
     }
 }
 
-impl<C: Armed<A>, A: Allocator> Room<C, A> {
+impl<C: Armed<A>, A: Allocator, M: Marks<A>> Room<C, A, M> {
     /// Gives the chare of an element, which stands here, what no contract sees.
     pub(crate) fn arm(&mut self, index: Index, given: C::Given)
         requires stands { IsSome (found index self.old) }

@@ -11,7 +11,8 @@ ghost use Rattle.pe_state.specs.Rows.{IsPlace, IsGap, StandsAt, BelongsAt};
 
 use chare_index::{Gate, Index, Limits, Pe, Round};
 use chares::{
-    Armed, Chare, Element, History, Letter, Note, Packed, Packing, SendError, Sends, Unread,
+    Armed, Chare, Element, History, KeptMark, Letter, Marks, Note, Packed, Packing, SendError,
+    Sends, Unread,
 };
 use std::alloc::{AllocError, AllocFailed, Allocator, Global};
 use std::marker::Model;
@@ -19,11 +20,11 @@ use std::marker::Model;
 /// Some elements of a room, in the order of their indices. Most rows are one run of indices, in which the index of an
 /// element gives its place. Contracts see it as the list of the indices, each with its element.
 #[derive(Drop)]
-pub(crate) struct Row<C: Chare<A>, A: Allocator = Global> {
-    items: Vec<(u32, Element<C, A>), A>,
+pub(crate) struct Row<C: Chare<A>, A: Allocator = Global, M: Marks<A> = Vec<KeptMark, A>> {
+    items: Vec<(u32, Element<C, A, M>), A>,
 }
 
-impl<C: Chare<A>, A: Allocator> Model for Row<C, A> {
+impl<C: Chare<A>, A: Allocator, M: Marks<A>> Model for Row<C, A, M> {
     ghost use Rattle.std.specs.Prelude.{ℕ, List};
     ghost use Rattle.chare_index.specs.declared.limits.TheConstants.Limits.{ELEMENTS};
     ghost use Rattle.chares.specs.Elements.{ElementView};
@@ -36,7 +37,7 @@ impl<C: Chare<A>, A: Allocator> Model for Row<C, A> {
     ghost invariant = { λ r. IsWithin 0 ELEMENTS r.items.items };
 }
 
-impl<C: Chare<A>, A: Allocator> Row<C, A> {
+impl<C: Chare<A>, A: Allocator, M: Marks<A>> Row<C, A, M> {
     /// A row where no element stands.
     pub(crate) fn new(alloc: A) -> Self
         ensures value { result ≡ [] }
@@ -47,14 +48,14 @@ impl<C: Chare<A>, A: Allocator> Row<C, A> {
     }
 
     /// The elements beside their indices.
-    pub(crate) fn items(&self) -> &[(u32, Element<C, A>)]
+    pub(crate) fn items(&self) -> &[(u32, Element<C, A, M>)]
         ensures value { result.now ≡ self.now }
     {
         self.items.as_slice()
     }
 
     /// The element with this index, or `None` where it is not of this row.
-    pub(crate) fn element(&self, index: Index) -> Option<&Element<C, A>>
+    pub(crate) fn element(&self, index: Index) -> Option<&Element<C, A, M>>
         ensures value { option_copied result ≡ found index self.now }
     {
         let Ok(place) = self.seek(index) else {
@@ -64,7 +65,7 @@ impl<C: Chare<A>, A: Allocator> Row<C, A> {
     }
 
     /// Takes the element with this index out, or returns `None` where it is not of this row.
-    pub(crate) fn take(&mut self, index: Index) -> Option<Element<C, A>>
+    pub(crate) fn take(&mut self, index: Index) -> Option<Element<C, A, M>>
         ensures value { result ≡ found index self.old }
         ensures left { self.new ≡ without index self.old }
     {
@@ -121,7 +122,7 @@ impl<C: Chare<A>, A: Allocator> Row<C, A> {
     }
 }
 
-impl<C: Chare<A>, A: Allocator + Copy> Row<C, A> {
+impl<C: Chare<A>, A: Allocator + Copy, M: Marks<A>> Row<C, A, M> {
     /// Places an element as the array opens, where none with its index stands.
     pub(crate) fn place(&mut self, alloc: A, index: Index, chare: C) -> Result<(), AllocError>
         requires lacks { found index self.old ≡ None }
@@ -205,9 +206,9 @@ impl<C: Chare<A>, A: Allocator + Copy> Row<C, A> {
     /// stands. Where no memory is left it comes back.
     pub(crate) fn install(
         &mut self,
-        packed: Packed<A>,
+        packed: Packed<A, M>,
         chare: C,
-    ) -> Result<(), AllocFailed<Packed<A>>>
+    ) -> Result<(), AllocFailed<Packed<A, M>>>
         requires lacks { found packed.index self.old ≡ None }
         ensures ok { OnOk result (self.new ≡ joined packed.index (unpacked packed chare) self.old) }
         ensures err { OnErr result (self.new ≡ self.old) }
@@ -228,7 +229,7 @@ impl<C: Chare<A>, A: Allocator + Copy> Row<C, A> {
     }
 
     /// Packs an element, which is of this row, and lets it go. A row that is left empty gives its memory back.
-    pub(crate) fn depart(&mut self, alloc: A, index: Index) -> Result<Packed<A>, AllocError>
+    pub(crate) fn depart(&mut self, alloc: A, index: Index) -> Result<Packed<A, M>, AllocError>
         requires stands { IsSome (found index self.old) }
         ensures value { IfOk result (λ element. option_map (packed C.pack) (found index self.old) ≡ Some element) }
         ensures fits { OnOk result (IfSome (found index self.old) (λ el. C.fits el.chare)) }
@@ -254,7 +255,7 @@ impl<C: Chare<A>, A: Allocator + Copy> Row<C, A> {
     }
 }
 
-impl<C: Armed<A>, A: Allocator> Row<C, A> {
+impl<C: Armed<A>, A: Allocator, M: Marks<A>> Row<C, A, M> {
     /// Gives the chare of an element, which is of this row, what no contract sees.
     pub(crate) fn arm(&mut self, index: Index, given: C::Given)
         requires stands { IsSome (found index self.old) }

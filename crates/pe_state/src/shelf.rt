@@ -7,18 +7,18 @@ ghost use Rattle.pe_state.specs.Pes.{is_for, letter_at};
 
 use crate::parcel::Item;
 use chare_index::{Index, Pe};
-use chares::{Addressed, Carried, Letter};
+use chares::{Addressed, Carried, Letter, Marks};
 use std::alloc::Allocator;
 use std::collections::VecDeque;
 
 /// Empties a shelf: puts the letters that are for an element to the back of an outbox, addressed to this PE, and the
 /// others to the back of another shelf, each in order and in memory that was reserved for them.
-pub(crate) fn unshelve<A: Allocator>(
+pub(crate) fn unshelve<A: Allocator, M: Marks<A>>(
     index: Index,
     me: Pe,
     shelf: &mut VecDeque<Letter<A>, A>,
     rest: &mut VecDeque<Letter<A>, A>,
-    outbox: &mut VecDeque<Item<A>, A>,
+    outbox: &mut VecDeque<Item<A, M>, A>,
 )
     requires rest_reserved { deque_len rest.old + deque_len shelf.old ≤ deque_capacity rest.old }
     requires outbox_reserved { deque_len outbox.old + deque_len shelf.old ≤ deque_capacity outbox.old }

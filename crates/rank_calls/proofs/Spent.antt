@@ -20,6 +20,7 @@ blank_request (Request.Execute answer) w = tt
 blank_request (Request.Resume e round answer) w = tt
 blank_request (Request.Depart e to) w = tt
 blank_request (Request.Send room) w = tt
+blank_request Request.GiveOwn w = tt
 blank_request Request.NoteDone w = tt
 blank_request (Request.Due room) w = tt
 blank_request Request.Wanted w = tt

@@ -5,7 +5,7 @@ use Rattle.chares.specs.declared.note.Note.{Note}
 use Rattle.foreign_chare.specs.Scripts.{Answered, Stamp}
 use Rattle.pe_state.specs.declared.error.StepError.{StepError}
 use Rattle.pe_state.specs.declared.error.StepError.TheVariants as Step
-use Rattle.pe_state.specs.Pes.{PeView, acting, departed, front_address, front_parcel, gave_up, looked, noted, pe_after, received, resumed, wanted}
+use Rattle.pe_state.specs.Pes.{PeView, Parcel, acting, departed, front_address, front_parcel, gave_up, looked, noted, pe_after, received, resumed, wanted}
 use Rattle.pe_state.specs.Rooms.{found}
 use Rattle.pup_pack.specs.declared.error.PupError.{PupError}
 use Rattle.pup_pack.specs.declared.error.PupError.TheVariants as Pup
@@ -15,9 +15,9 @@ use Rattle.rank_calls.specs.Runs.{Run, IsOfRun, answers_in, opened, stamp_pack, 
 use Rattle.rank_calls.specs.declared.request.CallError.{CallError}
 use Rattle.rank_calls.specs.declared.request.CallError.TheVariants.{OutOfMemory, Stranger, TooLong, Worn, BadPack}
 use Rattle.rank_calls.specs.declared.request.Reply.{Reply}
-use Rattle.rank_calls.specs.declared.request.Reply.TheVariants.{Done, Refused, Long, Sent, IsDue, IsWanted, IsFront, IsOwed}
+use Rattle.rank_calls.specs.declared.request.Reply.TheVariants.{Done, Refused, Long, Sent, Given, IsDue, IsWanted, IsFront, IsOwed}
 use Rattle.rank_calls.specs.declared.request.Request.{Request}
-use Rattle.rank_calls.specs.declared.request.Request.TheVariants.{Open, Close, Receive, Look, Act, Execute, Resume, Depart, Send, NoteDone, Due, Wanted, Front, NextNote}
+use Rattle.rank_calls.specs.declared.request.Request.TheVariants.{Open, Close, Receive, Look, Act, Execute, Resume, Depart, Send, GiveOwn, NoteDone, Due, Wanted, Front, NextNote}
 
 -- the reason of a step, and of a pack
 abbrev pub call_error_of : StepError → CallError
@@ -48,6 +48,7 @@ IsAsked run pe (Execute answer) = IfSome (due pe) (λ d. IsRight run pe answer d
 IsAsked run pe (Resume e round answer) = IsRight run pe answer e
 IsAsked run pe (Depart e to) = Unit {0}
 IsAsked run pe (Send room) = Unit {0}
+IsAsked run pe GiveOwn = Unit {0}
 IsAsked run pe NoteDone = Unit {0}
 IsAsked run pe (Due room) = Unit {0}
 IsAsked run pe Wanted = Unit {0}
@@ -65,6 +66,7 @@ after_call run pe (Execute answer) = pe_after pe (acting (step_in run) stamp_pac
 after_call run pe (Resume e round answer) = resumed (step_in run) stamp_pack pe e round
 after_call run pe (Depart e to) = departed stamp_pack pe e to
 after_call run pe (Send room) = pe
+after_call run pe GiveOwn = pe
 after_call run pe NoteDone = noted pe
 after_call run pe (Due room) = pe
 after_call run pe Wanted = pe
@@ -74,6 +76,7 @@ after_call run pe NextNote = pe
 -- the calls that do a step and show nothing
 abbrev pub IsStep : Request → Type 0
 IsStep (Send room) = ⊥
+IsStep GiveOwn = ⊥
 IsStep (Due room) = ⊥
 IsStep Wanted = ⊥
 IsStep Front = ⊥
@@ -99,6 +102,13 @@ IsSent was before (Send room) to bytes is after =
     (was ≡ true) × (is ≡ true) × (front_address before.outbox ≡ Some to) × IsSomeAnd (front_parcel before.outbox) (λ p. bytes ≡ message_of p)
     × (length bytes ≤ room) × (after ≡ gave_up before)
 IsSent was before request to bytes is after = ⊥
+
+-- the front of the outbox is given up as it is, which goes to this PE, whose hand is empty: a parcel of the run
+abbrev pub IsGiven : Run → Bool → PeView Stamp → Request → Parcel → Bool → PeView Stamp → Type 0
+IsGiven run was before GiveOwn parcel is after =
+    (was ≡ true) × (is ≡ true) × (before.hand ≡ None) × (front_address before.outbox ≡ Some before.me) × (front_parcel before.outbox ≡ Some parcel)
+    × IsOfRun run parcel × (after ≡ gave_up before)
+IsGiven run was before request parcel is after = ⊥
 
 -- whether a handler is due, with a body that is no longer than what was asked for
 abbrev pub IsDueNow : PeView Stamp → Request → Option (ℕ × List ℕ) → Type 0
@@ -130,6 +140,7 @@ IsServed run was before request Done is after = IsStep request × (refusal run w
 IsServed run was before request (Refused error) is after = IsSame was before is after × IsRefused run was before request error
 IsServed run was before request (Long len) is after = IsShown was before is after × IsLong before request len
 IsServed run was before request (Sent to bytes) is after = IsSent was before request to bytes.items is after
+IsServed run was before request (Given parcel) is after = (refusal run was before request ≡ None) × IsGiven run was before request parcel is after
 IsServed run was before request (IsDue letter) is after = IsShown was before is after × IsDueNow before request (option_map (λ d. (d.0, d.1.items)) letter)
 IsServed run was before request (IsWanted index) is after = IsShown was before is after × IsWantedNow before request index
 IsServed run was before request (IsFront to) is after = IsShown was before is after × IsFrontNow before request to

@@ -6,11 +6,10 @@ use Rattle.parcel_wire.specs.Elements.{SentElement}
 use Rattle.parcel_wire.specs.declared.message.WireParcel.{WireParcel}
 use Rattle.parcel_wire.specs.Elements.{is_element, of_parts}
 use Rattle.parcel_wire.specs.Letters.{is_letter, letter_of}
-use Rattle.parcel_wire.specs.Marks.{mark_parts, mark_read, pack_parts, unpack_parts}
 use Rattle.parcel_wire.specs.Messages.{decoded, encoded, sent}
 use Rattle.pe_state.specs.Pes.{Parcel}
 use Rattle.pup_pack.specs.declared.error.PupError.{PupError}
-use Rattle.pup_pack.specs.Lists.{pack_bytes, pack_list, unpack_bytes, unpack_list}
+use Rattle.pup_pack.specs.Lists.{pack_bytes, unpack_bytes}
 use Rattle.pup_pack.specs.Numbers.{unpack_u32, unpack_u64}
 use Rattle.pup_pack.specs.Pairs.{unpack_pair}
 use Rattle.pup_pack.specs.Structs.{judged, made}
@@ -29,7 +28,7 @@ element_pack e =
     ++ ((to_be_bytes w32 (length e.bytes) ++ pack_bytes (trimmed e.bytes))
     ++ (to_be_bytes w64 e.entries
     ++ ((to_be_bytes w32 e.progress.round ++ (pack_bool e.progress.started ++ (pack_bool e.progress.synced ++ (pack_bool e.progress.finished ++ to_be_bytes w64 e.progress.load))))
-    ++ pack_list (λ m. pack_parts (mark_parts m)) e.marks)))
+    ++ to_be_bytes w64 e.marks)))
 
 abbrev pub message_of : Parcel → List ℕ
 message_of p = encoded letter_pack element_pack (sent p)
@@ -42,7 +41,7 @@ abbrev pub element_unpack : List ℕ → Result (SentElement × ℕ) PupError
 element_unpack bytes =
     judged is_element (made of_parts (unpack_pair unpack_u32 (unpack_pair (λ b. read_as trimmed_read (unpack_pair unpack_u32 unpack_bytes b)) (unpack_pair unpack_u64 (unpack_pair
     (unpack_pair unpack_u32 (unpack_pair unpack_bool (unpack_pair unpack_bool (unpack_pair unpack_bool unpack_u64))))
-    (unpack_list (λ b. read_as mark_read (unpack_parts b)))))) bytes))
+    unpack_u64))) bytes))
 
 abbrev pub read_message : List ℕ → Result WireParcel PupError
 read_message bytes = decoded letter_unpack element_unpack bytes

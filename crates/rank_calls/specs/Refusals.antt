@@ -1,5 +1,5 @@
 -- Why nothing is done of what a PE is asked: what is tested first, in this order, and what may fail then.
-use Rattle.std.specs.Prelude.{◌≡◌, ◌⊎◌, ℕ, List, Bool, true, not, ◌&&◌, Option, Some, None, MatchOption, is_some, nat_lt, slice_get, if◌then◌else◌}
+use Rattle.std.specs.Prelude.{◌≡◌, ◌⊎◌, ℕ, List, Bool, true, false, not, ◌&&◌, ◌==◌, Option, Some, None, MatchOption, is_some, nat_lt, slice_get, if◌then◌else◌}
 use Rattle.std.specs.Option.{option_and_then}
 use Rattle.chare_index.specs.declared.limits.TheConstants.Limits.{ELEMENTS, PES, ROUND}
 use Rattle.chares.specs.declared.carried.Carried.TheVariants as Carried
@@ -9,7 +9,7 @@ use Rattle.rank_calls.specs.Runs.{Run, stamp_pack, stamp_unpack, step_in}
 use Rattle.rank_calls.specs.declared.request.CallError.{CallError}
 use Rattle.rank_calls.specs.declared.request.CallError.TheVariants.{IsClosed, IsOpen, BadInput, NotEnabled, OutOfMemory, Stranger, TooLong, Worn, BadPack}
 use Rattle.rank_calls.specs.declared.request.Request.{Request}
-use Rattle.rank_calls.specs.declared.request.Request.TheVariants.{Open, Receive, Look, Act, Execute, Resume, Depart, Send, NoteDone, Due}
+use Rattle.rank_calls.specs.declared.request.Request.TheVariants.{Open, Receive, Look, Act, Execute, Resume, Depart, Send, GiveOwn, NoteDone, Due}
 
 -- the letter in the hand, where its element stands here and has started: that element, and the body
 abbrev pub due_letter : PeView Stamp → Parcel → Option (ℕ × List ℕ)
@@ -27,6 +27,11 @@ is_within run (Resume e round answer) = nat_lt round ROUND
 is_within run (Depart e to) = nat_lt to run.pes
 is_within run request = true
 
+-- whether what goes to this PE goes to that one
+abbrev pub is_own : ℕ → Option ℕ → Bool
+is_own me None = false
+is_own me (Some q) = q == me
+
 -- the step that is asked for is enabled, or what is asked for is there
 abbrev pub is_enabled : Run → PeView Stamp → Request → Bool
 is_enabled run pe (Receive parcel) = not (is_some pe.hand)
@@ -36,6 +41,7 @@ is_enabled run pe (Execute answer) = is_some (due pe)
 is_enabled run pe (Resume e round answer) = may_resume pe e round
 is_enabled run pe (Depart e to) = may_depart pe e
 is_enabled run pe (Send room) = is_some (front_address pe.outbox)
+is_enabled run pe GiveOwn = not (is_some pe.hand) && is_own pe.me (front_address pe.outbox)
 is_enabled run pe NoteDone = is_some (slice_get pe.notes 0)
 is_enabled run pe request = true
 

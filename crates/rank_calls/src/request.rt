@@ -4,10 +4,11 @@ ghost use Rattle.std.specs.Prelude.{◌≡◌};
 ghost use Rattle.rank_calls.specs.Calls.{call_error_of, wire_error_of};
 
 use chare_index::{Index, Pe, Round};
-use chares::Note;
+use chares::{ForgottenMarks, Note};
 use foreign_chare::Answer;
 use pe_state::{HeldParcel, StepError};
 use pup_pack::PupError;
+use std::alloc::Global;
 
 /// What a PE is asked. It owns what it hands in.
 #[derive(Drop)]
@@ -17,7 +18,7 @@ pub enum Request {
     /// To close.
     Close,
     /// To take this parcel into its hand.
-    Receive(HeldParcel),
+    Receive(HeldParcel<Global, ForgottenMarks>),
     /// To take it that the element that is wanted is on this PE.
     Look(Pe),
     /// To act on the parcel in its hand, where no handler is due.
@@ -30,6 +31,8 @@ pub enum Request {
     Depart(Index, Pe),
     /// To give up the parcel at the front of its outbox, as a message of at most this many bytes.
     Send(usize),
+    /// To give up the parcel at the front of its outbox as it is, where that goes to this PE and its hand is empty.
+    GiveOwn,
     /// To take it that the board has the note that is owed first.
     NoteDone,
     /// Which handler is due, and for what body, of at most this many bytes.
@@ -53,6 +56,8 @@ pub enum Reply {
     Long(usize),
     /// The parcel that it has given up goes to this PE, as this message.
     Sent(Pe, Vec<u8>),
+    /// The parcel that it has given up, which goes to this PE.
+    Given(HeldParcel<Global, ForgottenMarks>),
     /// The handler of this element is due, for a letter with this body; or none.
     IsDue(Option<(Index, Vec<u8>)>),
     /// This element is to be looked for, or none.

@@ -12,6 +12,7 @@ use crate::request::{CallError, Reply, Request};
 use crate::run::RunName;
 use chare_index::{Limits, Pe};
 use loose_box::Loose;
+use pe_state::into_held;
 use std::alloc::Global;
 
 /// Does what is asked, with the PE that is there, or without one.
@@ -88,6 +89,7 @@ impl<R: RunName> Rank<R> {
             Request::Depart(index, to) => Some(reply_of(self.depart(index, to))),
             Request::NoteDone => Some(reply_of(self.note_done())),
             Request::Send(room) => Some(self.send(alloc, room)),
+            Request::GiveOwn => Some(self.give_own()),
             Request::Due(room) => Some(self.show_due(alloc, room)),
             Request::Wanted => Some(Reply::IsWanted(self.pe.wants())),
             Request::Front => Some(Reply::IsFront(self.pe.front_out())),
@@ -111,6 +113,20 @@ impl<R: RunName> Rank<R> {
         }
         self.give_up();
         Reply::Sent(to, bytes)
+    }
+
+    // Gives up the front of its outbox as it is, where that goes to this PE and its hand is empty.
+    fn give_own(&mut self) -> Reply
+        ensures served { IsServed R.run true self.old Request.GiveOwn result true self.new }
+    {
+        let Some(to) = self.pe.front_out() else {
+            return Reply::Refused(CallError::NotEnabled);
+        };
+        if to != self.pe.me() || self.pe.hand().is_some() {
+            return Reply::Refused(CallError::NotEnabled);
+        }
+        let parcel = self.pe.sent();
+        Reply::Given(into_held(parcel))
     }
 
     // Shows which handler is due, and for what body, of at most this many bytes.

@@ -15,14 +15,16 @@ use crate::rank::Rank;
 use crate::request::{CallError, Request};
 use crate::run::{RunName, Told};
 use chare_index::{Index, Limits, NoGate, Pe, Round};
-use chares::{Carried, History, Letter, PackedElement};
+use chares::{Carried, ForgottenMarks, History, Letter, PackedElement};
 use foreign_chare::{Answer, Foreign};
 use parcel_wire::{WireParcel, encode};
 use pe_state::{Acted, HeldParcel, Parcel, StepError};
 use std::alloc::Global;
 
 // A parcel of the run.
-fn into_parcel<R: RunName>(held: HeldParcel) -> Parcel<Foreign<Told<R>>, Told<R>, Global>
+fn into_parcel<R: RunName>(
+    held: HeldParcel<Global, ForgottenMarks>,
+) -> Parcel<Foreign<Told<R>>, Told<R>, Global, ForgottenMarks>
     requires of_run { IsOfRun R.run held }
     ensures value { result ≡ held }
 {
@@ -34,7 +36,10 @@ fn into_parcel<R: RunName>(held: HeldParcel) -> Parcel<Foreign<Told<R>>, Told<R>
 
 impl<R: RunName> Rank<R> {
     /// Takes this parcel into its hand, where that is empty.
-    pub(crate) fn receive(&mut self, parcel: HeldParcel) -> Result<(), CallError>
+    pub(crate) fn receive(
+        &mut self,
+        parcel: HeldParcel<Global, ForgottenMarks>,
+    ) -> Result<(), CallError>
         requires of_run { IsOfRun R.run parcel }
         ensures ready { OnOk result (refusal R.run true self.old (Request.Receive parcel) ≡ None) }
         ensures done { OnOk result (self.new ≡ received self.old parcel) }

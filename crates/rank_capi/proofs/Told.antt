@@ -1,18 +1,18 @@
 -- What a status tells.
 use Rattle.std.proofs.Common.{◌≡◌, ◌⊎◌, inl, inr, ℕ, List, refl, subst}
-use Rattle.std.specs.Prelude.{Bool, ℤ, Option, None, Some, MatchOption}
+use Rattle.std.specs.Prelude.{Bool, true, ℤ, Option, None, Some, MatchOption}
 use Rattle.std.specs.Option.{option_map}
 use Rattle.chares.specs.declared.note.Note.{Note}
 use Rattle.foreign_chare.specs.Scripts.{Stamp}
-use Rattle.pe_state.specs.Pes.{PeView}
-use Rattle.rank_calls.specs.Calls.{IsDueNow, IsFrontNow, IsLong, IsOwedNow, IsSent, IsServed, IsStep, IsWantedNow}
+use Rattle.pe_state.specs.Pes.{PeView, Parcel}
+use Rattle.rank_calls.specs.Calls.{IsDueNow, IsFrontNow, IsGiven, IsLong, IsOwedNow, IsSent, IsServed, IsStep, IsWantedNow}
 use Rattle.rank_calls.specs.Refusals.{refusal, IsRefused, MayFail}
 use Rattle.rank_calls.specs.Runs.{Run}
 use Rattle.rank_calls.specs.declared.request.CallError.{CallError}
 use Rattle.rank_calls.specs.declared.request.Reply.{Reply}
-use Rattle.rank_calls.specs.declared.request.Reply.TheVariants.{Done, Refused, Long, Sent, IsDue, IsWanted, IsFront, IsOwed}
+use Rattle.rank_calls.specs.declared.request.Reply.TheVariants.{Done, Refused, Long, Sent, Given, IsDue, IsWanted, IsFront, IsOwed}
 use Rattle.rank_calls.specs.declared.request.Request.{Request}
-use Rattle.rank_calls.specs.declared.request.Request.TheVariants.{Send, Due, Wanted, Front, NextNote}
+use Rattle.rank_calls.specs.declared.request.Request.TheVariants.{Receive, Send, GiveOwn, Due, Wanted, Front, NextNote}
 use Rattle.rank_capi.specs.Statuses.{status_of, HasFailed, IsStatus}
 
 -- a step shows nothing
@@ -43,12 +43,18 @@ not_sent : (was : Bool) (before : PeView Stamp) (request : Request) (to : ℕ) (
 not_sent was before (Send room) to bytes is after step sent = step
 not_sent was before request to bytes is after step sent = sent
 
+not_given : (run : Run) (was : Bool) (before : PeView Stamp) (request : Request) (parcel : Parcel) (is : Bool) (after : PeView Stamp)
+    → IsStep request → IsGiven run was before request parcel is after → ⊥
+not_given run was before GiveOwn parcel is after step given = step
+not_given run was before request parcel is after step given = given
+
 pub stray : (run : Run) (was : Bool) (before : PeView Stamp) (request : Request) (reply : Reply) (is : Bool) (after : PeView Stamp)
     → IsServed run was before request reply is after → IsStep request → (reply ≡ Done → ⊥) → ((error : CallError) → reply ≡ Refused error → ⊥) → ⊥
 stray run was before request Done is after served step not_done not_refused = not_done refl
 stray run was before request (Refused error) is after served step not_done not_refused = not_refused error refl
 stray run was before request (Long len) is after served step not_done not_refused = not_long before request len step served.1
 stray run was before request (Sent to bytes) is after served step not_done not_refused = not_sent was before request to bytes.items is after step served
+stray run was before request (Given parcel) is after served step not_done not_refused = not_given run was before request parcel is after step served.1
 stray run was before request (IsDue letter) is after served step not_done not_refused =
     not_due before request (option_map (λ d. (d.0, d.1.items)) letter) step served.1
 stray run was before request (IsWanted index) is after served step not_done not_refused = not_wanted before request index step served.1
@@ -68,3 +74,11 @@ refused_told run was pe request error done status refused is = refused_in (refus
 pub done_told : (run : Run) (was : Bool) (pe : PeView Stamp) (request : Request) (done : Type 0) (status : ℤ) → refusal run was pe request ≡ None → done
     → IsStatus run was pe request done status
 done_told run was pe request done status none is = rw none (inl is)
+
+-- what is received into an empty hand is taken
+one_of : (parcel : Parcel) (done : Type 0) (status : ℤ) → done ⊎ HasFailed (Receive parcel) status → done
+one_of parcel done status (inl is) = is
+one_of parcel done status (inr failed) = absurd failed.1.0
+
+pub taken : (run : Run) (pe : PeView Stamp) (parcel : Parcel) (done : Type 0) (status : ℤ) → pe.hand ≡ None → IsStatus run true pe (Receive parcel) done status → done
+taken run pe parcel done status empty is = one_of parcel done status (rw empty at is)

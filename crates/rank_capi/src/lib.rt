@@ -21,7 +21,7 @@ mod statuses;
 mod steps;
 
 pub use opening::{tezgumi_pe_close, tezgumi_pe_open};
-pub use parcels::{tezgumi_pe_receive, tezgumi_pe_send};
+pub use parcels::{tezgumi_pe_receive, tezgumi_pe_send, tezgumi_pe_take_own};
 pub use peeks::{tezgumi_pe_due, tezgumi_pe_front, tezgumi_pe_next_note, tezgumi_pe_wanted};
 pub use steps::{
     tezgumi_pe_act, tezgumi_pe_depart, tezgumi_pe_execute, tezgumi_pe_look, tezgumi_pe_note_done,

@@ -4,7 +4,7 @@ use Rattle.std.specs.Prelude.{All}
 use Rattle.std.proofs.lemmas.List.Sums.{sum_by-cons}
 use Rattle.foreign_chare.specs.Scripts.{Stamp}
 use Rattle.pe_state.specs.Pes.{PeView, Parcel, gave_up}
-use Rattle.rank_calls.specs.Calls.{IsSent, IsServed}
+use Rattle.rank_calls.specs.Calls.{IsGiven, IsSent, IsServed}
 use Rattle.rank_calls.specs.Runs.{Run, stamp_pack, stamp_unpack, step_in}
 use Rattle.rank_calls.specs.declared.request.CallError.TheVariants.{NotEnabled}
 use Rattle.rank_calls.specs.declared.request.Reply.{Reply}
@@ -32,6 +32,7 @@ stepped run before after (Ask.Execute answer) served = (tt, served.2.2)
 stepped run before after (Ask.Resume e round answer) served = (tt, served.2.2)
 stepped run before after (Ask.Depart e to) served = (tt, served.2.2)
 stepped run before after (Ask.Send room) served = absurd served.0
+stepped run before after Ask.GiveOwn served = absurd served.0
 stepped run before after Ask.NoteDone served = (tt, served.2.2)
 stepped run before after (Ask.Due room) served = absurd served.0
 stepped run before after Ask.Wanted served = absurd served.0
@@ -49,11 +50,30 @@ sent before after (Ask.Execute answer) to bytes served = absurd served
 sent before after (Ask.Resume e round answer) to bytes served = absurd served
 sent before after (Ask.Depart e q) to bytes served = absurd served
 sent before after (Ask.Send room) to bytes served = served.5
+sent before after Ask.GiveOwn to bytes served = absurd served
 sent before after Ask.NoteDone to bytes served = absurd served
 sent before after (Ask.Due room) to bytes served = absurd served
 sent before after Ask.Wanted to bytes served = absurd served
 sent before after Ask.Front to bytes served = absurd served
 sent before after Ask.NextNote to bytes served = absurd served
+
+-- and what was given up as it is
+given : (run : Run) (before after : PeView Stamp) (request : Request) (parcel : Parcel) → IsGiven run true before request parcel true after → after ≡ gave_up before
+given run before after Ask.GiveOwn parcel served = served.6
+given run before after (Ask.Open me pes n) parcel served = absurd served
+given run before after Ask.Close parcel served = absurd served
+given run before after (Ask.Receive p) parcel served = absurd served
+given run before after (Ask.Look address) parcel served = absurd served
+given run before after Ask.Act parcel served = absurd served
+given run before after (Ask.Execute answer) parcel served = absurd served
+given run before after (Ask.Resume e round answer) parcel served = absurd served
+given run before after (Ask.Depart e q) parcel served = absurd served
+given run before after (Ask.Send room) parcel served = absurd served
+given run before after Ask.NoteDone parcel served = absurd served
+given run before after (Ask.Due room) parcel served = absurd served
+given run before after Ask.Wanted parcel served = absurd served
+given run before after Ask.Front parcel served = absurd served
+given run before after Ask.NextNote parcel served = absurd served
 
 pub called : (run : Run) (before after : PeView Stamp) (request : Request) (reply : Reply) → IsServed run true before request reply true after
     → MayCall before (done_by request reply) × (after ≡ after_call (step_in run) stamp_pack stamp_unpack before (done_by request reply))
@@ -61,6 +81,7 @@ called run before after request Reply.Done served = stepped run before after req
 called run before after request (Reply.Refused error) served = (tt, served.0.1 refl)
 called run before after request (Reply.Long len) served = (tt, served.0.2)
 called run before after request (Reply.Sent to bytes) served = (tt, sent before after request to bytes.items served)
+called run before after request (Reply.Given parcel) served = (tt, given run before after request parcel served.1)
 called run before after request (Reply.IsDue letter) served = (tt, served.0.2)
 called run before after request (Reply.IsWanted index) served = (tt, served.0.2)
 called run before after request (Reply.IsFront to) served = (tt, served.0.2)

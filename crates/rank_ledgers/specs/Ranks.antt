@@ -25,6 +25,7 @@ step_of request = Refused
 abbrev pub done_by : Request → Reply → Call Stamp
 done_by request Reply.Done = step_of request
 done_by request (Reply.Sent to bytes) = Send
+done_by request (Reply.Given parcel) = Send
 done_by request reply = Refused
 
 -- a ledger with what that call has received, given up and posted

@@ -118,7 +118,7 @@ fn standing_agrees<C: Chare<A>, A: Allocator>(
 ) -> bool
     ensures { IsTrue result ↔ IsMarkedOn board.now homes.now me element.now }
 {
-    element_agrees(board, homes, element.index(), Some(me), element.marks())
+    element_agrees(board, homes, element.index(), Some(me), element.marks().as_slice())
 }
 
 // Whether the marks of the element that is packed in the hand of a PE agree, if one is.
@@ -159,7 +159,7 @@ fn parcel_agrees<A: Allocator>(board: &Board<A>, homes: &[Pe], parcel: &HeldParc
     match parcel {
         Carried::Letter(_) => true,
         Carried::Element(packed) => {
-            element_agrees(board, homes, packed.index(), None, packed.marks())
+            element_agrees(board, homes, packed.index(), None, packed.marks().as_slice())
         }
     }
 }

@@ -1,7 +1,6 @@
 -- The fault of the first worker that met one, as the workers are gathered.
 use Rattle.std.proofs.Common.{◌≡◌, ◌≢◌, ◌∙◌, ◌⊎◌, inl, inr, ℕ, ap, sym, refl, map, List, [], ◌∷◌, Option, None, Some}
 use Rattle.std.specs.Prelude.{IfSome, IsTrue, not, Bool, true, false}
-use Rattle.std.specs.Option.{option_or}
 use Rattle.chares.specs.Elements.{Refuses}
 use Rattle.chares.specs.Steps.{Step}
 use Rattle.pe_worker.specs.Causes.{HasCause}
@@ -12,61 +11,88 @@ use Rattle.pe_worker.proofs.Causes.{caused_unpacks, caused_agrees}
 use Rattle.rts_run.specs.declared.options.Idle.{Idle}
 use Rattle.rts_run.specs.declared.options.Idle.TheVariants.{Turns}
 use Rattle.rts_run.specs.declared.options.Idle.TheVariants as Idle
-use Rattle.rts_run.specs.Outcomes.{EndsIdle, OutcomeView, first_fault, lower_fault, lowest_fault, unless_stopped}
+use Rattle.rts_run.specs.Outcomes.{EndsIdle, OutcomeView, lower_fault, lowest_fault}
 
 -- what a fault is to one of a higher PE
+abbrev IsReal : Fault → Type 0
+IsReal f = ((o : Option Fault) → lower_fault (Some f) o ≡ Some f) × (lower_fault (Some Quiet) (Some f) ≡ Some f)
+
 abbrev IsKind : Fault → Type 0
-IsKind f = (f ≡ Stopped) ⊎ ((unless_stopped (Some f) ≡ Some f) × ((o : Option Fault) → lower_fault (Some f) o ≡ Some f))
+IsKind f = (f ≡ Stopped) ⊎ ((f ≡ Quiet) ⊎ IsReal f)
 
 kind : (f : Fault) → IsKind f
-kind Met.OutOfMemory = inr (refl, λ o. refl)
-kind Met.Idle = inr (refl, λ o. refl)
-kind Unpack = inr (refl, λ o. refl)
-kind Met.Stranger = inr (refl, λ o. refl)
-kind Met.TooLong = inr (refl, λ o. refl)
-kind Met.Worn = inr (refl, λ o. refl)
-kind Mismatch = inr (refl, λ o. refl)
+kind Met.OutOfMemory = inr (inr (λ o. refl, refl))
+kind Met.Idle = inr (inr (λ o. refl, refl))
+kind Unpack = inr (inr (λ o. refl, refl))
+kind Met.Stranger = inr (inr (λ o. refl, refl))
+kind Met.TooLong = inr (inr (λ o. refl, refl))
+kind Met.Worn = inr (inr (λ o. refl, refl))
+kind Mismatch = inr (inr (λ o. refl, refl))
 kind Stopped = inl refl
-kind Quiet = inr (refl, λ o. refl)
+kind Quiet = inr (inl refl)
 
--- of three PEs it does not matter which two come first
+-- a request to stop gives way to itself
 stopped_twice : (c : Option Fault) → lower_fault (Some Stopped) c ≡ lower_fault (Some Stopped) (lower_fault (Some Stopped) c)
 stopped_twice None = refl
 stopped_twice (Some h) = refl
 
+stopped_quiet : (c : Option Fault) → lower_fault (Some Quiet) c ≡ lower_fault (Some Stopped) (lower_fault (Some Quiet) c)
+stopped_quiet None = refl
+stopped_quiet (Some h) = elim (kind h) [
+  | inl s ↦ rw s refl
+  | inr k ↦ elim k [
+    | inl q ↦ rw q refl
+    | inr r ↦ r.1 ∙ sym (ap (lower_fault (Some Stopped)) r.1)
+  ]
+]
+
+-- of three PEs it does not matter which two come first
 above_stopped : (b c : Option Fault) → lower_fault (lower_fault (Some Stopped) b) c ≡ lower_fault (Some Stopped) (lower_fault b c)
 above_stopped None c = refl
 above_stopped (Some g) c = elim (kind g) [
   | inl s ↦ rw s (stopped_twice c)
-  | inr k ↦ k.1 c ∙ sym (ap (lower_fault (Some Stopped)) (k.1 c))
+  | inr k ↦ elim k [
+    | inl q ↦ rw q (stopped_quiet c)
+    | inr r ↦ r.0 c ∙ sym (ap (lower_fault (Some Stopped)) (r.0 c))
+  ]
+]
+
+quiet_stopped : (c : Option Fault) → lower_fault (Some Quiet) c ≡ lower_fault (Some Quiet) (lower_fault (Some Stopped) c)
+quiet_stopped None = refl
+quiet_stopped (Some h) = refl
+
+quiet_twice : (c : Option Fault) → lower_fault (Some Quiet) c ≡ lower_fault (Some Quiet) (lower_fault (Some Quiet) c)
+quiet_twice None = refl
+quiet_twice (Some h) = elim (kind h) [
+  | inl s ↦ rw s refl
+  | inr k ↦ elim k [
+    | inl q ↦ rw q refl
+    | inr r ↦ sym (ap (lower_fault (Some Quiet)) r.1)
+  ]
+]
+
+above_quiet : (b c : Option Fault) → lower_fault (lower_fault (Some Quiet) b) c ≡ lower_fault (Some Quiet) (lower_fault b c)
+above_quiet None c = refl
+above_quiet (Some g) c = elim (kind g) [
+  | inl s ↦ rw s (quiet_stopped c)
+  | inr k ↦ elim k [
+    | inl q ↦ rw q (quiet_twice c)
+    | inr r ↦ ap (λ v. lower_fault v c) r.1 ∙ (r.0 c ∙ (sym r.1 ∙ sym (ap (lower_fault (Some Quiet)) (r.0 c))))
+  ]
 ]
 
 joined : (a b c : Option Fault) → lower_fault (lower_fault a b) c ≡ lower_fault a (lower_fault b c)
 joined None b c = refl
 joined (Some f) b c = elim (kind f) [
   | inl s ↦ rw s (above_stopped b c)
-  | inr k ↦ ap (λ v. lower_fault v c) (k.1 b) ∙ (k.1 c ∙ sym (k.1 (lower_fault b c)))
-]
-
--- the first fault of all, and those of the others
-stays : (o : Option Fault) → lower_fault (Some Stopped) (option_or o (Some Stopped)) ≡ option_or o (Some Stopped)
-stays None = refl
-stays (Some f) = refl
-
-stopped_first : (faults : List (Option Fault)) → lower_fault (Some Stopped) (lowest_fault faults) ≡ option_or (first_fault (map unless_stopped faults)) (Some Stopped)
-stopped_first [] = refl
-stopped_first (None ∷ faults) = stopped_first faults
-stopped_first (Some f ∷ faults) = elim (kind f) [
-  | inl s ↦ rw s (stays (first_fault (map unless_stopped faults)))
-  | inr k ↦ rw (k.0) refl
+  | inr k ↦ elim k [
+    | inl q ↦ rw q (above_quiet b c)
+    | inr r ↦ ap (λ v. lower_fault v c) (r.0 b) ∙ (r.0 c ∙ sym (r.0 (lower_fault b c)))
+  ]
 ]
 
 pub lowest_of_all : (fault : Option Fault) (faults : List (Option Fault)) → lower_fault fault (lowest_fault faults) ≡ lowest_fault (fault ∷ faults)
-lowest_of_all None faults = refl
-lowest_of_all (Some f) faults = elim (kind f) [
-  | inl s ↦ rw s (stopped_first faults)
-  | inr k ↦ k.1 (lowest_fault faults) ∙ sym (ap (λ v. option_or (option_or v (first_fault (map unless_stopped faults))) (Some f)) (k.0))
-]
+lowest_of_all fault faults = refl
 
 -- one more is gathered
 pub next_fault : (fault met new : Option Fault) (others left : List (Option Fault)) (whole : Option Fault) → others ≡ met ∷ left
@@ -80,7 +106,10 @@ alone : (fault : Option Fault) → lower_fault fault None ≡ fault
 alone None = refl
 alone (Some f) = elim (kind f) [
   | inl s ↦ rw s refl
-  | inr k ↦ k.1 None
+  | inr k ↦ elim k [
+    | inl q ↦ rw q refl
+    | inr r ↦ r.0 None
+  ]
 ]
 
 pub last_fault : (fault : Option Fault) (others : List (Option Fault)) (whole : Option Fault) → others ≡ [] → lower_fault fault (lowest_fault others) ≡ whole → fault ≡ whole
@@ -91,11 +120,24 @@ of_stopped : (P : Fault → Type 0) (met : Option Fault) → P Stopped → IfSom
 of_stopped P None h k = h
 of_stopped P (Some g) h k = k
 
+of_quiet : (P : Fault → Type 0) (met : Option Fault) → P Quiet → IfSome met P → IfSome (lower_fault (Some Quiet) met) P
+of_quiet P None h k = h
+of_quiet P (Some g) h k = elim (kind g) [
+  | inl s ↦ rw s h
+  | inr n ↦ elim n [
+    | inl q ↦ rw q h
+    | inr r ↦ rw (r.1) k
+  ]
+]
+
 either_of : (P : Fault → Type 0) (fault met : Option Fault) → IfSome fault P → IfSome met P → IfSome (lower_fault fault met) P
 either_of P None met h k = k
 either_of P (Some f) met h k = elim (kind f) [
   | inl s ↦ rw s (of_stopped P met (rw s at h) k)
-  | inr one ↦ rw (one.1 met) h
+  | inr n ↦ elim n [
+    | inl q ↦ rw q (of_quiet P met (rw q at h) k)
+    | inr r ↦ rw (r.0 met) h
+  ]
 ]
 
 pub either_fault : (P : Fault → Type 0) (fault met new : Option Fault) → new ≡ lower_fault fault met → IfSome fault P → IfSome met P → IfSome new P

@@ -1,7 +1,6 @@
 -- What a run left, and what holds of it whatever the schedule was, also after a fault.
 use Rattle.std.specs.Prelude.{◌≡◌, ◌≢◌, ℕ, List, [], ◌∷◌, length, map, Option, None, Some, IfSome}
 use Rattle.std.specs.List.{range_with_len}
-use Rattle.std.specs.Option.{option_or}
 use Rattle.sync_board.specs.Boards.{AreDecided, BoardState, IsBoard, HaveFinished}
 use Rattle.sync_board.specs.declared.strategy.Strategy.{Strategy}
 use Rattle.chares.specs.Elements.{Refuses}
@@ -31,27 +30,21 @@ pub record OutcomeView (C A : Type 0) : Type 0 where
   pub board : BoardState A
   pub fault : Option Fault
 
--- the fault of the first worker that met one
-abbrev pub first_fault : List (Option Fault) → Option Fault
-first_fault [] = None
-first_fault (fault ∷ faults) = option_or fault (first_fault faults)
-
--- a worker that was asked to stop has met no other fault
-abbrev pub unless_stopped : Option Fault → Option Fault
-unless_stopped None = None
-unless_stopped (Some Stopped) = None
-unless_stopped (Some fault) = Some fault
-
--- the fault of the lowest PE whose worker met one; that workers were asked to stop is told where none met another
-abbrev pub lowest_fault : List (Option Fault) → Option Fault
-lowest_fault faults = option_or (first_fault (map unless_stopped faults)) (first_fault faults)
-
--- the fault to tell of that of some PEs and that of higher ones
+-- The fault to tell of that of some PEs and that of higher ones: the lower one, but that a worker found nothing to do gives way to any
+-- other fault, and that it was asked to stop gives way to both.
 abbrev pub lower_fault : Option Fault → Option Fault → Option Fault
 lower_fault None higher = higher
 lower_fault (Some Stopped) None = Some Stopped
 lower_fault (Some Stopped) (Some fault) = Some fault
+lower_fault (Some Quiet) None = Some Quiet
+lower_fault (Some Quiet) (Some Stopped) = Some Quiet
+lower_fault (Some Quiet) (Some fault) = Some fault
 lower_fault (Some fault) higher = Some fault
+
+-- the fault to tell of those of all PEs, in order
+abbrev pub lowest_fault : List (Option Fault) → Option Fault
+lowest_fault [] = None
+lowest_fault (fault ∷ faults) = lower_fault fault (lowest_fault faults)
 
 -- The outcome of a run of these chares on this number of PEs. There is an end and a queue of each PE. The account holds, and
 -- every element is what its journal says, in which its rounds come in order. The board is one of these chares on these PEs: each

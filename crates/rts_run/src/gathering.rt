@@ -15,7 +15,8 @@ use std::alloc::Allocator;
 use std::collections::VecDeque;
 
 /// The PEs of these workers, in order of PE, with their seats joined into one, and the fault of the first worker that met
-/// one, where that others were asked to stop comes last. `room` has capacity for all PEs, so this takes no memory.
+/// one, where that it found nothing to do comes behind any other, and that it was asked to stop comes last. `room` has capacity for all
+/// PEs, so this takes no memory.
 pub(crate) fn gather<C: Chare<A>, H: Openings<C> + BoardStart<A>, J: RunBeginning<C>, A: Allocator>(
     post: &Post<Parcel<C, H, A>, A>,
     first: Worker<C, H, J, A>,
@@ -42,13 +43,19 @@ pub(crate) fn gather<C: Chare<A>, H: Openings<C> + BoardStart<A>, J: RunBeginnin
     (gathered, fault)
 }
 
-// The fault to tell of that of some PEs and that of a higher one. That a worker was asked to stop gives way to any other.
+// The fault to tell of that of some PEs and that of a higher one. That a worker was asked to stop gives way to any other, and that it
+// found nothing to do to any but that: whether that was so shows at the end, and then nothing else may be lost.
 fn lower_fault(lower: Option<Fault>, higher: Option<Fault>) -> Option<Fault>
     ensures value { result ≡ lower_fault lower higher }
 {
     match lower {
         None => higher,
         Some(Fault::Stopped) => higher.or(lower),
+        Some(Fault::Quiet) => match higher {
+            None => lower,
+            Some(Fault::Stopped) => lower,
+            Some(_) => higher,
+        },
         Some(_) => lower,
     }
 }

@@ -104,7 +104,7 @@ fn an_element_moves_and_comes_back(rt: HostRuntime) {
     let outcome = run_four(&rt, 1_024);
     let end = outcome.ends().first().expect(&rt, "no PE 0");
     let element = end.room().element(index(&rt, 1)).expect(&rt, "not there");
-    assert!(rt; are_marks(element.marks(), &its_marks(&rt)));
+    assert!(rt; are_marks(element.marks().as_slice(), &its_marks(&rt)));
     drop(outcome);
 }
 

@@ -17,7 +17,7 @@ use Rattle.workload_run.specs.Tallies.{tallies_of}
 use Rattle.workload_run.specs.Telling.{HasUnread, ReportsFault, WritesText}
 use Rattle.workload_run.specs.declared.ended.RunEnd.{RunEnd}
 use Rattle.workload_run.specs.declared.ended.RunEnd.TheVariants.{OutOfMemory, Ran, Refused, WriteFailed}
-use Rattle.sync_board.specs.declared.strategy.Strategy.{Strategy}
+use Rattle.rts_run.specs.declared.options.Options.{Options}
 
 -- where the bytes of the reader are known, they are the text of the workload that was read
 pub known_text : (bytes : Option (List ℕ)) (w : WorkloadView) → IfSome bytes (λ all. (Ok w ≡ Err Why.Read) ⊎ IsReadAnswer all (Ok w)) → IfSome bytes (IsText w)
@@ -37,45 +37,45 @@ known_fault (Some xs) e other (inl is) = inl (cc)
 known_fault (Some xs) e other (inr (inl is)) = absurd (other is)
 known_fault (Some xs) e other (inr (inr fault)) = inr fault
 
-module _ {A : Type 0} (fits : TallyView → Type 0) (strategy : Strategy) (bytes rest old new : Option (List ℕ)) where
+module _ {A : Type 0} (fits : TallyView → Type 0) (options : Options) (bytes rest old new : Option (List ℕ)) where
   -- the line for refused memory was written, or a prefix of it
   ends_memory : (outcome : Option (OutcomeView TallyView A)) (ended : RunEnd) → WritesText memory_line OutOfMemory old new ended
-      → EndsDrive fits strategy bytes rest old new outcome ended
-  ends_memory outcome ended (inl (is, gone)) = subst (λ e. EndsDrive fits strategy bytes rest old new outcome e) (sym is) gone
-  ends_memory outcome ended (inr (is, part)) = subst (λ e. EndsDrive fits strategy bytes rest old new outcome e) (sym is) (memory_line, inr refl, part)
+      → EndsDrive fits options bytes rest old new outcome ended
+  ends_memory outcome ended (inl (is, gone)) = subst (λ e. EndsDrive fits options bytes rest old new outcome e) (sym is) gone
+  ends_memory outcome ended (inr (is, part)) = subst (λ e. EndsDrive fits options bytes rest old new outcome e) (sym is) (memory_line, inr refl, part)
 
-  run_of : (w : WorkloadView) (o : OutcomeView TallyView A) → IfSome bytes (IsText w) → IsLeftBy fits (tallies_of w) w.pes strategy o
-      → IsRunOf fits strategy bytes o (outcome_text w.chares o)
+  run_of : (w : WorkloadView) (o : OutcomeView TallyView A) → IfSome bytes (IsText w) → IsLeftBy fits (tallies_of w) w.pes options o
+      → IsRunOf fits options bytes o (outcome_text w.chares o)
   run_of w o read left = record { workload = w; read = read; left = left; told = refl }
 
   -- a workload was read, and run
   pub ends_ran : (w : WorkloadView) (outcome : Option (OutcomeView TallyView A)) (ended : RunEnd) → IfSome bytes (IsText w)
-      → EndsRun fits strategy w old new outcome ended → EndsDrive fits strategy bytes rest old new outcome ended
+      → EndsRun fits options w old new outcome ended → EndsDrive fits options bytes rest old new outcome ended
   ends_ran w None ended read told = ends_memory None ended told
   ends_ran w (Some o) ended read (left, inr told) = ends_memory (Some o) ended told
-  ends_ran w (Some o) ended read (left, inl (inl (is, gone))) = subst (λ e. EndsDrive fits strategy bytes rest old new (Some o) e) (sym is)
+  ends_ran w (Some o) ended read (left, inl (inl (is, gone))) = subst (λ e. EndsDrive fits options bytes rest old new (Some o) e) (sym is)
       (refl, (outcome_text w.chares o, run_of w o read left, gone))
-  ends_ran w (Some o) ended read (left, inl (inr (is, part))) = subst (λ e. EndsDrive fits strategy bytes rest old new (Some o) e) (sym is)
+  ends_ran w (Some o) ended read (left, inl (inr (is, part))) = subst (λ e. EndsDrive fits options bytes rest old new (Some o) e) (sym is)
       (outcome_text w.chares o, inl (run_of w o read left), part)
 
   -- and what its run left is that of the workload
   pub of_workload : (w : WorkloadView) (outcome : Option (OutcomeView TallyView A)) (ended : RunEnd) → IfSome bytes (IsText w)
-      → EndsRun fits strategy w old new outcome ended → IsOfWorkload fits strategy bytes rest old new outcome
+      → EndsRun fits options w old new outcome ended → IsOfWorkload fits options bytes rest old new outcome
   of_workload w None ended read told = tt
   of_workload w (Some o) ended read told = (outcome_text w.chares o, run_of w o read told.0)
 
-module _ (A : Type 0) (fits : TallyView → Type 0) (strategy : Strategy) (bytes rest old new : Option (List ℕ)) where
+module _ (A : Type 0) (fits : TallyView → Type 0) (options : Options) (bytes rest old new : Option (List ℕ)) where
   -- a workload was refused
   pub ends_refused : (text : List ℕ) (fault : WorkError) (ended : RunEnd) → Consumes bytes rest text → IsReadError text fault → EndsAt rest fault
       → IfSome bytes (λ xs. (failed fault ≡ failed Why.Read) ⊎ IsReadAnswer xs (failed fault)) → ReportsFault fault old new ended
-      → EndsDrive {A = A} fits strategy bytes rest old new None ended
-  ends_refused text fault ended consumed told at known (inr memory) = ends_memory {A = A} fits strategy bytes rest old new None ended memory
+      → EndsDrive {A = A} fits options bytes rest old new None ended
+  ends_refused text fault ended consumed told at known (inr memory) = ends_memory {A = A} fits options bytes rest old new None ended memory
   ends_refused text fault ended consumed told at known (inl (other, inl (is, gone))) =
       let refusal : IsRefusal bytes rest fault = record { text = text; consumed = consumed; told = told; end_ = at; known = known_fault bytes fault other known } in
-      subst (λ e. EndsDrive {A = A} fits strategy bytes rest old new None e) (sym is) (refl, refusal, gone)
+      subst (λ e. EndsDrive {A = A} fits options bytes rest old new None e) (sym is) (refl, refusal, gone)
   ends_refused text fault ended consumed told at known (inl (other, inr (is, part))) =
       let refusal : IsRefusal bytes rest fault = record { text = text; consumed = consumed; told = told; end_ = at; known = known_fault bytes fault other known } in
-      subst (λ e. EndsDrive {A = A} fits strategy bytes rest old new None e) (sym is) (fault_line fault, inl (fault, refusal, refl), part)
+      subst (λ e. EndsDrive {A = A} fits options bytes rest old new None e) (sym is) (fault_line fault, inl (fault, refusal, refl), part)
 
 -- the line for refused memory is no report of a reader that failed
 memory_unread : (old new : Option (List ℕ)) (ended : RunEnd) → WritesText memory_line OutOfMemory old new ended → HasUnread ended → ⊥
@@ -89,9 +89,9 @@ refused_unread fault old new ended (inl (other, inr (is, part))) unread = absurd
 refused_unread fault old new ended (inr memory) unread = absurd (memory_unread old new ended memory unread)
 
 -- after a run it is not
-pub ran_unread : {A : Type 0} (fits : TallyView → Type 0) (strategy : Strategy) (w : WorkloadView) (old new : Option (List ℕ)) (outcome : Option (OutcomeView TallyView A))
-    (ended : RunEnd) (P : Type 0) → EndsRun fits strategy w old new outcome ended → HasUnread ended → P
-ran_unread fits strategy w old new None ended P told unread = absurd (memory_unread old new ended told unread)
-ran_unread fits strategy w old new (Some o) ended P (left, inr told) unread = absurd (memory_unread old new ended told unread)
-ran_unread fits strategy w old new (Some o) ended P (left, inl (inl (is, gone))) unread = absurd (let h : Ran o.fault ≡ Refused Why.Read = sym is ∙ unread in cc)
-ran_unread fits strategy w old new (Some o) ended P (left, inl (inr (is, part))) unread = absurd (let h : WriteFailed ≡ Refused Why.Read = sym is ∙ unread in cc)
+pub ran_unread : {A : Type 0} (fits : TallyView → Type 0) (options : Options) (w : WorkloadView) (old new : Option (List ℕ)) (outcome : Option (OutcomeView TallyView A))
+    (ended : RunEnd) (P : Type 0) → EndsRun fits options w old new outcome ended → HasUnread ended → P
+ran_unread fits options w old new None ended P told unread = absurd (memory_unread old new ended told unread)
+ran_unread fits options w old new (Some o) ended P (left, inr told) unread = absurd (memory_unread old new ended told unread)
+ran_unread fits options w old new (Some o) ended P (left, inl (inl (is, gone))) unread = absurd (let h : Ran o.fault ≡ Refused Why.Read = sym is ∙ unread in cc)
+ran_unread fits options w old new (Some o) ended P (left, inl (inr (is, part))) unread = absurd (let h : WriteFailed ≡ Refused Why.Read = sym is ∙ unread in cc)

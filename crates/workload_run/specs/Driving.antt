@@ -1,9 +1,10 @@
 -- How the run of a workload ends, and what its writer holds then.
-use Rattle.std.specs.Prelude.{◌≡◌, ◌⊎◌, ℕ, List, Option, None, Some, IfSome}
+use Rattle.std.specs.Prelude.{◌≡◌, ◌⊎◌, ℕ, List, length, Option, None, Some, IfSome}
 use Rattle.std.specs.Io.KnownBytes.{Appends, Consumes}
-use Rattle.sync_board.specs.declared.strategy.Strategy.{Strategy}
 use Rattle.pe_worker.specs.declared.fault.Fault.{Fault}
-use Rattle.rts_run.specs.Outcomes.{IsOutcome, OutcomeView}
+use Rattle.rts_core.specs.Worlds.{opening_words}
+use Rattle.rts_run.specs.Outcomes.{EndsIdle, IsOutcome, OutcomeView, StopsEarly}
+use Rattle.rts_run.specs.declared.options.Options.{Options}
 use Rattle.run_text.specs.Text.{outcome_text}
 use Rattle.streams.specs.Writing.{WritesPrefix}
 use Rattle.tally.specs.Tallies.{TallyRefuses, TallyView, tally_pack, tally_step}
@@ -17,17 +18,19 @@ use Rattle.workload_run.specs.Tallies.{tallies_of}
 use Rattle.workload_run.specs.declared.ended.RunEnd.{RunEnd}
 use Rattle.workload_run.specs.declared.ended.RunEnd.TheVariants.{Ran, Refused, OutOfMemory, WriteFailed}
 
--- what a run left that opened with these tallies on this number of PEs, with rounds by this strategy: every clause of `run`
--- holds of it
-abbrev pub IsLeftBy : {A : Type 0} → (TallyView → Type 0) → List TallyView → ℕ → Strategy → OutcomeView TallyView A → Type 0
-IsLeftBy fits chares pes strategy o = IsOutcome tally_step fits tally_pack TallyRefuses chares pes strategy o
+-- what a run left that opened with these tallies on this number of PEs, with these options: every clause of `run` holds of it
+pub record IsLeftBy {A : Type 0} (fits : TallyView → Type 0) (chares : List TallyView) (pes : ℕ) (options : Options) (o : OutcomeView TallyView A) : Type 0 where
+  pub outcome : IsOutcome tally_step fits tally_pack TallyRefuses chares pes options.strategy o
+  pub homes : o.homes ≡ opening_words (length chares) pes
+  pub idle : EndsIdle options.idle o
+  pub stopped : StopsEarly o
 
 -- This is what the run of the workload left whose text these bytes are, and the text of that. Where the bytes of the reader are
 -- not known, the workload may be any.
-pub record IsRunOf {A : Type 0} (fits : TallyView → Type 0) (strategy : Strategy) (bytes : Option (List ℕ)) (o : OutcomeView TallyView A) (text : List ℕ) : Type 0 where
+pub record IsRunOf {A : Type 0} (fits : TallyView → Type 0) (options : Options) (bytes : Option (List ℕ)) (o : OutcomeView TallyView A) (text : List ℕ) : Type 0 where
   pub workload : WorkloadView
   pub read : IfSome bytes (IsText workload)
-  pub left : IsLeftBy fits (tallies_of workload) workload.pes strategy o
+  pub left : IsLeftBy fits (tallies_of workload) workload.pes options o
   pub told : text ≡ outcome_text workload.chares o
 
 -- The fault of the workload that is reported: that of the bytes that were read, or that the reader failed before they were too
@@ -40,16 +43,16 @@ pub record IsRefusal (bytes rest : Option (List ℕ)) (e : WorkError) : Type 0 w
   pub end_ : EndsAt rest e
   pub known : IfSome bytes (λ all. (e ≡ Read) ⊎ IsFault all e)
 
-module _ {A : Type 0} (fits : TallyView → Type 0) (strategy : Strategy) (bytes rest old new : Option (List ℕ)) where
+module _ {A : Type 0} (fits : TallyView → Type 0) (options : Options) (bytes rest old new : Option (List ℕ)) where
   -- what there is to write: what the run left, or without a run the fault of the workload
   abbrev pub MayTell : Option (OutcomeView TallyView A) → List ℕ → Type 0
-  MayTell (Some o) text = IsRunOf fits strategy bytes o text
+  MayTell (Some o) text = IsRunOf fits options bytes o text
   MayTell None text = (e : WorkError) × IsRefusal bytes rest e × (text ≡ fault_line e)
 
   -- the text of what the run left was written
   abbrev pub HasTold : Option (OutcomeView TallyView A) → Option Fault → Type 0
   HasTold None fault = ⊥
-  HasTold (Some o) fault = (fault ≡ o.fault) × ((text : List ℕ) × IsRunOf fits strategy bytes o text × Appends old new text)
+  HasTold (Some o) fault = (fault ≡ o.fault) × ((text : List ℕ) × IsRunOf fits options bytes o text × Appends old new text)
 
   -- What the writer holds after each end: the whole text, the line of the fault, that for refused memory, or a prefix of one
   -- of these. The reader had these bytes, and has the rest.
@@ -62,7 +65,7 @@ module _ {A : Type 0} (fits : TallyView → Type 0) (strategy : Strategy) (bytes
 
   -- an outcome is that of the workload
   abbrev pub IsOfWorkload : Option (OutcomeView TallyView A) → Type 0
-  IsOfWorkload outcome = IfSome outcome (λ o. (text : List ℕ) × IsRunOf fits strategy bytes o text)
+  IsOfWorkload outcome = IfSome outcome (λ o. (text : List ℕ) × IsRunOf fits options bytes o text)
 
 -- the line for a workload that could not be opened was written, or a prefix of it, or that for refused memory
 abbrev pub ReportsUnread : Option (List ℕ) → Option (List ℕ) → RunEnd → Type 0

@@ -51,9 +51,9 @@ pub fn drive<T: Threads + Wait + Sync, R: Read, W: Write, A: Allocator + Copy + 
 ) -> Driven<A>
     requires some_turn { 1 ≤ turns }
     requires few_turns { turns ≤ Limits.IDLE_TURNS }
-    ensures ends { EndsDrive ⟦<Tally<A> as Pup<A>>⟧.fits usual_options.strategy (R.remaining reader.old) (R.remaining reader.new)
+    ensures ends { EndsDrive ⟦<Tally<A> as Pup<A>>⟧.fits usual_options (R.remaining reader.old) (R.remaining reader.new)
         (W.contents writer.old) (W.contents writer.new) result.outcome result.ended }
-    ensures outcome { IsOfWorkload ⟦<Tally<A> as Pup<A>>⟧.fits usual_options.strategy (R.remaining reader.old) (R.remaining reader.new)
+    ensures outcome { IsOfWorkload ⟦<Tally<A> as Pup<A>>⟧.fits usual_options (R.remaining reader.old) (R.remaining reader.new)
         (W.contents writer.old) (W.contents writer.new) result.outcome }
 {
     let options = Options::usual();
@@ -72,9 +72,9 @@ pub fn drive_by<T: Threads + Wait + Sync, R: Read, W: Write, A: Allocator + Copy
 ) -> Driven<A>
     requires some_turn { 1 ≤ turns }
     requires few_turns { turns ≤ Limits.IDLE_TURNS }
-    ensures ends { EndsDrive ⟦<Tally<A> as Pup<A>>⟧.fits options.now.strategy (R.remaining reader.old) (R.remaining reader.new)
+    ensures ends { EndsDrive ⟦<Tally<A> as Pup<A>>⟧.fits options.now (R.remaining reader.old) (R.remaining reader.new)
         (W.contents writer.old) (W.contents writer.new) result.outcome result.ended }
-    ensures outcome { IsOfWorkload ⟦<Tally<A> as Pup<A>>⟧.fits options.now.strategy (R.remaining reader.old) (R.remaining reader.new)
+    ensures outcome { IsOfWorkload ⟦<Tally<A> as Pup<A>>⟧.fits options.now (R.remaining reader.old) (R.remaining reader.new)
         (W.contents writer.old) (W.contents writer.new) result.outcome }
 {
     let mut read = CallLog::new();
@@ -106,9 +106,9 @@ pub fn drive_logged<T: Threads + Wait + Sync, R: Read, W: Write, A: Allocator + 
 ) -> Driven<A>
     requires some_turn { 1 ≤ turns }
     requires few_turns { turns ≤ Limits.IDLE_TURNS }
-    ensures ends { EndsDrive ⟦<Tally<A> as Pup<A>>⟧.fits options.now.strategy (R.remaining reader.old) (R.remaining reader.new)
+    ensures ends { EndsDrive ⟦<Tally<A> as Pup<A>>⟧.fits options.now (R.remaining reader.old) (R.remaining reader.new)
         (W.contents writer.old) (W.contents writer.new) result.outcome result.ended }
-    ensures outcome { IsOfWorkload ⟦<Tally<A> as Pup<A>>⟧.fits options.now.strategy (R.remaining reader.old) (R.remaining reader.new)
+    ensures outcome { IsOfWorkload ⟦<Tally<A> as Pup<A>>⟧.fits options.now (R.remaining reader.old) (R.remaining reader.new)
         (W.contents writer.old) (W.contents writer.new) result.outcome }
     ensures failed { HasUnread result.ended → ReaderHasFailed read.new }
     ensures unwritten { HasUnwritten result.ended → HasRefused written.new }
@@ -151,9 +151,9 @@ pub fn drive_file<
     requires few_turns { turns ≤ Limits.IDLE_TURNS }
     ensures opened { IfOk file
         (λ file. (rest : Option (List ℕ))
-        × EndsDrive ⟦<Tally<A> as Pup<A>>⟧.fits options.now.strategy (R.remaining file) rest (W.contents writer.old) (W.contents writer.new) result.0.outcome result.0.ended) }
+        × EndsDrive ⟦<Tally<A> as Pup<A>>⟧.fits options.now (R.remaining file) rest (W.contents writer.old) (W.contents writer.new) result.0.outcome result.0.ended) }
     ensures outcome { IfOk file (λ file. (rest : Option (List ℕ))
-        × IsOfWorkload ⟦<Tally<A> as Pup<A>>⟧.fits options.now.strategy (R.remaining file) rest (W.contents writer.old) (W.contents writer.new) result.0.outcome) }
+        × IsOfWorkload ⟦<Tally<A> as Pup<A>>⟧.fits options.now (R.remaining file) rest (W.contents writer.old) (W.contents writer.new) result.0.outcome) }
     ensures unopened { IfErr file (λ _. ReportsUnread (W.contents writer.old) (W.contents writer.new) result.0.ended) }
     ensures no_outcome { IfErr file (λ _. result.0.outcome ≡ None) }
     ensures reason { IfErr file (λ reason. result.1 ≡ Some reason) }
@@ -205,9 +205,9 @@ fn drive_watched<
 ) -> Driven<A>
     requires some_turn { 1 ≤ turns }
     requires few_turns { turns ≤ Limits.IDLE_TURNS }
-    ensures ends { EndsDrive ⟦<Tally<A> as Pup<A>>⟧.fits options.now.strategy (R.remaining reader.old) (R.remaining reader.new)
+    ensures ends { EndsDrive ⟦<Tally<A> as Pup<A>>⟧.fits options.now (R.remaining reader.old) (R.remaining reader.new)
         (W.contents writer.old) (W.contents writer.new) result.outcome result.ended }
-    ensures outcome { IsOfWorkload ⟦<Tally<A> as Pup<A>>⟧.fits options.now.strategy (R.remaining reader.old) (R.remaining reader.new)
+    ensures outcome { IsOfWorkload ⟦<Tally<A> as Pup<A>>⟧.fits options.now (R.remaining reader.old) (R.remaining reader.new)
         (W.contents writer.old) (W.contents writer.new) result.outcome }
     ensures failed { HasUnread result.ended → ReaderHasFailed read.new }
     ensures unwritten { HasUnwritten result.ended → HasRefused written.new }
@@ -255,7 +255,7 @@ fn run_workload<
     requires some_turn { 1 ≤ turns }
     requires few_turns { turns ≤ Limits.IDLE_TURNS }
     requires within { IsWithin workload }
-    ensures ran { EndsRun ⟦<Tally<A> as Pup<A>>⟧.fits options.now.strategy workload (W.contents writer.old) (W.contents writer.new) result.outcome result.ended }
+    ensures ran { EndsRun ⟦<Tally<A> as Pup<A>>⟧.fits options.now workload (W.contents writer.old) (W.contents writer.new) result.outcome result.ended }
     ensures unwritten { HasUnwritten result.ended → HasRefused log.new }
 {
     let chares = workload.chares as usize;
@@ -289,7 +289,7 @@ fn outcome_of<
     requires some_turn { 1 ≤ turns }
     requires few_turns { turns ≤ Limits.IDLE_TURNS }
     requires within { IsWithin workload }
-    ensures left { IfOk result (IsLeftBy ⟦<Tally<A> as Pup<A>>⟧.fits (tallies_of workload) workload.pes options.now.strategy) }
+    ensures left { IfOk result (IsLeftBy ⟦<Tally<A> as Pup<A>>⟧.fits (tallies_of workload) workload.pes options.now) }
 {
     let config = Config {
         pes: workload.pes,

@@ -22,13 +22,13 @@ use crate::pe::PeState;
 use crate::shelf::unshelve;
 use chare_index::{Gate, Index, Pe};
 use chares::{
-    Addressed, Carried, Chare, Letter, Openings, Packed, TraceEntry, Unread, add_entry,
+    Addressed, Carried, Chare, Letter, Marks, Openings, Packed, TraceEntry, Unread, add_entry,
     reserve_entry,
 };
 use std::alloc::{AllocError, AllocFailed, Allocator, Global};
 use std::collections::VecDeque;
 
-impl<C: Chare<A>, H: Openings<C>, A: Allocator + Copy> PeState<C, H, A> {
+impl<C: Chare<A>, H: Openings<C>, A: Allocator + Copy, M: Marks<A>> PeState<C, H, A, M> {
     /// Acts on the parcel in its hand. An element is unpacked into the room, and its letters leave the shelf for the
     /// back of the outbox, addressed to this PE. A letter is executed, where its element stands here and has started.
     /// Where it does not stand here, a letter with an address goes to the shelf if that is this PE, and otherwise, with
@@ -84,7 +84,7 @@ impl<C: Chare<A>, H: Openings<C>, A: Allocator + Copy> PeState<C, H, A> {
     }
 }
 
-impl<C: Chare<A>, H: Openings<C>, A: Allocator + Copy> PeState<C, H, A> {
+impl<C: Chare<A>, H: Openings<C>, A: Allocator + Copy, M: Marks<A>> PeState<C, H, A, M> {
     /// Delivers a parcel and, where that is a letter whose element stands here and has started, acts on it: a delivery
     /// and then an act, in which the letter never lies in the hand. It returns whether it acted. Any other parcel lies in
     /// the hand then, as [`receive`](PeState::receive) leaves it.
@@ -96,7 +96,7 @@ impl<C: Chare<A>, H: Openings<C>, A: Allocator + Copy> PeState<C, H, A> {
     pub fn deliver_and_act<G: Gate>(
         &mut self,
         gate: &G,
-        parcel: Parcel<C, H, A>,
+        parcel: Parcel<C, H, A, M>,
     ) -> Result<bool, StepError>
         requires empty { self.old.hand ≡ None }
         ensures acted { IfOk result (λ acts. IsTrue acts ↔ (acted_of (acting C.step C.pack C.unpack (received self.old parcel)) ≡ Some Executed)) }
@@ -149,7 +149,7 @@ impl<C: Chare<A>, H: Openings<C>, A: Allocator + Copy> PeState<C, H, A> {
     }
 }
 
-impl<C: Chare<A>, H: Openings<C>, A: Allocator + Copy> PeState<C, H, A> {
+impl<C: Chare<A>, H: Openings<C>, A: Allocator + Copy, M: Marks<A>> PeState<C, H, A, M> {
     // Acts on a letter that was taken from the hand.
     fn act_on_letter<G: Gate>(
         &mut self,
@@ -320,12 +320,12 @@ impl<C: Chare<A>, H: Openings<C>, A: Allocator + Copy> PeState<C, H, A> {
     }
 }
 
-impl<C: Chare<A>, H: Openings<C>, A: Allocator + Copy> PeState<C, H, A> {
+impl<C: Chare<A>, H: Openings<C>, A: Allocator + Copy, M: Marks<A>> PeState<C, H, A, M> {
     // Acts on an element that was taken from the hand.
     #[tactic(auto, using(crate::proofs::Traces::traced_none))]
     fn act_on_element(
         &mut self,
-        element: Packed<A>,
+        element: Packed<A, M>,
         address: Option<Pe>,
         tracing: bool,
         trace: &mut Vec<TraceEntry, A>,
@@ -350,12 +350,12 @@ impl<C: Chare<A>, H: Openings<C>, A: Allocator + Copy> PeState<C, H, A> {
     }
 }
 
-impl<C: Chare<A>, H: Openings<C>, A: Allocator + Copy> PeState<C, H, A> {
+impl<C: Chare<A>, H: Openings<C>, A: Allocator + Copy, M: Marks<A>> PeState<C, H, A, M> {
     // Takes in an element with the chare that its bytes unpacked to, and lets its letters leave the shelf.
     #[tactic(auto, using(crate::proofs::Below::unshelved))]
     fn install(
         &mut self,
-        element: Packed<A>,
+        element: Packed<A, M>,
         chare: C,
         address: Option<Pe>,
         tracing: bool,

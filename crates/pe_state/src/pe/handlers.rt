@@ -9,10 +9,10 @@ use crate::error::StepError;
 use crate::lent;
 use crate::pe::PeState;
 use chare_index::{Gate, Index, Limits, Round};
-use chares::{Chare, Openings, TraceEntry};
+use chares::{Chare, Marks, Openings, TraceEntry};
 use std::alloc::{Allocator, Global};
 
-impl<C: Chare<A>, H: Openings<C>, A: Allocator + Copy> PeState<C, H, A> {
+impl<C: Chare<A>, H: Openings<C>, A: Allocator + Copy, M: Marks<A>> PeState<C, H, A, M> {
     /// Resumes an element, which stands here and waits for the end of this round, or starts it where the round is 0 and
     /// it has not started. That the round is decided and gives the element this place the caller has seen.
     ///

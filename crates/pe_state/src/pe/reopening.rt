@@ -10,19 +10,19 @@ use crate::end::PeEnd;
 use crate::parcel::{HeldParcel, Item};
 use crate::pe::PeState;
 use chare_index::{Limits, Pe};
-use chares::{Addressed, Chare, Openings};
+use chares::{Addressed, Chare, Marks, Openings};
 use std::alloc::{AllocError, Allocator};
 use std::collections::VecDeque;
 use std::marker::PhantomData;
 
-impl<C: Chare<A>, H: Openings<C>, A: Allocator> PeState<C, H, A> {
+impl<C: Chare<A>, H: Openings<C>, A: Allocator, M: Marks<A>> PeState<C, H, A, M> {
     /// Opens a PE again that a run left, on `pes` PEs, with what its queue still held at the back of its outbox, in order and
     /// addressed to itself. An address that names none of the PEs becomes this PE: so what a PE holds need be
     /// trusted no more than its type says. The only error is that memory was refused; what was passed is dropped then.
     pub fn reopen(
         alloc: A,
-        end: PeEnd<C, A>,
-        left: Vec<HeldParcel<A>, A>,
+        end: PeEnd<C, A, M>,
+        left: Vec<HeldParcel<A, M>, A>,
         pes: u32,
     ) -> Result<Self, AllocError>
         requires run { pes ≡ H.pes }
@@ -44,9 +44,9 @@ impl<C: Chare<A>, H: Openings<C>, A: Allocator> PeState<C, H, A> {
 }
 
 // Makes what a run left of a PE what it opens with again.
-fn take_back<C: Chare<A>, A: Allocator>(
-    end: &mut PeEnd<C, A>,
-    left: Vec<HeldParcel<A>, A>,
+fn take_back<C: Chare<A>, A: Allocator, M: Marks<A>>(
+    end: &mut PeEnd<C, A, M>,
+    left: Vec<HeldParcel<A, M>, A>,
     pes: u32,
 ) -> Result<(), AllocError>
     ensures ok { OnOk result (end.new ≡ reopened pes end.old left.items) }
@@ -69,7 +69,11 @@ fn address_again(address: Option<Pe>, pes: u32, me: Pe) -> Option<Pe>
 }
 
 // What was in a hand, with its address again.
-fn readdress_hand<A: Allocator>(hand: Option<Item<A>>, pes: u32, me: Pe) -> Option<Item<A>>
+fn readdress_hand<A: Allocator, M: Marks<A>>(
+    hand: Option<Item<A, M>>,
+    pes: u32,
+    me: Pe,
+) -> Option<Item<A, M>>
     ensures value { result ≡ option_map (readdressed pes me) hand }
 {
     let Addressed { parcel, address } = hand?;
@@ -78,7 +82,11 @@ fn readdress_hand<A: Allocator>(hand: Option<Item<A>>, pes: u32, me: Pe) -> Opti
 }
 
 // Gives each parcel of an outbox its address again, in the memory that it has.
-fn readdress_outbox<A: Allocator>(outbox: &mut VecDeque<Item<A>, A>, pes: u32, me: Pe)
+fn readdress_outbox<A: Allocator, M: Marks<A>>(
+    outbox: &mut VecDeque<Item<A, M>, A>,
+    pes: u32,
+    me: Pe,
+)
     ensures items { outbox.new.items ≡ map (readdressed pes me) outbox.old.items }
     ensures len { deque_len outbox.new ≡ deque_len outbox.old }
     ensures capacity { deque_capacity outbox.new ≡ deque_capacity outbox.old }
@@ -93,7 +101,11 @@ fn readdress_outbox<A: Allocator>(outbox: &mut VecDeque<Item<A>, A>, pes: u32, m
 }
 
 // Puts parcels to the back of an outbox, in order and in memory that was reserved for them, addressed to this PE.
-fn put_left<A: Allocator>(outbox: &mut VecDeque<Item<A>, A>, left: Vec<HeldParcel<A>, A>, me: Pe)
+fn put_left<A: Allocator, M: Marks<A>>(
+    outbox: &mut VecDeque<Item<A, M>, A>,
+    left: Vec<HeldParcel<A, M>, A>,
+    me: Pe,
+)
     requires reserved { deque_len outbox.old + vec_len left ≤ deque_capacity outbox.old }
     ensures items { outbox.new.items ≡ outbox.old.items ++ map (parcel_at me) left.items }
 {

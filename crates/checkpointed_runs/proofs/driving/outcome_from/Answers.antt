@@ -19,5 +19,6 @@ returns-in-Ok g c =
     let rounds : c.len.result ≡ length c.args.decided.items = omega (arith, c.len.ensures, c.args.decided.ok.0) in
     record {
       left = left_from _ _ _ (record { decided = c.args.decided.items; places = c.args.places.items; workload = c.args.workload }) _ _
-          (c.in_ok-chares.ensures.value ∙ ap (tallies_after c.args.workload) rounds) pes c.in-Ok.ensures.homes c.in-Ok.ensures.outcome;
+          (c.in_ok-chares.ensures.value ∙ ap (tallies_after c.args.workload) rounds) pes c.in-Ok.ensures.homes c.in-Ok.ensures.outcome
+          c.in-Ok.ensures.idle c.in-Ok.ensures.stopped;
     }

@@ -11,7 +11,7 @@ tell_whole-ended-requires g c =
     record {
       tallies = are_tallies _ (λ t fit. fit.0.1.1.0)
           (record { decided = c.args.decided.items; places = c.args.places.items; workload = c.args.workload })
-          c.workload.inside.chares c.args.options.now.strategy c.in-Ok-outcome_from.outcome chares c.in-Ok-outcome_from.ensures.left;
+          c.workload.inside.chares c.args.options.now c.in-Ok-outcome_from.outcome chares c.in-Ok-outcome_from.ensures.left;
     }
 
 pub returns-in-Ok-outcome_from : goal.returns-in-Ok-outcome_from

@@ -13,5 +13,6 @@ returns g c =
       answer = rw many at ran.answer;
       outcome = rw opened at ran.outcome;
       idle = ran.idle;
+      stopped = ran.stopped;
       homes = rw many at ran.homes;
     }

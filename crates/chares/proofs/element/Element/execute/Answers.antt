@@ -22,7 +22,7 @@ pub returns-then-is_err-clause-err : goal.returns-then-is_err-clause-err
 returns-then-is_err-clause-err g c =
     elim c.then-is_err.branch [
       | then-is_err-via-then-is_err w ↦ w.self-is ∙ same_parts _ _ _ _ _ refl c.reserve_letter.ensures.entries refl c.self.view_is
-      | then-is_err-via-else-is_err+then-is_err-2 w ↦ w.self-is ∙ same_parts _ _ _ _ _ refl c.reserve_letter.ensures.entries w.reserve.ensures.items c.self.view_is
+      | then-is_err-via-else-is_err+then-is_err-2 w ↦ w.self-is ∙ same_parts _ _ _ _ _ refl c.reserve_letter.ensures.entries w.reserve.ensures.same c.self.view_is
     ]
 
 pub returns-then-is_err-clause-letter : goal.returns-then-is_err-clause-letter
@@ -40,7 +40,7 @@ pub invariant_of-self-then-is_err-3 : goal.invariant_of-self-then-is_err-3
 invariant_of-self-then-is_err-3 g c = c.self.invariant
 
 pub returns-then-is_err-3-clause-err : goal.returns-then-is_err-3-clause-err
-returns-then-is_err-3-clause-err g c = same_parts _ _ _ _ _ refl c.reserve_letter.ensures.entries c.reserve.ensures.items c.self.view_is
+returns-then-is_err-3-clause-err g c = same_parts _ _ _ _ _ refl c.reserve_letter.ensures.entries c.reserve.ensures.same c.self.view_is
 
 pub returns-then-is_err-3-clause-letter : goal.returns-then-is_err-3-clause-letter
 returns-then-is_err-3-clause-letter g c = refl
@@ -57,7 +57,7 @@ pub invariant_of-self-in-Err : goal.invariant_of-self-in-Err
 invariant_of-self-in-Err g c = c.self.invariant
 
 pub returns-in-Err-clause-err : goal.returns-in-Err-clause-err
-returns-in-Err-clause-err g c = same_parts _ _ _ _ _ c.in-Err.ensures.err c.reserve_letter.ensures.entries c.reserve.ensures.items c.self.view_is
+returns-in-Err-clause-err g c = same_parts _ _ _ _ _ c.in-Err.ensures.err c.reserve_letter.ensures.entries c.reserve.ensures.same c.self.view_is
 
 pub returns-in-Err-clause-letter : goal.returns-in-Err-clause-letter
 returns-in-Err-clause-letter g c = refl
@@ -117,7 +117,7 @@ returns-clause-element g c =
     _ _ _
     (c.push_letter.ensures.entries ∙ ap (λ v. v ++ Letter c.args.letter ∷ []) c.reserve_letter.ensures.entries)
     c.ended-self-inside.ensures.value
-    (c.mark.ensures ∙ ap (λ v. v ++ synced_mark c.owed-note.result) c.reserve.ensures.items)
+    (c.mark.ensures ∙ ap (λ v. v ++ synced_mark c.owed-note.result) c.reserve.ensures.same)
 
 pub invariant_of-self-2 : goal.invariant_of-self-2
 invariant_of-self-2 g c =

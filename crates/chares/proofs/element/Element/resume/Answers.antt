@@ -49,7 +49,7 @@ pub returns-in_err-reserve-clause-sends : goal.returns-in_err-reserve-clause-sen
 returns-in_err-reserve-clause-sends g c = no_answer _ _ c.from_residual-in_err-reserve.ensures.0
 
 pub returns-in_err-reserve-clause-err : goal.returns-in_err-reserve-clause-err
-returns-in_err-reserve-clause-err g c = whatever _ _ (same_parts _ _ _ _ _ refl c.reserve_resumption.ensures.entries c.reserve.ensures.items c.self.view_is)
+returns-in_err-reserve-clause-err g c = whatever _ _ (same_parts _ _ _ _ _ refl c.reserve_resumption.ensures.entries c.reserve.ensures.same c.self.view_is)
 
 pub returns-in_err-reserve-clause-refused : goal.returns-in_err-reserve-clause-refused
 returns-in_err-reserve-clause-refused g c = memory _ _ c.from_residual-in_err-reserve.ensures.1
@@ -72,7 +72,7 @@ pub returns-in_err-log-clause-sends : goal.returns-in_err-log-clause-sends
 returns-in_err-log-clause-sends g c = no_answer _ _ c.from_residual-in_err-log.ensures.0
 
 pub returns-in_err-log-clause-err : goal.returns-in_err-log-clause-err
-returns-in_err-log-clause-err g c = whatever _ _ (same_parts _ _ _ _ _ refl c.reserve_resumption.ensures.entries c.reserve.ensures.items c.self.view_is)
+returns-in_err-log-clause-err g c = whatever _ _ (same_parts _ _ _ _ _ refl c.reserve_resumption.ensures.entries c.reserve.ensures.same c.self.view_is)
 
 pub returns-in_err-log-clause-refused : goal.returns-in_err-log-clause-refused
 returns-in_err-log-clause-refused g c = memory _ _ c.from_residual-in_err-log.ensures.1
@@ -86,7 +86,7 @@ pub invariant_of-self-in-Err : goal.invariant_of-self-in-Err
 invariant_of-self-in-Err g c = c.self.invariant
 
 pub returns-in-Err-clause-err : goal.returns-in-Err-clause-err
-returns-in-Err-clause-err g c = same_parts _ _ _ _ _ c.in-Err.ensures.err c.reserve_resumption.ensures.entries c.reserve.ensures.items c.self.view_is
+returns-in-Err-clause-err g c = same_parts _ _ _ _ _ c.in-Err.ensures.err c.reserve_resumption.ensures.entries c.reserve.ensures.same c.self.view_is
 
 pub returns-in-Err-clause-refused : goal.returns-in-Err-clause-refused
 returns-in-Err-clause-refused g c =
@@ -133,9 +133,9 @@ returns-clause-element g c =
     (c.push_resumption.ensures.entries ∙ ap (λ v. v ++ Resumption c.args.round ∷ []) c.reserve_resumption.ensures.entries)
     c.ended-self-inside.ensures.value
     (c.mark.ensures ∙ ap (λ v. v ++ synced_mark c.owed-note.result)
-    (c.in-Ok-push.ensures.items ∙ ap (λ v. v ++ c.resumed-kept.result ∷ []) c.reserve.ensures.items
-    ∙ ap (λ m. c.self.inside.marks.items ++ m ∷ []) c.resumed-kept.ensures.value)
-    ∙ append_assoc c.self.inside.marks.items (Resumed c.args.round c.args.pe ∷ []) (synced_mark c.owed-note.result))
+    (c.push.ensures.added ∙ ap (λ v. v ++ c.resumed-2.result ∷ []) c.reserve.ensures.same
+    ∙ ap (λ m. g.M.Marks.all c.self.inside.marks ++ m ∷ []) c.resumed-2.ensures.value)
+    ∙ append_assoc (g.M.Marks.all c.self.inside.marks) (Resumed c.args.round c.args.pe ∷ []) (synced_mark c.owed-note.result))
 
 pub invariant_of-self-2 : goal.invariant_of-self-2
 invariant_of-self-2 g c =

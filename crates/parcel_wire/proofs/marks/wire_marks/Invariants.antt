@@ -1,5 +1,0 @@
-use Rattle.std.proofs.Common.{◌≡◌, take}
-use Rattle.parcel_wire.proofs.marks.wire_marks.Given as goal
-
-abbrev pub invariant-loop-mark : goal.invariant-loop-mark
-invariant-loop-mark l = record { sent : l.sent.items ≡ take l.mark-index l.marks }
