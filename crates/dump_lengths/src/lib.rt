@@ -53,7 +53,7 @@ impl Witness for HeadWitness {
 
 /// The length of a dump of this many elements: that of one in the format LBD1, and the least of one in LBD2, which has no decision.
 pub fn whole_len(count: u32, is_wide: bool) -> u64
-    ensures { result ≡ end_len count is_wide }
+    ensures value { result ≡ end_len count is_wide }
 {
     let count = u64::from(count);
     if is_wide {
